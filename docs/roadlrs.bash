@@ -69,7 +69,7 @@ _roadlrs_word() {
             [[ rel: != "$cur"* || -z $cur ]] || compopt -o nospace 2>/dev/null
             _roadlrs_reply -W 'abs int rel: link' -- "$cur" ;;
         side) _roadlrs_reply -W 'L R' -- "$cur" ;;
-        listed) _roadlrs_reply -W 'routes links classes refs' -- "$cur" ;;
+        listed) _roadlrs_reply -W 'routes links classes refs marks' -- "$cur" ;;
         place) _roadlrs_reply -W 'link' -- "$cur" ;;
         command) _roadlrs_reply -W "${!_roadlrs_words[*]}" -- "$cur" ;;
         topic) _roadlrs_reply -W "${!_roadlrs_words[*]} $_roadlrs_verbs" -- "$cur" ;;

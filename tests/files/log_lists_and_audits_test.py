@@ -132,6 +132,12 @@ def test_referents(db):
     assert sorted(found) == sorted(wanted) and found
 
 
+def test_marks(db):
+    header, found = table(run("list", db, "marks"))
+    assert header == ["route", "chainage", "measure"]
+    assert found == texts([route, *mark] for route, marks in sorted(marks_of(db).items()) for mark in marks) and found
+
+
 def wanted_rows(path, route=None, start=None, end=None, class_=None, asset=None):
     marks = marks_of(path)
     sides = "LRB"
@@ -209,7 +215,7 @@ def test_what_a_closed_route_abandons(db):
 @pytest.mark.parametrize("what", ["", "route", "ROUTES", "assets"])
 def test_a_list_of_nothing_known(db, what):
     ended = run("list", db, what)
-    assert (ended.stdout, ended.status) == (b"", 2) and b"WHAT is none of routes, links, classes and refs" in ended.stderr, ended
+    assert (ended.stdout, ended.status) == (b"", 2) and b"WHAT is none of routes, links, classes, refs and marks" in ended.stderr, ended
 
 
 @pytest.mark.parametrize("words", [["list", "DB", "routes"], ["rows", "DB"], ["gone", "DB"], ["log", "DB"], ["audit", "DB"]])

@@ -35,7 +35,7 @@ BAD = [
     (["diagram", "DB", "A1", "--from", "1.5"], 'hint: "1.5" is no chainage;'),
     (["diagram", "DB", "A1", "--to", "1km"], 'hint: "1km" is no chainage;'),
     (["find", "DB", "0"], 'hint: "0" is no asset number;'),
-    (["list", "DB", "roads"], 'hint: "roads" is no list; routes, links, classes or refs'),
+    (["list", "DB", "roads"], 'hint: "roads" is no list; routes, links, classes, refs or marks'),
     (["rows", "DB", "--route", "a"], 'hint: "a" is no route name;'),
     (["rows", "DB", "--class", "a"], 'hint: "a" is no class name;'),
     (["rows", "DB", "--asset", "a"], 'hint: "a" is no asset number;'),

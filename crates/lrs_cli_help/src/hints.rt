@@ -28,7 +28,7 @@ fn wanted(word: BadWord, method: Option<&str>) -> &'static str {
             "no chainage; a whole number of millimetres from the route's start, as 3000"
         }
         BadWord::Asset => "no asset number; a whole number from 1, as 1001",
-        BadWord::What => "no list; routes, links, classes or refs",
+        BadWord::What => "no list; routes, links, classes, refs or marks",
         BadWord::Edit | BadWord::Number => {
             "no number of an edit; a whole number from 1, as 8 in the reply KEY,done,8"
         }

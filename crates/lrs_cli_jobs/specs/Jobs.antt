@@ -14,7 +14,6 @@ use Rattle.lrs_cli_words.specs.declared.question.QuestionFault.TheVariants as un
 use Rattle.lrs_cli_tasks.specs.Questions.{EndsTold}
 use Rattle.lrs_cli_sheets.specs.QuestionSheets.{EndsQuestions}
 use Rattle.lrs_cli_sheets.specs.Trials.{EndsCheck, EndsRecords}
-use Rattle.lrs_cli_tasks.specs.Reports.{EndsReport}
 use Rattle.lrs_cli_sheets.specs.Audits.{EndsAudit}
 use Rattle.lrs_cli_tasks.specs.Faults.{fault_of_open}
 use Rattle.lrs_cli_tasks.specs.Tasks.{IsTaskOf}
@@ -27,11 +26,10 @@ use Rattle.lrs_cli_tasks.specs.declared.task.Work.{Work}
 use Rattle.lrs_cli_tasks.specs.declared.task.Work.TheVariants as work
 use Rattle.lrs_cli_jobs.specs.Services.{EndsService}
 
--- a sheet was done at the desk, or as a whole or not at all; or a question, a sheet of them, a report, a check or an audit was answered, which leaves the desk as it was; or it was served
+-- a sheet was done at the desk, or as a whole or not at all; or a question, a sheet of them, a check or an audit was answered, which leaves the desk as it was; or it was served
 abbrev pub HasWorked : {K : Type 0} → (K → Result Image Table → Type 0) → Work → DeskView K → DeskView K → Ending → Type 0
 HasWorked holds (work.Sheet kind from resumes all) before after ending = EndsRecords holds kind resumes all before after ending × IsAfterCommands before.limits (state_of before.image) (state_of after.image)
 HasWorked holds (work.Check kind from) before after ending = (after ≡ before) × EndsCheck kind before.image ending
-HasWorked holds (work.Report report) before after ending = (after ≡ before) × EndsReport before.image report ending
 HasWorked holds work.Audit before after ending = (after ≡ before) × EndsAudit before.image ending
 HasWorked holds (work.Question question) before after ending = (after ≡ before) × EndsTold before.image question ending
 HasWorked holds (work.Questions from) before after ending = (after ≡ before) × EndsQuestions before.image ending
@@ -60,11 +58,10 @@ ActsOnFound holds was_found desk = ActsOnKept holds desk × ((c : Result Image T
 abbrev pub IsNotOpened : Ending → Type 0
 IsNotOpened ending = (why : OpenFault) × (ending ≡ Stopped (fault_of_open why))
 
--- a question, a sheet of them or a report
+-- a question, or a sheet of them
 abbrev pub Looks : Work → Type 0
 Looks (work.Question question) = ⊤
 Looks (work.Questions from) = ⊤
-Looks (work.Report report) = ⊤
 Looks w = ⊥
 
 -- a sheet that is only tried

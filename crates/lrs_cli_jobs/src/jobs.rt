@@ -8,11 +8,11 @@ use crate::desk::{open_desk, open_desk_to_look};
 use crate::service::do_service;
 use lrs_cli_sheets::{Pace, Shown, do_audit, do_check, do_questions, do_records};
 use lrs_cli_tasks::{
-    Ending, ProgramFault, Task, Work, do_page, do_question, do_report, is_in_memory,
-    open_in_memory, task_of,
+    Ending, ProgramFault, Task, Work, do_page, do_question, is_in_memory, open_in_memory, task_of,
 };
 use lrs_cli_words::{Job, QuestionFault, new_has_sums};
 use lrs_desk::{Desk, Files, Keeper, Plain};
+use lrs_machine::Question;
 use std::alloc::Global;
 use std::fs;
 use std::net::Net;
@@ -43,7 +43,6 @@ fn do_work<R: Runtime<A = Global> + Net, K: Keeper>(
         Work::Check { kind, from } => do_check(rt, desk, kind, from),
         Work::Question(question) => do_question(rt, desk, question),
         Work::Questions { from } => do_questions(rt, desk, from),
-        Work::Report(report) => do_report(rt, desk, &report),
         Work::Audit => do_audit(rt, desk),
         Work::Service(service) => do_service(rt, desk, service),
     }
@@ -148,14 +147,11 @@ fn has_bytes(rt: &HostRuntime, path: &str) -> bool {
     }
 }
 
-// Whether work is a question, a sheet of them or a report.
+// Whether work is a question, or a sheet of them.
 fn looks(work: &Work<'_>) -> bool
     ensures { IsTrue result ↔ Looks work.now }
 {
-    matches!(
-        work,
-        Work::Question(_) | Work::Questions { .. } | Work::Report(_)
-    )
+    matches!(work, Work::Question(_) | Work::Questions { .. })
 }
 
 // Does work in the inventory of a file. What only looks is answered without a connection, where that opening takes the
@@ -201,8 +197,21 @@ fn is_new(rt: &HostRuntime, path: &str) -> bool {
     }
 }
 
-// Does work in the inventory of a file. What only looks makes no file: a check looks at a fresh inventory then, and a
-// sheet of questions, a report or an audit has none. Nor is one made where it has to be there.
+// Whether work needs an inventory that is there: an audit, a sheet of questions, and the questions that came after the first
+// formats. Those of the first formats make one.
+fn needs_file(work: &Work<'_>) -> bool {
+    matches!(
+        work,
+        Work::Questions { .. }
+            | Work::Audit
+            | Work::Question(
+                Question::Where(_) | Question::Lengths(_) | Question::List(_) | Question::Health
+            )
+    )
+}
+
+// Does work in the inventory of a file. A check of none looks at a fresh inventory, and what needs one has none. Nor is one
+// made where it has to be there.
 fn do_at_path<F: Files>(
     rt: &HostRuntime,
     files: &F,
@@ -215,9 +224,7 @@ fn do_at_path<F: Files>(
     ensures { EndsInFile ⟦<Plain as Keeper>⟧.may_hold F.Kept.may_hold F.Seen.may_hold
         F.has_opened F.has_read work.entry result }
 {
-    let wants_file = existing
-        || matches!(work, Work::Questions { .. } | Work::Report(_) | Work::Audit);
-    if wants_file && is_new(rt, path) {
+    if (existing || needs_file(&work)) && is_new(rt, path) {
         return Ending::Stopped(ProgramFault::Open);
     }
     if matches!(work, Work::Check { .. }) && is_new(rt, path) {

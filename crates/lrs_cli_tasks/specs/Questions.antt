@@ -9,8 +9,8 @@ use Rattle.lrs_report_answers.specs.declared.fault.AskFault.{AskFault}
 use Rattle.lrs_report_answers.specs.declared.fault.AskFault.TheVariants as asked
 use Rattle.lrs_report_answers.specs.declared.told.Told.{Told}
 use Rattle.lrs_report_answers.specs.Causes.{cause_of}
-use Rattle.lrs_report_answers.specs.Lines.{told_text}
 use Rattle.lrs_report_answers.specs.ToldAnswers.{IsTold}
+use Rattle.lrs_cli_tasks.specs.Lines.{told_text}
 use Rattle.lrs_cli_tasks.specs.declared.questions.Unanswered.{Unanswered}
 use Rattle.lrs_cli_tasks.specs.declared.questions.Unanswered.TheVariants.{Asked, Write}
 use Rattle.lrs_cli_tasks.specs.declared.endings.Ending.{Ending}

@@ -6,7 +6,6 @@ use Rattle.lrs_sheet_records.specs.declared.sheet.Sheet.TheVariants.{Edits, Surv
 use Rattle.lrs_cli_words.specs.declared.job.Job.{Job}
 use Rattle.lrs_cli_words.specs.declared.job.Job.TheVariants as job
 use Rattle.lrs_cli_words.specs.Questions.{Asks, SaysService}
-use Rattle.lrs_cli_words.specs.Reports.{Reports}
 use Rattle.lrs_cli_tasks.specs.declared.task.Task.{Task}
 use Rattle.lrs_cli_tasks.specs.declared.task.Task.TheVariants as task
 use Rattle.lrs_cli_tasks.specs.declared.task.Work.{Work}
@@ -39,7 +38,7 @@ abbrev pub kind_checked : Bool → Sheet
 kind_checked true = Survey
 kind_checked false = Edits
 
--- `edit` does an edit sheet, `survey` a survey, `check` tries one, `ask` answers a sheet of questions, `audit` audits, `serve` serves where and how its words say, and every other job reports or asks what they say
+-- `edit` does an edit sheet, `survey` a survey, `check` tries one, `ask` answers a sheet of questions, `audit` audits, `serve` serves where and how its words say, and every other job asks what they say
 abbrev pub IsWorkOf : Job → Work → Type 0
 IsWorkOf (job.Edit db sheet sums resume all) (work.Sheet kind from resumes whole) = (kind ≡ Edits) × (from.now ≡ sheet.now) × (resumes ≡ resume) × (whole ≡ all)
 IsWorkOf (job.Survey db sheet sums resume all) (work.Sheet kind from resumes whole) = (kind ≡ Survey) × (from.now ≡ sheet.now) × (resumes ≡ resume) × (whole ≡ all)
@@ -48,7 +47,6 @@ IsWorkOf (job.Ask db questions) (work.Questions from) = from.now ≡ questions.n
 IsWorkOf (job.Audit db) work.Audit = ⊤
 IsWorkOf (job.Serve db port max sums log end_on_fault) (work.Service service) = SaysService port.now max.now log end_on_fault service
 IsWorkOf j (work.Question question) = Asks j question
-IsWorkOf j (work.Report report) = Reports j report
 IsWorkOf j w = ⊥
 
 -- `page` has a folder, and every other job an inventory and what is done with it

@@ -5,7 +5,7 @@ ghost use Rattle.lrs_cli_tasks.specs.Endings.{status_of};
 
 use crate::fault::{ProgramFault, table_name};
 use lrs_cli_words::BadWord;
-use lrs_machine::{Missing, Table};
+use lrs_machine::Table;
 use lrs_report_answers::AskCause;
 use std::fmt;
 
@@ -16,8 +16,6 @@ pub enum Ending {
     /// A record of a sheet was refused, as its reply line says.
     RecordsRefused,
     QuestionRefused(AskCause),
-    /// The inventory does not have what a report names.
-    NotFound(Missing),
     /// What is kept is not what its log makes: the first table that differs.
     Differs(Table),
     /// A word is not what it should be.
@@ -33,10 +31,7 @@ pub fn status(ending: Ending) -> u8
 {
     match ending {
         Ending::Done => 0,
-        Ending::RecordsRefused
-        | Ending::QuestionRefused(_)
-        | Ending::NotFound(_)
-        | Ending::Differs(_) => 1,
+        Ending::RecordsRefused | Ending::QuestionRefused(_) | Ending::Differs(_) => 1,
         Ending::Unreadable(_) | Ending::Misused => 2,
         Ending::Stopped(_) => 3,
     }
@@ -53,7 +48,6 @@ impl fmt::Display for Ending {
         match self {
             Ending::Done | Ending::RecordsRefused | Ending::Misused => Ok(()),
             Ending::QuestionRefused(cause) => writeln!(f, "roadlrs: {cause}"),
-            Ending::NotFound(missing) => writeln!(f, "roadlrs: {missing}"),
             Ending::Differs(table) => {
                 let name = table_name(*table);
                 writeln!(f, "roadlrs: Differs:{name}")

@@ -1,17 +1,14 @@
-//! What the program does for questions and reports, whatever keeps the inventory, and how it ends.
+//! What the program does for questions, whatever keeps the inventory; their answers in lines; and how it ends.
 #![tactic(auto)]
 
 mod buffer;
 mod desk;
 mod endings;
 mod fault;
-mod lengths;
-mod listings;
+mod lines;
 mod page;
 mod page_file;
-mod places;
 mod questions;
-mod report;
 mod task;
 
 pub use buffer::{behind, buffered};
@@ -21,5 +18,4 @@ pub use fault::ProgramFault;
 pub use page::do_page;
 pub use page_file::{PAGE, write_page};
 pub use questions::{answer, do_question};
-pub use report::do_report;
 pub use task::{Task, Work, task_of};

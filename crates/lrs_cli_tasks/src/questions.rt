@@ -1,15 +1,16 @@
 //! Questions: asked of a desk, and their answers printed.
 
 ghost use Rattle.std.specs.Prelude.{◌≡◌, ◌⊎◌, IfOk, IfErr, Err, false};
-ghost use Rattle.lrs_report_answers.specs.Lines.{told_text};
 ghost use Rattle.lrs_report_answers.specs.ToldAnswers.{IsTold};
+ghost use Rattle.lrs_cli_tasks.specs.Lines.{told_text};
 ghost use Rattle.lrs_cli_tasks.specs.Questions.{EndsTold, HasAnswered, IsPrinted, ending_of, stop_of};
 
 use crate::buffer::{behind, buffered};
 use crate::endings::Ending;
 use crate::fault::ProgramFault;
+use crate::lines::write_told;
 use lrs_desk::{AskFault, Desk, Keeper, Question, Told};
-use lrs_report_answers::{cause_of, write_told};
+use lrs_report_answers::cause_of;
 use std::alloc::Global;
 use std::io;
 use std::io::Write;
@@ -49,11 +50,9 @@ fn stop_of(fault: AskFault) -> ProgramFault
 {
     match fault {
         AskFault::MustReopen => ProgramFault::MustReopen,
-        AskFault::NoRoute
-        | AskFault::NoAsset
-        | AskFault::Place(_)
-        | AskFault::Seg(_)
-        | AskFault::Memory => ProgramFault::Memory,
+        AskFault::Missing(_) | AskFault::Place(_) | AskFault::Seg(_) | AskFault::Memory => {
+            ProgramFault::Memory
+        }
     }
 }
 

@@ -4,7 +4,7 @@ ghost use Rattle.std.specs.Prelude.{◌≡◌, IfOk, IfErr};
 ghost use Rattle.lrs_cli_words.specs.Questions.{IsFaultOf};
 ghost use Rattle.lrs_cli_tasks.specs.Tasks.{IsTaskOf, kind_checked};
 
-use lrs_cli_words::{Job, QuestionFault, Report, Service, question_of, report_of, service_of};
+use lrs_cli_words::{Job, QuestionFault, Service, question_of, service_of};
 use lrs_machine::Question;
 use lrs_sheet_records::Sheet;
 use std::alloc::Global;
@@ -31,8 +31,6 @@ pub enum Work<'a> {
     Questions {
         from: &'a str,
     },
-    /// A report is printed.
-    Report(Report),
     /// The log is done again in memory, and what it makes is compared with what is kept.
     Audit,
     /// The inventory is served.
@@ -105,21 +103,18 @@ pub fn task_of<'a>(alloc: Global, job: &Job<'a>) -> Result<Task<'a>, QuestionFau
             Work::Service(service_of(port, max, *log, *end_on_fault)?),
         ),
         Job::At { db, .. }
+        | Job::Where { db, .. }
         | Job::Translate { db, .. }
         | Job::Strip { db, .. }
         | Job::Diagram { db, .. }
         | Job::Totals { db }
-        | Job::Find { db, .. } => match question_of(alloc, job)? {
-            Some(question) => (db, Work::Question(question)),
-            None => unreachable!(),
-        },
-        Job::Where { db, .. }
         | Job::Lengths { db, .. }
+        | Job::Find { db, .. }
         | Job::List { db, .. }
         | Job::Rows { db, .. }
         | Job::Gone { db, .. }
-        | Job::Log { db, .. } => match report_of(job)? {
-            Some(report) => (db, Work::Report(report)),
+        | Job::Log { db, .. } => match question_of(alloc, job)? {
+            Some(question) => (db, Work::Question(question)),
             None => unreachable!(),
         },
     };

@@ -14,13 +14,16 @@ use Rattle.lrs_cli_words.specs.declared.job.Job.{Job}
 use Rattle.lrs_cli_words.specs.declared.job.Job.TheVariants as job
 use Rattle.lrs_cli_words.specs.declared.question.BadWord.{BadWord}
 use Rattle.lrs_cli_words.specs.declared.question.BadWord.TheVariants as word
-use Rattle.lrs_cli_words.specs.declared.report.Listed.{Listed}
-use Rattle.lrs_cli_words.specs.declared.report.Listed.TheVariants as listed
 use Rattle.lrs_machine.specs.Keys.{is_key}
 use Rattle.lrs_machine.specs.declared.question.Destination.{Destination}
 use Rattle.lrs_machine.specs.declared.question.Destination.TheVariants as destination
+use Rattle.lrs_machine.specs.declared.question.Listing.{Listing}
+use Rattle.lrs_machine.specs.declared.question.Listing.TheVariants as listing
 use Rattle.lrs_machine.specs.declared.question.Question.{Question}
 use Rattle.lrs_machine.specs.declared.question.Question.TheVariants as question
+use Rattle.lrs_machine.specs.declared.question.RowsWanted.{RowsWanted}
+use Rattle.lrs_machine.specs.declared.question.Spot.{Spot}
+use Rattle.lrs_machine.specs.declared.question.Spot.TheVariants as spot
 use Rattle.lrs_cli_words.specs.declared.question.Service.{Service}
 use Rattle.lrs_cli_words.specs.declared.question.QuestionFault.{QuestionFault}
 use Rattle.lrs_cli_words.specs.declared.question.QuestionFault.TheVariants.{Unreadable, Memory}
@@ -91,14 +94,13 @@ abbrev pub SaysKey : Text → Name → Type 0
 SaysKey text key = (key ≡ text) × IsTrue (is_key text)
 
 -- what is listed
-abbrev pub list_text : Listed → Text
-list_text listed.Routes = codes "routes"
-list_text listed.Links = codes "links"
-list_text listed.Classes = codes "classes"
-list_text listed.Refs = codes "refs"
-
-abbrev pub SaysList : Text → Listed → Type 0
-SaysList text what = text ≡ list_text what
+abbrev pub SaysList : Text → Listing → Type 0
+SaysList text listing.Routes = text ≡ codes "routes"
+SaysList text listing.Links = text ≡ codes "links"
+SaysList text listing.Classes = text ≡ codes "classes"
+SaysList text listing.Refs = text ≡ codes "refs"
+SaysList text listing.Marks = text ≡ codes "marks"
+SaysList text _ = ⊥
 
 -- how many connections
 abbrev pub SaysMost : Text → ℕ → Type 0
@@ -113,18 +115,12 @@ pub record SaysService (at most : Text) (tells ends : Bool) (service : Service) 
 
 -- ---- questions
 
--- the job asks no single question: it does or checks a sheet, answers a sheet of questions, reports, audits, serves, or writes the page
+-- the job asks no single question: it does or checks a sheet, answers a sheet of questions, audits, serves, or writes the page
 abbrev pub AsksNothing : Job → Type 0
 AsksNothing (job.Edit db sheet sums resume all) = ⊤
 AsksNothing (job.Survey db sheet sums resume all) = ⊤
 AsksNothing (job.Check db sheet survey) = ⊤
-AsksNothing (job.Where db route chainage mm) = ⊤
-AsksNothing (job.Lengths db route) = ⊤
 AsksNothing (job.Ask db questions) = ⊤
-AsksNothing (job.List db what) = ⊤
-AsksNothing (job.Rows db route from to class asset) = ⊤
-AsksNothing (job.Gone db edit) = ⊤
-AsksNothing (job.Log db from key) = ⊤
 AsksNothing (job.Audit db) = ⊤
 AsksNothing (job.Serve db port max sums log end_on_fault) = ⊤
 AsksNothing (job.Page dir) = ⊤
@@ -150,6 +146,40 @@ abbrev pub AsksDiagram : Text → List Text → Option Text → Option Text → 
 AsksDiagram route classes from to (question.Diagram r names first last) = SaysRoute route r × (names ≡ classes) × SaysEnd from first × SaysEnd to last
 AsksDiagram route classes from to _ = ⊥
 
+-- a chainage of a route
+abbrev pub IsOnRoute : Text → Text → Spot → Type 0
+IsOnRoute route chainage (spot.OnRoute r c) = SaysRoute route r × SaysChainage chainage c
+IsOnRoute route chainage p = ⊥
+
+-- a millimetre of a link
+abbrev pub IsOnLink : Text → Text → Spot → Type 0
+IsOnLink link mm (spot.OnLink l m) = SaysLink link l × SaysMillimetre mm m
+IsOnLink link mm p = ⊥
+
+-- a route and a chainage; or `link`, a link and a millimetre
+abbrev pub IsPlace : Text → Text → Option Text → Spot → Type 0
+IsPlace route chainage None p = IsOnRoute route chainage p
+IsPlace route chainage (Some mm) p = (route ≡ codes "link") × IsOnLink chainage mm p
+
+-- the rows that these words ask for
+pub record AreWanted (on from to of number : Option Text) (wanted : RowsWanted) : Type 0 where
+  pub route : SaysIfGiven SaysRoute on wanted.route
+  pub start : SaysEnd from wanted.from
+  pub end : SaysEnd to wanted.to
+  pub class : SaysIfGiven SaysClass of wanted.class
+  pub asset : SaysIfGiven SaysAsset number wanted.asset
+
+abbrev pub AsksRows : Option Text → Option Text → Option Text → Option Text → Option Text → Listing → Type 0
+AsksRows on from to of number (listing.Rows wanted) = AreWanted on from to of number wanted
+AsksRows on from to of number _ = ⊥
+
+-- the edit of the key, where one is given; else those from a number on, which is 1 where none is given
+abbrev pub AsksLog : Option Text → Option Text → Listing → Type 0
+AsksLog from (Some key) (listing.LogOfKey k) = SaysKey key k
+AsksLog (Some from) None (listing.Log n) = SaysEdit from n
+AsksLog None None (listing.Log n) = n ≡ 1
+AsksLog from key l = ⊥
+
 -- the question is what the job's words say
 abbrev pub Asks : Job → Question → Type 0
 Asks (job.At db route method position) q = AsksAt route.now method.now position.now q
@@ -158,6 +188,13 @@ Asks (job.Strip db route side classes) q = AsksStrip route.now side.now (map (λ
 Asks (job.Diagram db route classes from to) q = AsksDiagram route.now (map (λ w. w.now) classes.items) (option_map (λ w. w.now) from) (option_map (λ w. w.now) to) q
 Asks (job.Totals db) question.Totals = ⊤
 Asks (job.Find db asset) (question.Find n) = SaysAsset asset.now n
+Asks (job.Where db route chainage mm) (question.Where place) = IsPlace route.now chainage.now (option_map (λ w. w.now) mm) place
+Asks (job.Lengths db route) (question.Lengths name) = SaysIfGiven SaysRoute (option_map (λ w. w.now) route) name
+Asks (job.List db what) (question.List l) = SaysList what.now l
+Asks (job.Rows db route from to class asset) (question.List l) =
+    AsksRows (option_map (λ w. w.now) route) (option_map (λ w. w.now) from) (option_map (λ w. w.now) to) (option_map (λ w. w.now) class) (option_map (λ w. w.now) asset) l
+Asks (job.Gone db edit) (question.List (listing.Gone n)) = SaysIfGiven SaysEdit (option_map (λ w. w.now) edit) n
+Asks (job.Log db from key) (question.List l) = AsksLog (option_map (λ w. w.now) from) (option_map (λ w. w.now) key) l
 Asks _ q = ⊥
 
 -- ---- words that cannot be read
@@ -255,7 +292,7 @@ bad_word_text word.Class = codes "CLASS is no class name"
 bad_word_text word.From = codes "FROM is no chainage in millimetres"
 bad_word_text word.To = codes "TO is no chainage in millimetres"
 bad_word_text word.Asset = codes "ASSET is no asset number"
-bad_word_text word.What = codes "WHAT is none of routes, links, classes and refs"
+bad_word_text word.What = codes "WHAT is none of routes, links, classes, refs and marks"
 bad_word_text word.Edit = codes "EDIT is no number of an edit"
 bad_word_text word.Number = codes "FROM is no number of an edit"
 bad_word_text word.Key = codes "KEY is no key"

@@ -80,7 +80,7 @@ rules_of job.Audit = required (codes "DB") ∷ []
 rules_of job.Serve = required (codes "DB") ∷ required (codes "PORT") ∷ required (codes "MAX") ∷ []
 rules_of job.Page = required (codes "DIR") ∷ []
 
--- what may be left out: those jobs that may make a file have `--sums`, those that do a sheet also `--resume` and `--all`, a service also `--log` and `--end-on-fault`, a check says of which kind its sheet is, a place on a link has its millimetre, a diagram has its classes and its ends, and a report may be narrowed
+-- what may be left out: those jobs that may make a file have `--sums`, those that do a sheet also `--resume` and `--all`, a service also `--log` and `--end-on-fault`, a check says of which kind its sheet is, a place on a link has its millimetre, a diagram has its classes and its ends, and a list may be narrowed
 abbrev pub options_of : JobName → List Rule
 options_of job.Edit = flag (codes "sums") ∷ flag (codes "resume") ∷ flag (codes "all") ∷ []
 options_of job.Survey = flag (codes "sums") ∷ flag (codes "resume") ∷ flag (codes "all") ∷ []
@@ -176,7 +176,7 @@ HasClasses _ rows = ⊤
 abbrev pub IsValue : Text → List Row → Option Text → Type 0
 IsValue id rows word = first_of id rows ≡ word
 
--- the ends of a diagram, the millimetre of a link, and what narrows a report, are the values that were given
+-- the ends of a diagram, the millimetre of a link, and what narrows a list, are the values that were given
 abbrev pub HasValues : Job → List Row → Type 0
 HasValues (Diagram db route classes from to) rows =
     IsValue (codes "from") rows (option_map (λ w. w.now) from) × IsValue (codes "to") rows (option_map (λ w. w.now) to)

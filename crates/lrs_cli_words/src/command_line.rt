@@ -11,7 +11,7 @@ use clap::Command;
 use std::alloc::{AllocError, Global};
 
 /// The version of the program, and the kit that proved it.
-static VERSION: &str = "0.8.11, proved by rattle-kit-13b logic dac8208d650f15bf";
+static VERSION: &str = "0.8.12, proved by rattle-kit-13b logic dac8208d650f15bf";
 
 // What help says of the words.
 const DB: &str = "The inventory's file, or :memory: for a fresh one in memory";
@@ -61,7 +61,7 @@ const ALL: &str = "Does the sheet only if no record of it is refused";
 
 const AS_SURVEY: &str = "The sheet is a survey";
 
-const WHAT: &str = "What is listed: routes, links, classes or refs";
+const WHAT: &str = "What is listed: routes, links, classes, refs or marks";
 
 const OF_ROUTE: &str = "On this route; else on all";
 
@@ -297,7 +297,7 @@ static ASK: Line = Line {
 
 static LIST: Line = Line {
     name: "list",
-    about: "Lists the routes, links, classes or referents as CSV",
+    about: "Lists the routes, links, classes, referents or marks as CSV",
     example: "Example: roadlrs list roads.db routes",
     usage: None,
     parts: &[Part::Required("DB", DB), Part::Required("WHAT", WHAT)],

@@ -113,7 +113,7 @@ pub enum Job<'a> {
         db: &'a str,
         questions: &'a str,
     },
-    /// Lists all of one kind: routes, links, classes or referents.
+    /// Lists all of one kind: routes, links, classes, referents or marks.
     List {
         db: &'a str,
         what: &'a str,

@@ -5,8 +5,9 @@ ghost use Rattle.lrs_position.specs.Readings.{States};
 ghost use Rattle.lrs_cli_words.specs.Questions.{Asks, AsksAt, AsksDiagram, AsksNothing, AsksStrip, AsksTranslate, Cannot, CannotAt, CannotClass, CannotDiagram, CannotEnd, CannotPosition, CannotServe, CannotStrip, CannotTranslate, IsFaultOf, SaysAsset, SaysClass, SaysDestination, SaysEnd, SaysMethod, SaysMost, SaysNumber, SaysPort, SaysPosition, SaysRoute, SaysService, SaysSide};
 
 use crate::job::Job;
+use crate::lists::{edit_if_given, list_of, log_of, place_of, route_if_given, rows_of};
 use lrs_events::{ClassName, Side, read_side};
-use lrs_machine::{Destination, Question};
+use lrs_machine::{Destination, Listing, Question};
 use lrs_measure::limits::{GREATEST_ASSET, LONGEST_ROUTE};
 use lrs_measure::{Rows, read_digits};
 use lrs_position::{Expr, Method, RouteName, Target, read_expr, read_method, read_target};
@@ -72,7 +73,7 @@ impl fmt::Display for BadWord {
             BadWord::From => f.write_str("FROM is no chainage in millimetres"),
             BadWord::To => f.write_str("TO is no chainage in millimetres"),
             BadWord::Asset => f.write_str("ASSET is no asset number"),
-            BadWord::What => f.write_str("WHAT is none of routes, links, classes and refs"),
+            BadWord::What => f.write_str("WHAT is none of routes, links, classes, refs and marks"),
             BadWord::Edit => f.write_str("EDIT is no number of an edit"),
             BadWord::Number => f.write_str("FROM is no number of an edit"),
             BadWord::Key => f.write_str("KEY is no key"),
@@ -338,7 +339,7 @@ pub fn service_of(
     })
 }
 
-/// What a job asks of its inventory; none where it does or checks a sheet, answers a sheet of questions, reports, serves,
+/// What a job asks of its inventory; none where it does or checks a sheet, answers a sheet of questions, audits, serves,
 /// or writes the page.
 ///
 /// # Errors
@@ -352,13 +353,7 @@ pub fn question_of(alloc: Global, job: &Job<'_>) -> Result<Option<Question>, Que
         Job::Edit { .. }
         | Job::Survey { .. }
         | Job::Check { .. }
-        | Job::Where { .. }
-        | Job::Lengths { .. }
         | Job::Ask { .. }
-        | Job::List { .. }
-        | Job::Rows { .. }
-        | Job::Gone { .. }
-        | Job::Log { .. }
         | Job::Audit { .. }
         | Job::Serve { .. }
         | Job::Page { .. } => return Ok(None),
@@ -368,6 +363,12 @@ pub fn question_of(alloc: Global, job: &Job<'_>) -> Result<Option<Question>, Que
             position,
             ..
         } => at_of(route, method, position)?,
+        Job::Where {
+            route,
+            chainage,
+            mm,
+            ..
+        } => Question::Where(place_of(route, chainage, *mm)?),
         Job::Translate {
             route,
             method,
@@ -389,9 +390,21 @@ pub fn question_of(alloc: Global, job: &Job<'_>) -> Result<Option<Question>, Que
             ..
         } => diagram_of(alloc, route, classes.as_slice(), *from, *to)?,
         Job::Totals { .. } => Question::Totals,
+        Job::Lengths { route, .. } => Question::Lengths(route_if_given(*route)?),
         Job::Find { asset, .. } => Question::Find {
             asset: asset_of(asset)?,
         },
+        Job::List { what, .. } => Question::List(list_of(what)?),
+        Job::Rows {
+            route,
+            from,
+            to,
+            class,
+            asset,
+            ..
+        } => Question::List(rows_of(*route, *from, *to, *class, *asset)?),
+        Job::Gone { edit, .. } => Question::List(Listing::Gone(edit_if_given(*edit)?)),
+        Job::Log { from, key, .. } => Question::List(log_of(*from, *key)?),
     };
     Ok(Some(question))
 }

@@ -21,7 +21,7 @@ impl<K: Keeper> Desk<K> {
     ///
     /// # Errors
     ///
-    /// `MustReopen` once a commit of several commands has failed; then `NoRoute`, and then what the position expression is refused for.
+    /// `MustReopen` once a commit of several commands has failed; then `Missing(Route)`, and then what the position expression is refused for.
     pub fn at(&self, route: &RouteName, expression: Expr) -> Result<AtAnswer, AskFault>
         ensures reopen { (result ≡ Err AskFault.MustReopen) ↔ IsTrue self.now.is_ahead }
         ensures answer { self.now.is_ahead ≡ false
@@ -37,7 +37,7 @@ impl<K: Keeper> Desk<K> {
     ///
     /// # Errors
     ///
-    /// `MustReopen` once a commit of several commands has failed; then `NoAsset` where no asset has this number.
+    /// `MustReopen` once a commit of several commands has failed; then `Missing(Asset)` where no asset has this number.
     pub fn find(&self, asset: u64) -> Result<Rows<FoundRow>, AskFault>
         ensures reopen { (result ≡ Err AskFault.MustReopen) ↔ IsTrue self.now.is_ahead }
         ensures answer { self.now.is_ahead ≡ false
@@ -54,7 +54,7 @@ impl<K: Keeper> Desk<K> {
     ///
     /// # Errors
     ///
-    /// `MustReopen` once a commit of several commands has failed; then `NoRoute`, and then those of the classes and of the side.
+    /// `MustReopen` once a commit of several commands has failed; then `Missing(Route)`, and then those of the classes and of the side.
     pub fn segments(
         &self,
         route: &RouteName,
@@ -93,7 +93,7 @@ impl<K: Keeper> Desk<K> {
     ///
     /// # Errors
     ///
-    /// `MustReopen` once a commit of several commands has failed; then `NoRoute`, and then what the position expression or its translation is
+    /// `MustReopen` once a commit of several commands has failed; then `Missing(Route)`, and then what the position expression or its translation is
     /// refused for.
     pub fn translate(
         &self,

@@ -16,4 +16,4 @@ pub use lrs_inventory::Inventory;
 pub use lrs_machine::{
     Answer, Cause, Command, Destination, Fault, Image, Key, Limits, Question, Table,
 };
-pub use lrs_report_answers::{AskFault, AtAnswer, Counts, FoundRow, RouteLength, Told};
+pub use lrs_report_answers::{AskFault, AtAnswer, Counts, FoundRow, Told};

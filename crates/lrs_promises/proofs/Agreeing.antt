@@ -16,23 +16,23 @@ use Rattle.lrs_machine.specs.declared.image.RouteRow.{RouteRow}
 use Rattle.lrs_machine.specs.declared.question.Question.{Question}
 use Rattle.lrs_image.specs.Change.{is_named}
 use Rattle.lrs_report.specs.declared.diagrams.diagram.Diagram.{Diagram}
-use Rattle.lrs_report_answers.specs.Answers.{IsAt, StandsAt}
+use Rattle.serde_json.specs.Data.{string}
+use Rattle.lrs_machine.specs.declared.question.Listing.TheVariants as listing
+use Rattle.lrs_report_answers.specs.Answers.{IsAt, StandsAt, UnlessMemory, route_missing}
+use Rattle.lrs_report_answers.specs.Listings.{AreLengthsOf, missing_of}
 use Rattle.lrs_report_answers.specs.DrawnRows.{IsDrawn, IsDrawnOn}
 use Rattle.lrs_report_answers.specs.AssetStretches.{all_rows_of}
-use Rattle.lrs_report_answers.specs.RouteList.{length_row}
 use Rattle.lrs_report_answers.specs.RouteSegments.{IsSegmented}
 use Rattle.lrs_report_answers.specs.ToldAnswers.{IsNamedRoute, Tells, length_on}
 use Rattle.lrs_report_answers.specs.Totals.{totals_of}
 use Rattle.lrs_report_answers.specs.declared.fault.AskFault.{AskFault}
-use Rattle.lrs_report_answers.specs.declared.fault.AskFault.TheVariants.{NoRoute as Nowhere}
+use Rattle.lrs_report_answers.specs.declared.fault.AskFault.TheVariants as why
 use Rattle.lrs_report_answers.specs.declared.told.Told.{Told}
 use Rattle.lrs_report_answers.specs.declared.told.Told.TheVariants as told
-use Rattle.lrs_report_lists.specs.declared.wanted.RowsWanted.{RowsWanted}
-use Rattle.lrs_report_lists.proofs.Length.Unique.{are_unique}
-use Rattle.lrs_report_answers.specs.Place.Answers.{IsThere, UnlessMemory as UnlessShort}
+use Rattle.lrs_machine.specs.declared.question.RowsWanted.{RowsWanted}
+use Rattle.lrs_report_answers.specs.Place.Answers.{IsThere, IsWhereabouts}
 use Rattle.lrs_report_answers.specs.Place.Places.{Place, place_of}
 use Rattle.lrs_report_answers.specs.declared.places.answer.Whereabouts.{Whereabouts}
-use Rattle.lrs_report_answers.specs.declared.places.fault.WhereFault.{WhereFault}
 use Rattle.lrs_machine.specs.declared.question.Spot.{Spot}
 use Rattle.lrs_machine.specs.declared.question.Spot.TheVariants as spot
 use Rattle.lrs_sheet_log.specs.Log.{edits_from, log_text}
@@ -40,28 +40,24 @@ use Rattle.lrs_web_requests.specs.Request.{query as asked}
 use Rattle.lrs_web_requests.specs.Text.{Answer}
 use Rattle.lrs_web_requests.specs.declared.paths.Resource.{Resource}
 use Rattle.lrs_web_requests.specs.declared.paths.Resource.TheVariants as path
-use Rattle.lrs_web_requests.specs.declared.response.ContentType.TheVariants.{Csv}
 use Rattle.lrs_web_requests.specs.Query.{parameter}
 use Rattle.lrs_web_replies.specs.QuestionAnswers.{AnswersQuestion}
-use Rattle.lrs_web_replies.specs.Answers.{routes_data, totals_data}
-use Rattle.lrs_web_replies.specs.Questions.{AsksLog, AsksOf, AsksReport, CannotAsk, GivesAsset, GivesEditOrAll, GivesFirstEdit, GivesRouteOrAll, GivesRows, GivesSpot, IsGiven, SaysChainage, SaysDestination, SaysEdit, SaysRoute, SaysSide, parameters_of}
-use Rattle.lrs_web_replies.specs.Replies.{answer_with, json_answer}
-use Rattle.lrs_web_replies.specs.ReportAnswers.{AnswersReport, IsShownUnless, ShowsReport, missing_of}
-use Rattle.lrs_web_replies.specs.Reports.{class_data, classes_data, health_data, lengths_data, link_data, links_data, named_list, refs_data, whereabouts_data}
+use Rattle.lrs_web_replies.specs.Answers.{health_data, totals_data}
+use Rattle.lrs_web_replies.specs.Questions.{AsksOf, CannotAsk, GivesAsset, GivesEditOrAll, GivesFirstEdit, GivesRows, IsGiven, SaysChainage, SaysDestination, SaysEdit, SaysRoute, SaysSide, parameters_of}
+use Rattle.lrs_web_replies.specs.Replies.{json_answer, sheet_answer}
+use Rattle.lrs_web_replies.specs.Listings.{class_data, link_data, listing_answer, named_list, route_length_data}
 use Rattle.lrs_web_replies.specs.JsonParts.{whole, with}
 use Rattle.lrs_machine.specs.declared.absence.Missing.{Missing}
 use Rattle.lrs_web_replies.specs.declared.question.QueryFault.TheVariants.{NoRoute}
-use Rattle.lrs_web_replies.specs.declared.report.Report.{Report}
-use Rattle.lrs_web_replies.specs.declared.report.Report.TheVariants as report
-use Rattle.lrs_web.specs.QueryAnswers.{AnswersAsked, log_answer}
+use Rattle.lrs_web.specs.QueryAnswers.{AnswersAsked}
 use Rattle.lrs_promises.specs.Determinism.{IsOfState}
 use Rattle.lrs_promises.proofs.Once.{at_once, segmented_once, told_once}
 use Rattle.lrs_promises.proofs.OneInventory.{same_inventories}
 use Rattle.lrs_promises.proofs.Parameters.{one_first, one_if_given, one_number, one_position, one_route, one_said, one_side, one_spot, one_wanted}
 use Rattle.lrs_promises.proofs.Pictured.{drawn_once, named_once, route_once}
-use Rattle.lrs_promises.proofs.Places.{whereabouts_once}
+use Rattle.lrs_promises.proofs.Places.{lengths_once, where_once}
 use Rattle.lrs_promises.proofs.Translated.{TellsTranslated, one_destination, position_above, translated_once}
-use Rattle.lrs_promises.proofs.Asked.{AtTold, DiagramTold, RouteTold, SegmentsTold, TranslateTold, at_told, classes_shown, diagram_told, find_reply, find_told, gone_shown, health_shown, lengths_shown, links_shown, one_shown, one_split, refs_shown, route_told, routes_told, rows_shown, segments_told, splits, totals_told, translate_told, where_given, where_shown}
+use Rattle.lrs_promises.proofs.Asked.{AtTold, DiagramTold, LengthsTold, RouteTold, SegmentsTold, TranslateTold, WhereTold, at_told, diagram_told, find_reply, find_told, gone_told, health_told, lengths_told, list_reply, list_told, log_told, one_split, route_told, rows_told, segments_told, splits, totals_told, translate_told, where_given, where_told}
 
 -- whether what a resource is answered is read off the state itself, and not off the rows of the image
 abbrev is_read : Resource → Bool
@@ -82,25 +78,19 @@ abbrev with_ledgers : Image → Image → Image
 with_ledgers i j = record j { entered = i.entered; gone = i.gone }
 
 -- who holds a place does not hang on the ledgers
-place_moved : (i j : Image) → state_of i ≡ state_of j → (w : Whereabouts) (o : Result Place WhereFault)
-    → MatchResult o (λ at. UnlessShort (IsThere i at.0 at.1) (Ok w)) (λ fault. Ok w ≡ Err fault) → MatchResult o (λ at. UnlessShort (IsThere j at.0 at.1) (Ok w)) (λ fault. Ok w ≡ Err fault)
-place_moved i j e w (Ok (r, chainage)) h = record {
+place_moved : (i j : Image) → state_of i ≡ state_of j → (o : Result Place Missing) (r : Result Whereabouts AskFault)
+    → MatchResult o (λ at. UnlessMemory (IsThere i at.0 at.1) r) (λ what. r ≡ Err (why.Missing what)) → MatchResult o (λ at. UnlessMemory (IsThere j at.0 at.1) r) (λ what. r ≡ Err (why.Missing what))
+place_moved i j e (Ok (r, chainage)) (Ok w) h = record {
   on = h.on;
   stands = subst (λ s. StandsAt s (alignment_of r.route) (chainage, 1) w.found) e h.stands;
   by_targets = h.by_targets;
 }
-place_moved i j e w (Err fault) h = h
+place_moved i j e (Ok at) (Err fault) h = h
+place_moved i j e (Err what) r h = h
 
-module _ (i j : Image) (e : state_of (with_ledgers i j) ≡ state_of j) where
-  shown_moved : (what : Option Missing) (place : Result Place WhereFault) (a : Answer)
-      → IsShownUnless what (λ b. (w : Whereabouts) × MatchResult place (λ at. UnlessShort (IsThere (with_ledgers i j) at.0 at.1) (Ok w)) (λ fault. Ok w ≡ Err fault) × (b ≡ json_answer 200 (whereabouts_data w))) a
-      → IsShownUnless what (λ b. (w : Whereabouts) × MatchResult place (λ at. UnlessShort (IsThere j at.0 at.1) (Ok w)) (λ fault. Ok w ≡ Err fault) × (b ≡ json_answer 200 (whereabouts_data w))) a
-  shown_moved None place a (w, there, is) = (w, place_moved (with_ledgers i j) j e w place there, is)
-  shown_moved (Some what) place a h = h
-
-  where_moved : (s : Spot) (a : Answer) → AnswersReport (with_ledgers i j) (report.Where s) a → AnswersReport j (report.Where s) a
-  where_moved (spot.OnRoute route chainage) a h = shown_moved (missing_of j (report.Where (spot.OnRoute route chainage))) (place_of j (spot.OnRoute route chainage)) a h
-  where_moved (spot.OnLink link mm) a h = shown_moved (missing_of j (report.Where (spot.OnLink link mm))) (place_of j (spot.OnLink link mm)) a h
+where_moved : (i j : Image) → state_of (with_ledgers i j) ≡ state_of j → (s : Spot) (r : Result Whereabouts AskFault) → IsWhereabouts (with_ledgers i j) s r → IsWhereabouts j s r
+where_moved i j e (spot.OnRoute route chainage) r h = place_moved (with_ledgers i j) j e (place_of j (spot.OnRoute route chainage)) r h
+where_moved i j e (spot.OnLink link mm) r h = place_moved (with_ledgers i j) j e (place_of j (spot.OnLink link mm)) r h
 
 -- what passes by one test passes by another
 tells_moved : {A : Type 0} (Passes Meets : Result A AskFault → Type 0) (told_of : A → Told) → ((r : Result A AskFault) → Passes r → Meets r) → (said : Result Told AskFault) → Tells Passes told_of said → Tells Meets told_of said
@@ -129,8 +119,8 @@ module _ (i j : Image) where
   drawn_moved : (name : Name) (names : List Name) (from to : Option ℕ) (drawn : Result Diagram AskFault) → IsDrawn (with_ledgers i j) name names from to drawn → IsDrawn j name names from to drawn
   drawn_moved name names from to drawn h = by (find (is_named name) j.routes) h
     where
-      by : (o : Option RouteRow) → MatchOption o (drawn ≡ Err Nowhere) (λ e. IsDrawnOn (with_ledgers i j) e names (unwrap_or from 0) (unwrap_or to (length e.route.course)) drawn)
-          → MatchOption o (drawn ≡ Err Nowhere) (λ e. IsDrawnOn j e names (unwrap_or from 0) (unwrap_or to (length e.route.course)) drawn)
+      by : (o : Option RouteRow) → MatchOption o (drawn ≡ Err route_missing) (λ e. IsDrawnOn (with_ledgers i j) e names (unwrap_or from 0) (unwrap_or to (length e.route.course)) drawn)
+          → MatchOption o (drawn ≡ Err route_missing) (λ e. IsDrawnOn j e names (unwrap_or from 0) (unwrap_or to (length e.route.course)) drawn)
       by None none = none
       by (Some e) on = drawn_on_moved e names (unwrap_or from 0) (unwrap_or to (length e.route.course)) drawn on
 
@@ -151,9 +141,9 @@ module _ (i j : Image) (e : state_of i ≡ state_of j) where
   unfolding state_of
   classes_same = map_alike class_data (λ c. (c.name, c.kind)) (λ n. class_data (record { name = n.0; kind = n.1 })) (λ c. refl) i.classes j.classes (ap (λ (s : State). s.classes.rows) e)
 
-  routes_same : map length_row i.routes ≡ map length_row j.routes
+  routes_same : map route_length_data i.routes ≡ map route_length_data j.routes
   unfolding state_of
-  routes_same = map_alike length_row route_entry (λ n. record { route = n.0; length = length n.1.course }) (λ r. refl) i.routes j.routes (ap (λ (s : State). s.routes.rows) e)
+  routes_same = map_alike route_length_data route_entry (λ n. with ((codes "length", whole (length n.1.course)) ∷ (codes "name", string n.0) ∷ [])) (λ r. refl) i.routes j.routes (ap (λ (s : State). s.routes.rows) e)
 
   edits_same : length i.edits ≡ length j.edits
   unfolding state_of
@@ -163,47 +153,34 @@ module _ (query : Text) (one two : Answer) (served : one.status ≡ 503 → ⊥)
   module _ (i j : Image) where
     alike : (resource : Resource) (Shows : Image → Answer → Type 0) → (CannotAsk resource query NoRoute → ⊥)
         → ((k : Image) (a : Answer) → (a.status ≡ 503 → ⊥) → (q : Question) → AsksOf resource query q → AnswersQuestion k q a → Shows k a)
-        → ((k : Image) (a : Answer) (from : ℕ) → AsksLog resource query from → a ≡ log_answer from k → Shows k a)
-        → ((k : Image) (a : Answer) → (a.status ≡ 503 → ⊥) → (r : Report) → AsksReport resource query r → AnswersReport k r a → Shows k a)
         → ((a b : Answer) → Shows i a → Shows j b → a ≡ b) → ((k : Image) (a : Answer) → Shows k a → AllByRecursion (IsGiven query) (parameters_of resource query))
         → AnswersAsked i resource query one → AnswersAsked j resource query two → one ≡ two
-    alike resource Shows named by_question by_log by_report same given h g =
+    alike resource Shows named by_question same given h g =
         one_split query (parameters_of resource query) (Shows i) (Shows j) same (given i) (given j) one two
-        (splits i query one served resource (Shows i) named (by_question i one served) (by_log i one) (by_report i one served) h)
-        (splits j query two also resource (Shows j) named (by_question j two also) (by_log j two) (by_report j two also) g)
+        (splits i query one served resource (Shows i) named (by_question i one served) h) (splits j query two also resource (Shows j) named (by_question j two also) g)
 
-    -- a report without a parameter, which is the same of both
-    reported_alike : (resource : Resource) (told : Image → Answer) → (CannotAsk resource query NoRoute → ⊥) → ((q : Question) → AsksOf resource query q → ⊥) → ((from : ℕ) → AsksLog resource query from → ⊥)
-        → ((k : Image) (a : Answer) → (a.status ≡ 503 → ⊥) → (r : Report) → AsksReport resource query r → AnswersReport k r a → a ≡ told k) → AllByRecursion (IsGiven query) (parameters_of resource query)
-        → told i ≡ told j → AnswersAsked i resource query one → AnswersAsked j resource query two → one ≡ two
-    reported_alike resource told named no_question no_log by_report given same =
-        alike resource (λ k a. a ≡ told k) named (λ k a s q asks h. absurd (no_question q asks)) (λ k a from asks is. absurd (no_log from asks)) by_report
-        (λ a b h g. h ∙ same ∙ sym g) (λ k a h. given)
-
-    -- a question without a parameter
-    told_alike : (resource : Resource) (told : Image → Answer) → (CannotAsk resource query NoRoute → ⊥) → ((from : ℕ) → AsksLog resource query from → ⊥) → ((r : Report) → AsksReport resource query r → ⊥)
+    -- a question without a parameter, which is answered the same of both
+    told_alike : (resource : Resource) (told : Image → Answer) → (CannotAsk resource query NoRoute → ⊥)
         → ((k : Image) (a : Answer) → (a.status ≡ 503 → ⊥) → (q : Question) → AsksOf resource query q → AnswersQuestion k q a → a ≡ told k) → AllByRecursion (IsGiven query) (parameters_of resource query)
         → told i ≡ told j → AnswersAsked i resource query one → AnswersAsked j resource query two → one ≡ two
-    told_alike resource told named no_log no_report by_question given same =
-        alike resource (λ k a. a ≡ told k) named by_question (λ k a from asks is. absurd (no_log from asks)) (λ k a s r asks h. absurd (no_report r asks))
-        (λ a b h g. h ∙ same ∙ sym g) (λ k a h. given)
+    told_alike resource told named by_question given same = alike resource (λ k a. a ≡ told k) named by_question (λ a b h g. h ∙ same ∙ sym g) (λ k a h. given)
 
     module _ (e : state_of i ≡ state_of j) where
       log_alike : AnswersAsked i path.Log query one → AnswersAsked j path.Log query two → one ≡ two
-      log_alike = alike path.Log (λ k a. (from : ℕ) × GivesFirstEdit query from × (a ≡ log_answer from k)) (λ x. x) (λ k a s q asks h. absurd asks) (λ k a from asks is. (from, asks, is)) (λ k a s r asks h. absurd asks)
-          (λ a b h g. h.2 ∙ (λ k. answer_with 200 Csv (log_text (edits_from (one_first (parameter (codes "from") query) h.0 g.0 h.1 g.1 k) (e k).done))) ∙ sym g.2)
+      log_alike = alike path.Log (λ k a. (from : ℕ) × GivesFirstEdit query from × (a ≡ list_reply (missing_of k (listing.Log from)) (listing_answer k (listing.Log from)))) (λ x. x) (λ k a s. log_told k query a s)
+          (λ a b h g. h.2 ∙ (λ k. sheet_answer (log_text (edits_from (one_first (parameter (codes "from") query) h.0 g.0 h.1 g.1 k) (e k).done))) ∙ sym g.2)
           (λ k a h. ((h.0, h.1), tt))
 
       find_alike : AnswersAsked i path.Find query one → AnswersAsked j path.Find query two → one ≡ two
       find_alike = alike path.Find (λ k a. (asset : ℕ) × GivesAsset query asset × (a ≡ find_reply (get (state_of k).assets asset) (all_rows_of (state_of k) asset))) (λ x. x)
-          (λ k a s. find_told k query a s) (λ k a from asks is. absurd asks) (λ k a s r asks h. absurd asks)
+          (λ k a s. find_told k query a s)
           (λ a b h g.
           let n = one_said _ (one_number _ _) (parameter (codes "asset") query) h.0 g.0 h.1 g.1 in
           h.2 ∙ (λ k. find_reply (get (e k).assets (n k)) (all_rows_of (e k) (n k))) ∙ sym g.2)
           (λ k a h. ((h.0, h.1), tt))
 
       at_alike : AnswersAsked i path.At query one → AnswersAsked j path.At query two → one ≡ two
-      at_alike = alike path.At (AtTold query) (λ x. x) (λ k a s. at_told k query a s) (λ k a from asks is. absurd asks) (λ k a s r asks h. absurd asks)
+      at_alike = alike path.At (AtTold query) (λ x. x) (λ k a s. at_told k query a s)
           (λ a b h g.
           let route = one_said SaysRoute one_route (parameter (codes "route") query) g.route h.route g.gives_route h.gives_route in
           let position = one_position query g.position h.position g.gives_position h.gives_position in
@@ -212,7 +189,7 @@ module _ (query : Text) (one two : Answer) (served : one.status ≡ 503 → ⊥)
           (λ k a h. ((h.route, h.gives_route), ((h.gives_position.0, h.gives_position.1), ((h.position, h.gives_position), tt))))
 
       segments_alike : AnswersAsked i path.Segments query one → AnswersAsked j path.Segments query two → one ≡ two
-      segments_alike = alike path.Segments (SegmentsTold query) (λ x. x) (λ k a s. segments_told k query a s) (λ k a from asks is. absurd asks) (λ k a s r asks h. absurd asks)
+      segments_alike = alike path.Segments (SegmentsTold query) (λ x. x) (λ k a s. segments_told k query a s)
           (λ a b h g.
           let route = one_said SaysRoute one_route (parameter (codes "route") query) g.route h.route g.gives_route h.gives_route in
           let side = one_said SaysSide one_side (parameter (codes "side") query) g.side h.side g.gives_side h.gives_side in
@@ -223,7 +200,7 @@ module _ (query : Text) (one two : Answer) (served : one.status ≡ 503 → ⊥)
           (λ k a h. ((h.route, h.gives_route), ((h.side, h.gives_side), ((h.classes, h.gives_classes), tt))))
 
       translate_alike : AnswersAsked i path.Translate query one → AnswersAsked j path.Translate query two → one ≡ two
-      translate_alike = alike path.Translate (TranslateTold query) (λ x. x) (λ k a s. translate_told k query a s) (λ k a from asks is. absurd asks) (λ k a s r asks h. absurd asks)
+      translate_alike = alike path.Translate (TranslateTold query) (λ x. x) (λ k a s. translate_told k query a s)
           (λ a b h g.
           let route = one_said SaysRoute one_route (parameter (codes "route") query) g.route h.route g.gives_route h.gives_route in
           let position = one_position query g.position h.position g.gives_position h.gives_position in
@@ -237,15 +214,15 @@ module _ (query : Text) (one two : Answer) (served : one.status ≡ 503 → ⊥)
       state_tells path.At read = at_alike
       state_tells path.Route read = absurd (false≢true read)
       state_tells path.Segments read = segments_alike
-      state_tells path.Totals read = told_alike path.Totals (λ k. json_answer 200 (totals_data (totals_of (state_of k)))) (λ x. x) (λ from asks. asks) (λ r asks. asks) (λ k a s. totals_told k query a s) tt (ap (λ (s : State). json_answer 200 (totals_data (totals_of s))) e)
+      state_tells path.Totals read = told_alike path.Totals (λ k. json_answer 200 (totals_data (totals_of (state_of k)))) (λ x. x) (λ k a s. totals_told k query a s) tt (ap (λ (s : State). json_answer 200 (totals_data (totals_of s))) e)
       state_tells path.Translate read = translate_alike
       state_tells path.Diagram read = absurd (false≢true read)
-      state_tells path.Routes read = told_alike path.Routes (λ k. json_answer 200 (routes_data (map length_row k.routes))) (λ x. x) (λ from asks. asks) (λ r asks. asks) (λ k a s. routes_told k query a s) tt (ap (λ rs. json_answer 200 (routes_data rs)) (routes_same i j e))
+      state_tells path.Routes read = told_alike path.Routes (λ k. listing_answer k listing.Routes) (λ x. x) (λ k a s. list_told k query a s listing.Routes refl) tt (ap (λ rs. json_answer 200 (named_list (codes "routes") rs)) (routes_same i j e))
       state_tells path.Find read = find_alike
       state_tells path.Log read = log_alike
-      state_tells path.Health read = reported_alike path.Health (λ k. json_answer 200 (health_data k)) (λ x. x) (λ q asks. asks) (λ from asks. asks) (λ k a s. health_shown k query a s) tt (ap (λ n. json_answer 200 (with ((codes "edits", whole n) ∷ []))) (edits_same i j e))
-      state_tells path.Links read = reported_alike path.Links (λ k. json_answer 200 (links_data k)) (λ x. x) (λ q asks. asks) (λ from asks. asks) (λ k a s. links_shown k query a s) tt (ap (λ ls. json_answer 200 (named_list (codes "links") ls)) (links_same i j e))
-      state_tells path.Classes read = reported_alike path.Classes (λ k. json_answer 200 (classes_data k)) (λ x. x) (λ q asks. asks) (λ from asks. asks) (λ k a s. classes_shown k query a s) tt (ap (λ cs. json_answer 200 (named_list (codes "classes") cs)) (classes_same i j e))
+      state_tells path.Health read = told_alike path.Health (λ k. json_answer 200 (health_data (length k.edits))) (λ x. x) (λ k a s. health_told k query a s) tt (ap (λ n. json_answer 200 (health_data n)) (edits_same i j e))
+      state_tells path.Links read = told_alike path.Links (λ k. listing_answer k listing.Links) (λ x. x) (λ k a s. list_told k query a s listing.Links refl) tt (ap (λ ls. json_answer 200 (named_list (codes "links") ls)) (links_same i j e))
+      state_tells path.Classes read = told_alike path.Classes (λ k. listing_answer k listing.Classes) (λ x. x) (λ k a s. list_told k query a s listing.Classes refl) tt (ap (λ cs. json_answer 200 (named_list (codes "classes") cs)) (classes_same i j e))
       state_tells path.Refs read = absurd (false≢true read)
       state_tells path.Rows read = absurd (false≢true read)
       state_tells path.Lengths read = absurd (false≢true read)
@@ -259,30 +236,29 @@ module _ (query : Text) (one two : Answer) (served : one.status ≡ 503 → ⊥)
 
   module _ (i j : Image) (e : state_of (with_ledgers i j) ≡ state_of j) where
     rows_alike : AnswersAsked (with_ledgers i j) path.Rows query one → AnswersAsked j path.Rows query two → one ≡ two
-    rows_alike = alike (with_ledgers i j) j path.Rows (λ k a. (w : RowsWanted) × GivesRows query w × AnswersReport k (report.Rows w) a) (λ x. x) (λ k a s q asks h. absurd asks) (λ k a from asks is. absurd asks)
-        (λ k a s. rows_shown k query a s)
-        (λ a b h g. one_shown (missing_of j (report.Rows h.0)) (ShowsReport j (report.Rows h.0)) (λ c d x y. x ∙ sym y) a b h.2
-        (subst (λ w. AnswersReport j (report.Rows w) b) (one_wanted query g.0 h.0 g.1 h.1) g.2))
+    rows_alike = alike (with_ledgers i j) j path.Rows (λ k a. (w : RowsWanted) × GivesRows query w × (a ≡ list_reply (missing_of k (listing.Rows w)) (listing_answer k (listing.Rows w)))) (λ x. x) (λ k a s. rows_told k query a s)
+        (λ a b h g. h.2 ∙ ap (λ w. list_reply (missing_of j (listing.Rows w)) (listing_answer j (listing.Rows w))) (one_wanted query h.0 g.0 h.1 g.1) ∙ sym g.2)
         (λ k a h. ((h.0.route, h.1.0), ((h.0.from, h.1.1), ((h.0.to, h.1.2), ((h.0.class, h.1.3), ((h.0.asset, h.1.4), tt))))))
 
     lengths_alike : AnswersAsked (with_ledgers i j) path.Lengths query one → AnswersAsked j path.Lengths query two → one ≡ two
-    lengths_alike = alike (with_ledgers i j) j path.Lengths (λ k a. (route : Option Name) × GivesRouteOrAll query route × AnswersReport k (report.Lengths route) a) (λ x. x) (λ k a s q asks h. absurd asks) (λ k a from asks is. absurd asks)
-        (λ k a s. lengths_shown k query a s)
-        (λ a b h g. one_shown (missing_of j (report.Lengths h.0)) (ShowsReport j (report.Lengths h.0))
-        (λ c d x y. x.2 ∙ ap (λ ls. json_answer 200 (lengths_data ls)) (are_unique h.0 j x.0 y.0 x.1 y.1) ∙ sym y.2) a b h.2
-        (subst (λ route. AnswersReport j (report.Lengths route) b) (one_if_given SaysRoute one_route (parameter (codes "route") query) g.0 h.0 g.1 h.1) g.2))
-        (λ k a h. ((h.0, h.1), tt))
+    lengths_alike = alike (with_ledgers i j) j path.Lengths (λ k a. LengthsTold query k a) (λ x. x) (λ k a s. lengths_told k query a s)
+        (λ a b h g.
+        let route = one_if_given SaysRoute one_route (parameter (codes "route") query) g.route h.route g.gives_route h.gives_route in
+        told_once (AreLengthsOf j h.route) told.Lengths (lengths_once j h.route) (λ x c d p q. p ∙ sym q) a b h.served g.served h.tells.0 g.tells.0 h.tells.1
+        (coe 0 1 (k. Tells (AreLengthsOf j (route k)) told.Lengths g.tells.0) g.tells.1) h.tells.2 g.tells.2)
+        (λ k a h. ((h.route, h.gives_route), tt))
 
     where_alike : AnswersAsked (with_ledgers i j) path.Where query one → AnswersAsked j path.Where query two → one ≡ two
-    where_alike = alike (with_ledgers i j) j path.Where (λ k a. (s : Spot) × GivesSpot query s × AnswersReport k (report.Where s) a) (λ x. x) (λ k a s q asks h. absurd asks) (λ k a from asks is. absurd asks)
-        (λ k a s. where_shown k query a s)
-        (λ a b h g. one_shown (missing_of j (report.Where h.0)) (ShowsReport j (report.Where h.0))
-        (λ c d x y. x.2 ∙ ap (λ w. json_answer 200 (whereabouts_data w)) (whereabouts_once j (place_of j h.0) x.0 y.0 x.1 y.1) ∙ sym y.2) a b (where_moved i j e h.0 a h.2)
-        (subst (λ s. AnswersReport j (report.Where s) b) (one_spot query g.0 h.0 g.1 h.1) g.2))
-        (λ k a h. where_given query h.0 h.1)
+    where_alike = alike (with_ledgers i j) j path.Where (λ k a. WhereTold query k a) (λ x. x) (λ k a s. where_told k query a s)
+        (λ a b h g.
+        let same = one_spot query g.spot h.spot g.gives_spot h.gives_spot in
+        told_once (IsWhereabouts j h.spot) told.Where (where_once j h.spot) (λ x c d p q. p ∙ sym q) a b h.served g.served h.tells.0 g.tells.0
+        (tells_moved (IsWhereabouts (with_ledgers i j) h.spot) (IsWhereabouts j h.spot) told.Where (where_moved i j e h.spot) h.tells.0 h.tells.1)
+        (coe 0 1 (k. Tells (IsWhereabouts j (same k)) told.Where g.tells.0) g.tells.1) h.tells.2 g.tells.2)
+        (λ k a h. where_given query h.spot h.gives_spot)
 
     diagram_alike : AnswersAsked (with_ledgers i j) path.Diagram query one → AnswersAsked j path.Diagram query two → one ≡ two
-    diagram_alike = alike (with_ledgers i j) j path.Diagram (λ k a. DiagramTold query k a) (λ x. x) (λ k a s. diagram_told k query a s) (λ k a from asks is. absurd asks) (λ k a s r asks h. absurd asks)
+    diagram_alike = alike (with_ledgers i j) j path.Diagram (λ k a. DiagramTold query k a) (λ x. x) (λ k a s. diagram_told k query a s)
         (λ a b h g.
         let route = one_said SaysRoute one_route (parameter (codes "route") query) g.route h.route g.gives_route h.gives_route in
         let classes : g.classes ≡ h.classes = g.gives_classes.0 ∙ sym h.gives_classes.0 in
@@ -305,10 +281,9 @@ module _ (query : Text) (one two : Answer) (served : one.status ≡ 503 → ⊥)
         by (inr (none, is)) (inr (never, so)) = is ∙ sym so
 
     -- what does sheets answers no query
-    nothing_alike : (resource : Resource) → (CannotAsk resource query NoRoute → ⊥) → ((q : Question) → AsksOf resource query q → ⊥) → ((from : ℕ) → AsksLog resource query from → ⊥) → ((r : Report) → AsksReport resource query r → ⊥)
+    nothing_alike : (resource : Resource) → (CannotAsk resource query NoRoute → ⊥) → ((q : Question) → AsksOf resource query q → ⊥)
         → ((k : Image) (a : Answer) → ⊥ → AllByRecursion (IsGiven query) (parameters_of resource query)) → AnswersAsked (with_ledgers i j) resource query one → AnswersAsked j resource query two → one ≡ two
-    nothing_alike resource named no_question no_log no_report given =
-        alike (with_ledgers i j) j resource (λ k a. ⊥) named (λ k a s q asks h. no_question q asks) (λ k a from asks is. no_log from asks) (λ k a s r asks h. no_report r asks) (λ a b h g. absurd h) given
+    nothing_alike resource named no_question given = alike (with_ledgers i j) j resource (λ k a. ⊥) named (λ k a s q asks h. no_question q asks) (λ a b h g. absurd h) given
 
     -- what is told of two inventories that differ in their ledgers alone is the same, but for what is gone
     rows_tell : (resource : Resource) → IsOfState (asked resource query) → AnswersAsked (with_ledgers i j) resource query one → AnswersAsked j resource query two → one ≡ two
@@ -324,14 +299,14 @@ module _ (query : Text) (one two : Answer) (served : one.status ≡ 503 → ⊥)
     rows_tell path.Health read = state_tells (with_ledgers i j) j e path.Health refl
     rows_tell path.Links read = state_tells (with_ledgers i j) j e path.Links refl
     rows_tell path.Classes read = state_tells (with_ledgers i j) j e path.Classes refl
-    rows_tell path.Refs read = reported_alike (with_ledgers i j) j path.Refs (λ k. json_answer 200 (refs_data k)) (λ x. x) (λ q asks. asks) (λ from asks. asks) (λ k a s. refs_shown k query a s) tt refl
+    rows_tell path.Refs read = told_alike (with_ledgers i j) j path.Refs (λ k. listing_answer k listing.Refs) (λ x. x) (λ k a s. list_told k query a s listing.Refs refl) tt refl
     rows_tell path.Rows read = rows_alike
     rows_tell path.Lengths read = lengths_alike
     rows_tell path.Gone read = absurd read
     rows_tell path.Where read = where_alike
-    rows_tell path.Edits read = nothing_alike path.Edits (λ x. x) (λ q asks. asks) (λ from asks. asks) (λ r asks. asks) (λ k a none. absurd none)
-    rows_tell path.Surveys read = nothing_alike path.Surveys (λ x. x) (λ q asks. asks) (λ from asks. asks) (λ r asks. asks) (λ k a none. absurd none)
-    rows_tell path.Questions read = nothing_alike path.Questions (λ x. x) (λ q asks. asks) (λ from asks. asks) (λ r asks. asks) (λ k a none. absurd none)
+    rows_tell path.Edits read = nothing_alike path.Edits (λ x. x) (λ q asks. asks) (λ k a none. absurd none)
+    rows_tell path.Surveys read = nothing_alike path.Surveys (λ x. x) (λ q asks. asks) (λ k a none. absurd none)
+    rows_tell path.Questions read = nothing_alike path.Questions (λ x. x) (λ q asks. asks) (λ k a none. absurd none)
 
   -- what is told of two sound inventories of one state is the same, but for what is gone
   pub state_alike : (i j : Image) → IsSound i → IsSound j → state_of i ≡ state_of j → (resource : Resource) → IsOfState (asked resource query) → AnswersAsked i resource query one → AnswersAsked j resource query two → one ≡ two
@@ -342,10 +317,8 @@ module _ (query : Text) (one two : Answer) (served : one.status ≡ 503 → ⊥)
 
   module _ (i : Image) where
     gone_alike : AnswersAsked i path.Gone query one → AnswersAsked i path.Gone query two → one ≡ two
-    gone_alike = alike i i path.Gone (λ k a. (edit : Option ℕ) × GivesEditOrAll query edit × AnswersReport k (report.Gone edit) a) (λ x. x) (λ k a s q asks h. absurd asks) (λ k a from asks is. absurd asks)
-        (λ k a s. gone_shown k query a s)
-        (λ a b h g. one_shown (missing_of i (report.Gone h.0)) (ShowsReport i (report.Gone h.0)) (λ c d x y. x ∙ sym y) a b h.2
-        (subst (λ edit. AnswersReport i (report.Gone edit) b) (one_if_given SaysEdit (one_number _ _) (parameter (codes "edit") query) g.0 h.0 g.1 h.1) g.2))
+    gone_alike = alike i i path.Gone (λ k a. (edit : Option ℕ) × GivesEditOrAll query edit × (a ≡ list_reply (missing_of k (listing.Gone edit)) (listing_answer k (listing.Gone edit)))) (λ x. x) (λ k a s. gone_told k query a s)
+        (λ a b h g. h.2 ∙ ap (λ edit. list_reply (missing_of i (listing.Gone edit)) (listing_answer i (listing.Gone edit))) (one_if_given SaysEdit (one_number _ _) (parameter (codes "edit") query) h.0 g.0 h.1 g.1) ∙ sym g.2)
         (λ k a h. ((h.0, h.1), tt))
 
     -- what is told of one inventory is the same

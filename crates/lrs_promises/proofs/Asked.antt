@@ -1,6 +1,6 @@
 -- What is asked for is answered by one answer.
-use Rattle.std.proofs.Common.{◌≡◌, ◌⊎◌, inl, inr, ℕ, List, [], ◌∷◌, map, Option, Some, None, Result, Ok, Err, sym, ap, subst, ◌∙◌}
-use Rattle.std.specs.Prelude.{IsTrue, MatchOption, if◌then◌else◌}
+use Rattle.std.proofs.Common.{◌≡◌, ◌⊎◌, inl, inr, ℕ, List, [], ◌∷◌, length, Option, Some, None, Result, Ok, Err, sym, ap, subst, ◌∙◌}
+use Rattle.std.specs.Prelude.{IsTrue, MatchOption, MatchResult, if◌then◌else◌}
 use Rattle.std.specs.List.{AllByRecursion}
 use Rattle.lrs_measure.specs.Texts.{Name}
 use Rattle.lrs_position.specs.Names.{is_route_name}
@@ -13,37 +13,37 @@ use Rattle.lrs_machine.specs.declared.image.Image.{Image}
 use Rattle.lrs_machine.specs.declared.question.Destination.{Destination}
 use Rattle.lrs_machine.specs.declared.question.Destination.TheVariants as destination
 use Rattle.lrs_machine.specs.declared.question.Question.{Question}
+use Rattle.lrs_machine.specs.declared.question.Listing.{Listing}
+use Rattle.lrs_machine.specs.declared.question.Listing.TheVariants as listing
 use Rattle.lrs_machine.specs.declared.question.Question.TheVariants as question
-use Rattle.lrs_report_answers.specs.Answers.{UnlessMemory}
+use Rattle.lrs_report_answers.specs.Answers.{UnlessMemory, UnlessMissing, asset_missing}
+use Rattle.lrs_report_answers.specs.Listings.{missing_of}
 use Rattle.lrs_report_answers.specs.AssetStretches.{all_rows_of}
-use Rattle.lrs_report_answers.specs.RouteList.{length_row}
 use Rattle.lrs_report_answers.specs.ToldAnswers.{IsTold, Tells}
 use Rattle.lrs_report_answers.specs.Totals.{totals_of}
 use Rattle.lrs_report_answers.specs.declared.fault.AskFault.{AskFault}
-use Rattle.lrs_report_answers.specs.declared.fault.AskFault.TheVariants.{Memory, NoAsset}
+use Rattle.lrs_report_answers.specs.declared.fault.AskFault.TheVariants.{Memory}
+use Rattle.lrs_report_answers.specs.declared.fault.AskFault.TheVariants as asked
 use Rattle.lrs_report_answers.specs.declared.rows.FoundRow.{FoundRow}
 use Rattle.lrs_report_answers.specs.declared.told.Told.{Told}
 use Rattle.lrs_report_answers.specs.declared.told.Told.TheVariants as told
-use Rattle.lrs_report_lists.specs.declared.wanted.RowsWanted.{RowsWanted}
+use Rattle.lrs_machine.specs.declared.question.RowsWanted.{RowsWanted}
 use Rattle.lrs_machine.specs.declared.question.Spot.{Spot}
 use Rattle.lrs_machine.specs.declared.question.Spot.TheVariants as spot
 use Rattle.lrs_web_requests.specs.Text.{Answer}
 use Rattle.lrs_web_requests.specs.declared.paths.Resource.{Resource}
 use Rattle.lrs_web_requests.specs.declared.paths.Resource.TheVariants as path
 use Rattle.lrs_web_replies.specs.QuestionAnswers.{AnswersQuestion, IsReplyTo, ShowsTold}
-use Rattle.lrs_web_replies.specs.Answers.{found_data, routes_data, totals_data}
-use Rattle.lrs_web_replies.specs.Questions.{AsksLog, AsksOf, AsksReport, CannotAsk, GivesAsset, GivesClasses, GivesClassesOrAll, GivesDestination, GivesEditOrAll, GivesFrom, GivesPosition, GivesRoute, GivesRouteOrAll, GivesRows, GivesSide, GivesSpot, GivesUpTo, IsFirstMalformed, IsGiven, SaysRoute, parameters_of}
+use Rattle.lrs_web_replies.specs.Answers.{found_data, health_data, totals_data}
+use Rattle.lrs_web_replies.specs.Listings.{listing_answer}
+use Rattle.lrs_web_replies.specs.Questions.{AsksOf, CannotAsk, GivesAsset, GivesClasses, GivesClassesOrAll, GivesDestination, GivesEditOrAll, GivesFirstEdit, GivesFrom, GivesPosition, GivesRoute, GivesRouteOrAll, GivesRows, GivesSide, GivesSpot, GivesUpTo, IsFirstMalformed, IsGiven, SaysRoute, parameters_of}
 use Rattle.lrs_web_replies.specs.Replies.{json_answer, refusal, unasked}
-use Rattle.lrs_web_replies.specs.ReportAnswers.{AnswersReport, IsShownUnless}
-use Rattle.lrs_web_replies.specs.Reports.{classes_data, health_data, links_data, refs_data}
 use Rattle.lrs_machine.specs.declared.absence.Missing.{Missing}
 use Rattle.lrs_web_replies.specs.declared.question.Parameter.{Parameter}
 use Rattle.lrs_web_replies.specs.declared.question.Parameter.TheVariants as wanted
 use Rattle.lrs_web_replies.specs.declared.question.QueryFault.{QueryFault}
 use Rattle.lrs_web_replies.specs.declared.question.QueryFault.TheVariants.{Malformed, NoRoute, Memory as Lacking}
-use Rattle.lrs_web_replies.specs.declared.report.Report.{Report}
-use Rattle.lrs_web_replies.specs.declared.report.Report.TheVariants as report
-use Rattle.lrs_web.specs.QueryAnswers.{AnswersAsked, log_answer}
+use Rattle.lrs_web.specs.QueryAnswers.{AnswersAsked}
 use Rattle.lrs_promises.proofs.Once.{ok_is_not_err, same_err}
 use Rattle.lrs_promises.proofs.Translated.{TellsTranslated}
 
@@ -85,8 +85,13 @@ where_given query (spot.OnRoute route chainage) (on, r, c) =
 
 -- the rows of an asset; or there is no such asset
 abbrev pub find_reply : {A : Type 0} → Option A → List FoundRow → Answer
-find_reply None rows = refusal NoAsset
+find_reply None rows = refusal asset_missing
 find_reply (Some a) rows = json_answer 200 (found_data rows)
+
+-- a list; or what it names, and is not there
+abbrev pub list_reply : Option Missing → Answer → Answer
+list_reply None shown = shown
+list_reply (Some what) shown = refusal (asked.Missing what)
 
 -- a position was asked for, and told
 pub record AtTold (query : Text) (i : Image) (answer : Answer) : Type 0 where
@@ -125,9 +130,19 @@ tells_translated : (i : Image) (route : Name) (e : Expr) (to : Destination) (sai
 tells_translated i route e (destination.Method t) said h = h
 tells_translated i route e destination.Link said h = h
 
-pub one_shown : (what : Option Missing) (Shows : Answer → Type 0) → ((a b : Answer) → Shows a → Shows b → a ≡ b) → (a b : Answer) → IsShownUnless what Shows a → IsShownUnless what Shows b → a ≡ b
-one_shown None Shows one a b h g = one a b h g
-one_shown (Some what) Shows one a b h g = h ∙ sym g
+-- a place was asked for, and told
+pub record WhereTold (query : Text) (i : Image) (answer : Answer) : Type 0 where
+  pub spot : Spot
+  pub gives_spot : GivesSpot query spot
+  pub tells : AnswersQuestion i (question.Where spot) answer
+  pub served : answer.status ≡ 503 → ⊥
+
+-- lengths were asked for, and told
+pub record LengthsTold (query : Text) (i : Image) (answer : Answer) : Type 0 where
+  pub route : Option Name
+  pub gives_route : GivesRouteOrAll query route
+  pub tells : AnswersQuestion i (question.Lengths route) answer
+  pub served : answer.status ≡ 503 → ⊥
 
 -- a diagram was asked for, and told
 pub record DiagramTold (query : Text) (i : Image) (answer : Answer) : Type 0 where
@@ -154,95 +169,9 @@ module _ (i : Image) (query : Text) (answer : Answer) (served : answer.status �
   not_asked resource Shows Lacking named cannot is = absurd (served (ap (λ (a : Answer). a.status) is))
 
   pub splits : (resource : Resource) (Shows : Answer → Type 0) → (CannotAsk resource query NoRoute → ⊥)
-      → ((q : Question) → AsksOf resource query q → AnswersQuestion i q answer → Shows answer) → ((from : ℕ) → AsksLog resource query from → answer ≡ log_answer from i → Shows answer)
-      → ((r : Report) → AsksReport resource query r → AnswersReport i r answer → Shows answer)
-      → AnswersAsked i resource query answer → Splits query (parameters_of resource query) Shows answer
-  splits resource Shows named by_question by_log by_report (inl (q, asks, told)) = inl (by_question q asks told)
-  splits resource Shows named by_question by_log by_report (inr (inl (from, asks, is))) = inl (by_log from asks is)
-  splits resource Shows named by_question by_log by_report (inr (inr (inl (r, asks, shows)))) = inl (by_report r asks shows)
-  splits resource Shows named by_question by_log by_report (inr (inr (inr (fault, cannot, is)))) = not_asked resource Shows fault named cannot is
-
-  -- ---- reports
-
-  pub health_shown : (r : Report) → AsksReport path.Health query r → AnswersReport i r answer → answer ≡ json_answer 200 (health_data i)
-  health_shown report.Health asks shows = shows
-  health_shown report.Links asks shows = absurd asks
-  health_shown report.Classes asks shows = absurd asks
-  health_shown report.Refs asks shows = absurd asks
-  health_shown (report.Rows w) asks shows = absurd asks
-  health_shown (report.Lengths route) asks shows = absurd asks
-  health_shown (report.Gone edit) asks shows = absurd asks
-  health_shown (report.Where spot) asks shows = absurd asks
-
-  pub links_shown : (r : Report) → AsksReport path.Links query r → AnswersReport i r answer → answer ≡ json_answer 200 (links_data i)
-  links_shown report.Health asks shows = absurd asks
-  links_shown report.Links asks shows = shows
-  links_shown report.Classes asks shows = absurd asks
-  links_shown report.Refs asks shows = absurd asks
-  links_shown (report.Rows w) asks shows = absurd asks
-  links_shown (report.Lengths route) asks shows = absurd asks
-  links_shown (report.Gone edit) asks shows = absurd asks
-  links_shown (report.Where spot) asks shows = absurd asks
-
-  pub classes_shown : (r : Report) → AsksReport path.Classes query r → AnswersReport i r answer → answer ≡ json_answer 200 (classes_data i)
-  classes_shown report.Health asks shows = absurd asks
-  classes_shown report.Links asks shows = absurd asks
-  classes_shown report.Classes asks shows = shows
-  classes_shown report.Refs asks shows = absurd asks
-  classes_shown (report.Rows w) asks shows = absurd asks
-  classes_shown (report.Lengths route) asks shows = absurd asks
-  classes_shown (report.Gone edit) asks shows = absurd asks
-  classes_shown (report.Where spot) asks shows = absurd asks
-
-  pub refs_shown : (r : Report) → AsksReport path.Refs query r → AnswersReport i r answer → answer ≡ json_answer 200 (refs_data i)
-  refs_shown report.Health asks shows = absurd asks
-  refs_shown report.Links asks shows = absurd asks
-  refs_shown report.Classes asks shows = absurd asks
-  refs_shown report.Refs asks shows = shows
-  refs_shown (report.Rows w) asks shows = absurd asks
-  refs_shown (report.Lengths route) asks shows = absurd asks
-  refs_shown (report.Gone edit) asks shows = absurd asks
-  refs_shown (report.Where spot) asks shows = absurd asks
-
-  pub rows_shown : (r : Report) → AsksReport path.Rows query r → AnswersReport i r answer → (w : RowsWanted) × GivesRows query w × AnswersReport i (report.Rows w) answer
-  rows_shown report.Health asks shows = absurd asks
-  rows_shown report.Links asks shows = absurd asks
-  rows_shown report.Classes asks shows = absurd asks
-  rows_shown report.Refs asks shows = absurd asks
-  rows_shown (report.Rows w) asks shows = (w, asks, shows)
-  rows_shown (report.Lengths route) asks shows = absurd asks
-  rows_shown (report.Gone edit) asks shows = absurd asks
-  rows_shown (report.Where spot) asks shows = absurd asks
-
-  pub lengths_shown : (r : Report) → AsksReport path.Lengths query r → AnswersReport i r answer → (route : Option Name) × GivesRouteOrAll query route × AnswersReport i (report.Lengths route) answer
-  lengths_shown report.Health asks shows = absurd asks
-  lengths_shown report.Links asks shows = absurd asks
-  lengths_shown report.Classes asks shows = absurd asks
-  lengths_shown report.Refs asks shows = absurd asks
-  lengths_shown (report.Rows w) asks shows = absurd asks
-  lengths_shown (report.Lengths route) asks shows = (route, asks, shows)
-  lengths_shown (report.Gone edit) asks shows = absurd asks
-  lengths_shown (report.Where spot) asks shows = absurd asks
-
-  pub gone_shown : (r : Report) → AsksReport path.Gone query r → AnswersReport i r answer → (edit : Option ℕ) × GivesEditOrAll query edit × AnswersReport i (report.Gone edit) answer
-  gone_shown report.Health asks shows = absurd asks
-  gone_shown report.Links asks shows = absurd asks
-  gone_shown report.Classes asks shows = absurd asks
-  gone_shown report.Refs asks shows = absurd asks
-  gone_shown (report.Rows w) asks shows = absurd asks
-  gone_shown (report.Lengths route) asks shows = absurd asks
-  gone_shown (report.Gone edit) asks shows = (edit, asks, shows)
-  gone_shown (report.Where spot) asks shows = absurd asks
-
-  pub where_shown : (r : Report) → AsksReport path.Where query r → AnswersReport i r answer → (s : Spot) × GivesSpot query s × AnswersReport i (report.Where s) answer
-  where_shown report.Health asks shows = absurd asks
-  where_shown report.Links asks shows = absurd asks
-  where_shown report.Classes asks shows = absurd asks
-  where_shown report.Refs asks shows = absurd asks
-  where_shown (report.Rows w) asks shows = absurd asks
-  where_shown (report.Lengths route) asks shows = absurd asks
-  where_shown (report.Gone edit) asks shows = absurd asks
-  where_shown (report.Where spot) asks shows = (spot, asks, shows)
+      → ((q : Question) → AsksOf resource query q → AnswersQuestion i q answer → Shows answer) → AnswersAsked i resource query answer → Splits query (parameters_of resource query) Shows answer
+  splits resource Shows named by_question (inl (q, asks, told)) = inl (by_question q asks told)
+  splits resource Shows named by_question (inr (fault, cannot, is)) = not_asked resource Shows fault named cannot is
 
   -- ---- questions
 
@@ -254,37 +183,107 @@ module _ (i : Image) (query : Text) (answer : Answer) (served : answer.status �
   totals_said (Ok t) (totals, are, is) shows = subst (λ u. ShowsTold u answer) is shows ∙ ap (λ ts. json_answer 200 (totals_data ts)) are
   totals_said (Err fault) memory is = absurd (lacks_memory fault memory is)
 
-  routes_said : (said : Result Told AskFault) → Tells (UnlessMemory (λ routes. routes ≡ map length_row i.routes)) told.Routes said → IsReplyTo said answer
-      → answer ≡ json_answer 200 (routes_data (map length_row i.routes))
-  routes_said (Ok t) (routes, are, is) shows = subst (λ u. ShowsTold u answer) is shows ∙ ap (λ rs. json_answer 200 (routes_data rs)) are
-  routes_said (Err fault) memory is = absurd (lacks_memory fault memory is)
-
   found_said : {A : Type 0} (said : Result Told AskFault) (o : Option A) (rows : List FoundRow)
-      → Tells (λ result. MatchOption o (result ≡ Err NoAsset) (λ a. UnlessMemory (λ found. found ≡ rows) result)) told.Found said → IsReplyTo said answer → answer ≡ find_reply o rows
-  found_said (Ok t) None rows (found, never, is) shows = absurd (ok_is_not_err found NoAsset never)
+      → Tells (λ result. MatchOption o (result ≡ Err asset_missing) (λ a. UnlessMemory (λ found. found ≡ rows) result)) told.Found said → IsReplyTo said answer → answer ≡ find_reply o rows
+  found_said (Ok t) None rows (found, never, is) shows = absurd (ok_is_not_err found asset_missing never)
   found_said (Ok t) (Some a) rows (found, are, is) shows = subst (λ u. ShowsTold u answer) is shows ∙ ap (λ rs. json_answer 200 (found_data rs)) are
-  found_said (Err fault) None rows is shows = shows ∙ ap refusal (same_err fault NoAsset is)
+  found_said (Err fault) None rows is shows = shows ∙ ap refusal (same_err fault asset_missing is)
   found_said (Err fault) (Some a) rows memory shows = absurd (lacks_memory fault memory shows)
 
-  pub totals_told : (q : Question) → AsksOf path.Totals query q → AnswersQuestion i q answer → answer ≡ json_answer 200 (totals_data (totals_of (state_of i)))
-  totals_told (question.At route e) asks h = absurd asks
-  totals_told (question.Route route) asks h = absurd asks
-  totals_told (question.Segments route side classes) asks h = absurd asks
-  totals_told (question.Translate route e to) asks h = absurd asks
-  totals_told (question.Diagram route classes from to) asks h = absurd asks
-  totals_told question.Routes asks h = absurd asks
-  totals_told question.Totals asks (said, tells, shows) = totals_said said tells shows
-  totals_told (question.Find asset) asks h = absurd asks
+  listed_said : (said : Result Told AskFault) (l : Listing) (o : Option Missing) → Tells (UnlessMissing o (λ result. MatchResult result (λ of. of.now ≡ i) (λ fault. ⊥))) (told.Listing l) said → IsReplyTo said answer
+      → answer ≡ list_reply o (listing_answer i l)
+  listed_said (Ok t) l None (of, same, is) shows = subst (λ u. ShowsTold u answer) is shows ∙ ap (λ (j : Image). listing_answer j l) same
+  listed_said (Ok t) l (Some what) (of, never, is) shows = absurd (ok_is_not_err of (asked.Missing what) never)
+  listed_said (Err fault) l None never shows = absurd never
+  listed_said (Err fault) l (Some what) is shows = shows ∙ ap refusal (same_err fault (asked.Missing what) is)
 
-  pub routes_told : (q : Question) → AsksOf path.Routes query q → AnswersQuestion i q answer → answer ≡ json_answer 200 (routes_data (map length_row i.routes))
-  routes_told (question.At route e) asks h = absurd asks
-  routes_told (question.Route route) asks h = absurd asks
-  routes_told (question.Segments route side classes) asks h = absurd asks
-  routes_told (question.Translate route e to) asks h = absurd asks
-  routes_told (question.Diagram route classes from to) asks h = absurd asks
-  routes_told question.Routes asks (said, tells, shows) = routes_said said tells shows
-  routes_told question.Totals asks h = absurd asks
-  routes_told (question.Find asset) asks h = absurd asks
+  pub listed : (l : Listing) → AnswersQuestion i (question.List l) answer → answer ≡ list_reply (missing_of i l) (listing_answer i l)
+  listed l (said, tells, shows) = listed_said said l (missing_of i l) tells shows
+
+  -- a list without a parameter
+  pub list_told : (l : Listing) → missing_of i l ≡ None → (q : Question) → q ≡ question.List l → AnswersQuestion i q answer → answer ≡ listing_answer i l
+  list_told l none q is h = listed l (subst (λ (r : Question). AnswersQuestion i r answer) is h) ∙ ap (λ o. list_reply o (listing_answer i l)) none
+
+  health_said : (said : Result Told AskFault) → said ≡ Ok (told.Health (length i.edits)) → IsReplyTo said answer → answer ≡ json_answer 200 (health_data (length i.edits))
+  health_said said is shows = subst (λ r. IsReplyTo r answer) is shows
+
+  pub health_told : (q : Question) → q ≡ question.Health → AnswersQuestion i q answer → answer ≡ json_answer 200 (health_data (length i.edits))
+  health_told q is h = let (said, tells, shows) = subst (λ (r : Question). AnswersQuestion i r answer) is h in health_said said tells shows
+
+  pub totals_told : (q : Question) → q ≡ question.Totals → AnswersQuestion i q answer → answer ≡ json_answer 200 (totals_data (totals_of (state_of i)))
+  totals_told q is h = let (said, tells, shows) = subst (λ (r : Question). AnswersQuestion i r answer) is h in totals_said said tells shows
+
+  rows_of : (l : Listing) → AsksOf path.Rows query (question.List l) → AnswersQuestion i (question.List l) answer → (wanted : RowsWanted) × GivesRows query wanted × (answer ≡ list_reply (missing_of i (listing.Rows wanted)) (listing_answer i (listing.Rows wanted)))
+  rows_of listing.Routes asks h = absurd asks
+  rows_of listing.Links asks h = absurd asks
+  rows_of listing.Classes asks h = absurd asks
+  rows_of listing.Refs asks h = absurd asks
+  rows_of listing.Marks asks h = absurd asks
+  rows_of (listing.Rows wanted) asks h = (wanted, asks, listed (listing.Rows wanted) h)
+  rows_of (listing.Gone edit) asks h = absurd asks
+  rows_of (listing.Log from) asks h = absurd asks
+  rows_of (listing.LogOfKey key) asks h = absurd asks
+
+  pub rows_told : (q : Question) → AsksOf path.Rows query q → AnswersQuestion i q answer → (wanted : RowsWanted) × GivesRows query wanted × (answer ≡ list_reply (missing_of i (listing.Rows wanted)) (listing_answer i (listing.Rows wanted)))
+  rows_told (question.At route e) asks h = absurd asks
+  rows_told (question.Route route) asks h = absurd asks
+  rows_told (question.Segments route side classes) asks h = absurd asks
+  rows_told (question.Translate route e to) asks h = absurd asks
+  rows_told (question.Diagram route classes from to) asks h = absurd asks
+  rows_told question.Totals asks h = absurd asks
+  rows_told (question.Find asset) asks h = absurd asks
+  rows_told (question.Where spot) asks h = absurd asks
+  rows_told (question.Lengths route) asks h = absurd asks
+  rows_told (question.List l) asks h = rows_of l asks h
+  rows_told question.Health asks h = absurd asks
+
+  gone_of : (l : Listing) → AsksOf path.Gone query (question.List l) → AnswersQuestion i (question.List l) answer → (edit : Option ℕ) × GivesEditOrAll query edit × (answer ≡ list_reply (missing_of i (listing.Gone edit)) (listing_answer i (listing.Gone edit)))
+  gone_of listing.Routes asks h = absurd asks
+  gone_of listing.Links asks h = absurd asks
+  gone_of listing.Classes asks h = absurd asks
+  gone_of listing.Refs asks h = absurd asks
+  gone_of listing.Marks asks h = absurd asks
+  gone_of (listing.Rows wanted) asks h = absurd asks
+  gone_of (listing.Gone edit) asks h = (edit, asks, listed (listing.Gone edit) h)
+  gone_of (listing.Log from) asks h = absurd asks
+  gone_of (listing.LogOfKey key) asks h = absurd asks
+
+  pub gone_told : (q : Question) → AsksOf path.Gone query q → AnswersQuestion i q answer → (edit : Option ℕ) × GivesEditOrAll query edit × (answer ≡ list_reply (missing_of i (listing.Gone edit)) (listing_answer i (listing.Gone edit)))
+  gone_told (question.At route e) asks h = absurd asks
+  gone_told (question.Route route) asks h = absurd asks
+  gone_told (question.Segments route side classes) asks h = absurd asks
+  gone_told (question.Translate route e to) asks h = absurd asks
+  gone_told (question.Diagram route classes from to) asks h = absurd asks
+  gone_told question.Totals asks h = absurd asks
+  gone_told (question.Find asset) asks h = absurd asks
+  gone_told (question.Where spot) asks h = absurd asks
+  gone_told (question.Lengths route) asks h = absurd asks
+  gone_told (question.List l) asks h = gone_of l asks h
+  gone_told question.Health asks h = absurd asks
+
+  log_of : (l : Listing) → AsksOf path.Log query (question.List l) → AnswersQuestion i (question.List l) answer → (from : ℕ) × GivesFirstEdit query from × (answer ≡ list_reply (missing_of i (listing.Log from)) (listing_answer i (listing.Log from)))
+  log_of listing.Routes asks h = absurd asks
+  log_of listing.Links asks h = absurd asks
+  log_of listing.Classes asks h = absurd asks
+  log_of listing.Refs asks h = absurd asks
+  log_of listing.Marks asks h = absurd asks
+  log_of (listing.Rows wanted) asks h = absurd asks
+  log_of (listing.Gone edit) asks h = absurd asks
+  log_of (listing.Log from) asks h = (from, asks, listed (listing.Log from) h)
+  log_of (listing.LogOfKey key) asks h = absurd asks
+
+  pub log_told : (q : Question) → AsksOf path.Log query q → AnswersQuestion i q answer → (from : ℕ) × GivesFirstEdit query from × (answer ≡ list_reply (missing_of i (listing.Log from)) (listing_answer i (listing.Log from)))
+  log_told (question.At route e) asks h = absurd asks
+  log_told (question.Route route) asks h = absurd asks
+  log_told (question.Segments route side classes) asks h = absurd asks
+  log_told (question.Translate route e to) asks h = absurd asks
+  log_told (question.Diagram route classes from to) asks h = absurd asks
+  log_told question.Totals asks h = absurd asks
+  log_told (question.Find asset) asks h = absurd asks
+  log_told (question.Where spot) asks h = absurd asks
+  log_told (question.Lengths route) asks h = absurd asks
+  log_told (question.List l) asks h = log_of l asks h
+  log_told question.Health asks h = absurd asks
 
   pub find_told : (q : Question) → AsksOf path.Find query q → AnswersQuestion i q answer → (asset : ℕ) × GivesAsset query asset × (answer ≡ find_reply (get (state_of i).assets asset) (all_rows_of (state_of i) asset))
   find_told (question.At route e) asks h = absurd asks
@@ -292,9 +291,12 @@ module _ (i : Image) (query : Text) (answer : Answer) (served : answer.status �
   find_told (question.Segments route side classes) asks h = absurd asks
   find_told (question.Translate route e to) asks h = absurd asks
   find_told (question.Diagram route classes from to) asks h = absurd asks
-  find_told question.Routes asks h = absurd asks
   find_told question.Totals asks h = absurd asks
   find_told (question.Find asset) asks (said, tells, shows) = (asset, asks, found_said said (get (state_of i).assets asset) (all_rows_of (state_of i) asset) tells shows)
+  find_told (question.Where spot) asks h = absurd asks
+  find_told (question.Lengths route) asks h = absurd asks
+  find_told (question.List l) asks h = absurd asks
+  find_told question.Health asks h = absurd asks
 
   pub at_told : (q : Question) → AsksOf path.At query q → AnswersQuestion i q answer → AtTold query i answer
   at_told (question.At route e) asks h = record { route = route; position = e; gives_route = asks.0; gives_position = asks.1; tells = h; served = served }
@@ -302,9 +304,38 @@ module _ (i : Image) (query : Text) (answer : Answer) (served : answer.status �
   at_told (question.Segments route side classes) asks h = absurd asks
   at_told (question.Translate route e to) asks h = absurd asks
   at_told (question.Diagram route classes from to) asks h = absurd asks
-  at_told question.Routes asks h = absurd asks
   at_told question.Totals asks h = absurd asks
   at_told (question.Find asset) asks h = absurd asks
+  at_told (question.Where spot) asks h = absurd asks
+  at_told (question.Lengths route) asks h = absurd asks
+  at_told (question.List l) asks h = absurd asks
+  at_told question.Health asks h = absurd asks
+
+  pub where_told : (q : Question) → AsksOf path.Where query q → AnswersQuestion i q answer → WhereTold query i answer
+  where_told (question.At route e) asks h = absurd asks
+  where_told (question.Route route) asks h = absurd asks
+  where_told (question.Segments route side classes) asks h = absurd asks
+  where_told (question.Translate route e to) asks h = absurd asks
+  where_told (question.Diagram route classes from to) asks h = absurd asks
+  where_told question.Totals asks h = absurd asks
+  where_told (question.Find asset) asks h = absurd asks
+  where_told (question.Where spot) asks h = record { spot = spot; gives_spot = asks; tells = h; served = served }
+  where_told (question.Lengths route) asks h = absurd asks
+  where_told (question.List l) asks h = absurd asks
+  where_told question.Health asks h = absurd asks
+
+  pub lengths_told : (q : Question) → AsksOf path.Lengths query q → AnswersQuestion i q answer → LengthsTold query i answer
+  lengths_told (question.At route e) asks h = absurd asks
+  lengths_told (question.Route route) asks h = absurd asks
+  lengths_told (question.Segments route side classes) asks h = absurd asks
+  lengths_told (question.Translate route e to) asks h = absurd asks
+  lengths_told (question.Diagram route classes from to) asks h = absurd asks
+  lengths_told question.Totals asks h = absurd asks
+  lengths_told (question.Find asset) asks h = absurd asks
+  lengths_told (question.Where spot) asks h = absurd asks
+  lengths_told (question.Lengths route) asks h = record { route = route; gives_route = asks; tells = h; served = served }
+  lengths_told (question.List l) asks h = absurd asks
+  lengths_told question.Health asks h = absurd asks
 
   pub segments_told : (q : Question) → AsksOf path.Segments query q → AnswersQuestion i q answer → SegmentsTold query i answer
   segments_told (question.At route e) asks h = absurd asks
@@ -312,9 +343,12 @@ module _ (i : Image) (query : Text) (answer : Answer) (served : answer.status �
   segments_told (question.Segments route side classes) asks h = record { route = route; side = side; classes = classes; gives_route = asks.0; gives_side = asks.1; gives_classes = asks.2; tells = h; served = served }
   segments_told (question.Translate route e to) asks h = absurd asks
   segments_told (question.Diagram route classes from to) asks h = absurd asks
-  segments_told question.Routes asks h = absurd asks
   segments_told question.Totals asks h = absurd asks
   segments_told (question.Find asset) asks h = absurd asks
+  segments_told (question.Where spot) asks h = absurd asks
+  segments_told (question.Lengths route) asks h = absurd asks
+  segments_told (question.List l) asks h = absurd asks
+  segments_told question.Health asks h = absurd asks
 
   pub translate_told : (q : Question) → AsksOf path.Translate query q → AnswersQuestion i q answer → TranslateTold query i answer
   translate_told (question.At route e) asks h = absurd asks
@@ -333,9 +367,12 @@ module _ (i : Image) (query : Text) (answer : Answer) (served : answer.status �
     served = served;
   }
   translate_told (question.Diagram route classes from to) asks h = absurd asks
-  translate_told question.Routes asks h = absurd asks
   translate_told question.Totals asks h = absurd asks
   translate_told (question.Find asset) asks h = absurd asks
+  translate_told (question.Where spot) asks h = absurd asks
+  translate_told (question.Lengths route) asks h = absurd asks
+  translate_told (question.List l) asks h = absurd asks
+  translate_told question.Health asks h = absurd asks
 
   pub diagram_told : (q : Question) → AsksOf path.Diagram query q → AnswersQuestion i q answer → DiagramTold query i answer
   diagram_told (question.At route e) asks h = absurd asks
@@ -354,9 +391,12 @@ module _ (i : Image) (query : Text) (answer : Answer) (served : answer.status �
     tells = h;
     served = served;
   }
-  diagram_told question.Routes asks h = absurd asks
   diagram_told question.Totals asks h = absurd asks
   diagram_told (question.Find asset) asks h = absurd asks
+  diagram_told (question.Where spot) asks h = absurd asks
+  diagram_told (question.Lengths route) asks h = absurd asks
+  diagram_told (question.List l) asks h = absurd asks
+  diagram_told question.Health asks h = absurd asks
 
   route_by : (q : Question) → AsksOf path.Route query q → AnswersQuestion i q answer → RouteTold query i answer
   route_by (question.At route e) asks h = absurd asks
@@ -364,14 +404,15 @@ module _ (i : Image) (query : Text) (answer : Answer) (served : answer.status �
   route_by (question.Segments route side classes) asks h = absurd asks
   route_by (question.Translate route e to) asks h = absurd asks
   route_by (question.Diagram route classes from to) asks h = absurd asks
-  route_by question.Routes asks h = absurd asks
   route_by question.Totals asks h = absurd asks
   route_by (question.Find asset) asks h = absurd asks
+  route_by (question.Where spot) asks h = absurd asks
+  route_by (question.Lengths route) asks h = absurd asks
+  route_by (question.List l) asks h = absurd asks
+  route_by question.Health asks h = absurd asks
 
   pub route_told : AnswersAsked i path.Route query answer → RouteTold query i answer
   route_told (inl (q, asks, told)) = route_by q asks told
-  route_told (inr (inl (from, asks, is))) = absurd asks
-  route_told (inr (inr (inl (r, asks, shows)))) = absurd asks
-  route_told (inr (inr (inr (Malformed p, cannot, is)))) = absurd cannot
-  route_told (inr (inr (inr (NoRoute, cannot, is)))) = inr (cannot, is)
-  route_told (inr (inr (inr (Lacking, cannot, is)))) = absurd (served (ap (λ (a : Answer). a.status) is))
+  route_told (inr (Malformed p, cannot, is)) = absurd cannot
+  route_told (inr (NoRoute, cannot, is)) = inr (cannot, is)
+  route_told (inr (Lacking, cannot, is)) = absurd (served (ap (λ (a : Answer). a.status) is))

@@ -20,11 +20,11 @@ use Rattle.lrs_machine.specs.declared.segment.SegFault.{SegFault}
 use Rattle.lrs_machine.specs.declared.segment.SegFault.TheVariants.{NoClass, NotExclusive, SideB}
 use Rattle.lrs_machine.specs.declared.segment.Segment.{Segment}
 use Rattle.lrs_report.specs.Sweep.{run_of}
-use Rattle.lrs_report_answers.specs.Answers.{IsAt, OnRoute, StandsAt, UnlessMemory}
+use Rattle.lrs_report_answers.specs.Answers.{IsAt, OnRoute, StandsAt, UnlessMemory, route_missing}
 use Rattle.lrs_report_answers.specs.RouteSegments.{IsSegmented, class_list}
 use Rattle.lrs_report_answers.specs.ToldAnswers.{Tells}
 use Rattle.lrs_report_answers.specs.declared.fault.AskFault.{AskFault}
-use Rattle.lrs_report_answers.specs.declared.fault.AskFault.TheVariants.{Memory, NoRoute, Place, Seg}
+use Rattle.lrs_report_answers.specs.declared.fault.AskFault.TheVariants.{Memory, Place, Seg}
 use Rattle.lrs_report_answers.specs.declared.hits.AtAnswer.{AtAnswer}
 use Rattle.lrs_report_answers.specs.declared.told.Told.{Told}
 use Rattle.lrs_web_requests.specs.Text.{Answer}
@@ -60,7 +60,7 @@ unless_memory Passes one (Err d) q h g some also = absurd (some (ap (λ (f : Ask
 on_route : {A : Type 0} (s : State) (name : Name) (Asked : Alignment → Result A AskFault → Type 0) → ((a : Alignment) → OneUnlessMemory (Asked a)) → OneUnlessMemory (OnRoute s name Asked)
 on_route {A} s name Asked one r q h g some also = by (get s.routes name) h g
   where
-    by : (o : Option Alignment) → MatchOption o (r ≡ Err NoRoute) (λ a. Asked a r) → MatchOption o (q ≡ Err NoRoute) (λ a. Asked a q) → r ≡ q
+    by : (o : Option Alignment) → MatchOption o (r ≡ Err route_missing) (λ a. Asked a r) → MatchOption o (q ≡ Err route_missing) (λ a. Asked a q) → r ≡ q
     by None x y = x ∙ sym y
     by (Some a) x y = one a r q x y some also
 

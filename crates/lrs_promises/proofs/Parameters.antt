@@ -9,7 +9,7 @@ use Rattle.lrs_position.specs.declared.expression.Method.{Method}
 use Rattle.lrs_events.specs.declared.side.Side.{Side}
 use Rattle.lrs_machine.specs.Lines.{Text}
 use Rattle.lrs_machine.specs.declared.answer.Field.TheVariants.{E}
-use Rattle.lrs_report_lists.specs.declared.wanted.RowsWanted.{RowsWanted}
+use Rattle.lrs_machine.specs.declared.question.RowsWanted.{RowsWanted}
 use Rattle.lrs_machine.specs.declared.question.Spot.{Spot}
 use Rattle.lrs_machine.specs.declared.question.Spot.TheVariants as spot
 use Rattle.lrs_sheet_records.specs.Shapes.{Argument, At, PositionBy, RouteSide, SideOf}

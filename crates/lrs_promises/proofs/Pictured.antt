@@ -41,10 +41,10 @@ use Rattle.lrs_report.specs.declared.diagrams.scale.Scale.{Scale}
 use Rattle.lrs_sheet_log.proofs.Pieces.{fewest-same}
 use Rattle.lrs_report_answers.proofs.Naming.{along_ranks}
 use Rattle.lrs_report_answers.specs.DrawnRows.{AreAlong, AreBands, AreChosen, ArePlaced, IsBand, IsDrawing, IsDrawn, IsDrawnOn, IsFirstUnknown, IsStretch, along, class_named, drawn_row, is_point, placed, stands_before}
-use Rattle.lrs_report_answers.specs.Answers.{UnlessMemory}
+use Rattle.lrs_report_answers.specs.Answers.{UnlessMemory, route_missing}
 use Rattle.lrs_report_answers.specs.ToldAnswers.{IsNamedRoute}
 use Rattle.lrs_report_answers.specs.declared.fault.AskFault.{AskFault}
-use Rattle.lrs_report_answers.specs.declared.fault.AskFault.TheVariants.{Memory, NoRoute, Seg}
+use Rattle.lrs_report_answers.specs.declared.fault.AskFault.TheVariants.{Memory, Seg}
 use Rattle.lrs_report_answers.specs.declared.told.Told.TheVariants as told
 use Rattle.lrs_machine.specs.declared.segment.SegFault.TheVariants as seg
 use Rattle.lrs_web_requests.specs.Text.{Answer}
@@ -59,7 +59,7 @@ use Rattle.lrs_promises.proofs.Once.{OneUnlessMemory, same_some, unless_memory}
 pub named_once : (i : Image) (name : Name) → OneUnlessMemory (IsNamedRoute i name)
 named_once i name r q h g some also = by (find (is_named name) i.routes) h g
   where
-    by : (o : Option RouteRow) → MatchOption o (r ≡ Err NoRoute) (λ e. UnlessMemory (λ route. route ≡ e.route) r) → MatchOption o (q ≡ Err NoRoute) (λ e. UnlessMemory (λ route. route ≡ e.route) q) → r ≡ q
+    by : (o : Option RouteRow) → MatchOption o (r ≡ Err route_missing) (λ e. UnlessMemory (λ route. route ≡ e.route) r) → MatchOption o (q ≡ Err route_missing) (λ e. UnlessMemory (λ route. route ≡ e.route) q) → r ≡ q
     by None x y = x ∙ sym y
     by (Some e) x y = unless_memory (λ route. route ≡ e.route) (λ c d k l. k ∙ sym l) r q x y some also
 
@@ -298,7 +298,7 @@ module _ (i : Image) (r : RouteRow) (names : List Name) (from to : ℕ) where
 pub drawn_once : (i : Image) (name : Name) (names : List Name) (from to : Option ℕ) → OneUnlessMemory (IsDrawn i name names from to)
 drawn_once i name names from to r q h g some also = by (find (is_named name) i.routes) h g
   where
-    by : (o : Option RouteRow) → MatchOption o (r ≡ Err NoRoute) (λ e. IsDrawnOn i e names (unwrap_or from 0) (unwrap_or to (length e.route.course)) r)
-        → MatchOption o (q ≡ Err NoRoute) (λ e. IsDrawnOn i e names (unwrap_or from 0) (unwrap_or to (length e.route.course)) q) → r ≡ q
+    by : (o : Option RouteRow) → MatchOption o (r ≡ Err route_missing) (λ e. IsDrawnOn i e names (unwrap_or from 0) (unwrap_or to (length e.route.course)) r)
+        → MatchOption o (q ≡ Err route_missing) (λ e. IsDrawnOn i e names (unwrap_or from 0) (unwrap_or to (length e.route.course)) q) → r ≡ q
     by None x y = x ∙ sym y
     by (Some e) x y = drawn_on_once i e names (unwrap_or from 0) (unwrap_or to (length e.route.course)) r q x y some also

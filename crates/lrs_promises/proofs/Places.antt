@@ -1,5 +1,5 @@
--- What is at a place is one answer.
-use Rattle.std.proofs.Common.{◌≡◌, ℕ, pos, unsigned_abs, List, [], ◌∷◌, Option, Result, Ok, Err, refl, sym, ap, subst, ◌∙◌}
+-- What is at a place is one answer, and so are the lengths of values.
+use Rattle.std.proofs.Common.{◌≡◌, ℕ, pos, unsigned_abs, List, [], ◌∷◌, Option, None, Some, Result, Ok, Err, refl, sym, ap, subst, ◌∙◌}
 use Rattle.std.specs.Prelude.{MatchResult}
 use Rattle.std.specs.List.{AllZip}
 use Rattle.lrs_measure.specs.Fraction.{Fraction}
@@ -14,11 +14,17 @@ use Rattle.lrs_position.proofs.Located.{IsSound, same_expression}
 use Rattle.lrs_machine.specs.Image.{state_of}
 use Rattle.lrs_machine.specs.declared.image.Image.{Image}
 use Rattle.lrs_machine.specs.declared.image.RouteRow.{RouteRow}
-use Rattle.lrs_report_answers.specs.Place.Answers.{IsPosition, IsThere, UnlessMemory, targets_of}
-use Rattle.lrs_report_answers.specs.Place.Places.{Place}
+use Rattle.lrs_machine.specs.declared.absence.Missing.{Missing}
+use Rattle.lrs_machine.specs.declared.question.Spot.{Spot}
+use Rattle.lrs_report_lists.specs.Length.Lengths.{AreLengths}
+use Rattle.lrs_report_lists.proofs.Length.Unique.{are_unique}
+use Rattle.lrs_report_answers.specs.Answers.{UnlessMemory, UnlessMissing}
+use Rattle.lrs_report_answers.specs.Listings.{AreLengthsOf, missing_route}
+use Rattle.lrs_report_answers.specs.Place.Answers.{IsPosition, IsThere, IsWhereabouts, targets_of}
+use Rattle.lrs_report_answers.specs.Place.Places.{Place, place_of}
+use Rattle.lrs_report_answers.specs.declared.fault.AskFault.TheVariants as why
 use Rattle.lrs_report_answers.specs.declared.places.answer.Whereabouts.{Whereabouts}
-use Rattle.lrs_report_answers.specs.declared.places.fault.WhereFault.{WhereFault}
-use Rattle.lrs_promises.proofs.Once.{ok_is_not_err, stands_once}
+use Rattle.lrs_promises.proofs.Once.{OneUnlessMemory, stands_once, unless_memory}
 
 -- a chainage of a sound route is expressed once by a target
 pub expressed_once : (a : Alignment) (on : Name → Option ℕ) (x : Fraction) (target : Target) (e f : Expr) → IsSound a → Expresses a on x target e → Expresses a on x target f → e ≡ f
@@ -45,7 +51,18 @@ there_once i e chainage v w h g =
     (targets_of e.route.refs) v.positions w.positions h.by_targets g.by_targets in
     λ k. record { route = route k; found = found k; positions = positions k }
 
-pub whereabouts_once : (i : Image) (place : Result Place WhereFault) (v w : Whereabouts) → MatchResult place (λ at. UnlessMemory (IsThere i at.0 at.1) (Ok v)) (λ fault. Ok v ≡ Err fault)
-    → MatchResult place (λ at. UnlessMemory (IsThere i at.0 at.1) (Ok w)) (λ fault. Ok w ≡ Err fault) → v ≡ w
-whereabouts_once i (Ok (e, chainage)) v w h g = there_once i e chainage v w h g
-whereabouts_once i (Err fault) v w h g = absurd (ok_is_not_err v fault h)
+there_once_or : (i : Image) (place : Result Place Missing) → OneUnlessMemory (λ result. MatchResult place (λ at. UnlessMemory (IsThere i at.0 at.1) result) (λ what. result ≡ Err (why.Missing what)))
+there_once_or i (Ok (e, chainage)) = unless_memory (IsThere i e chainage) (there_once i e chainage)
+there_once_or i (Err what) = λ r q h g some also. h ∙ sym g
+
+-- what is at the place of a spot
+pub where_once : (i : Image) (s : Spot) → OneUnlessMemory (IsWhereabouts i s)
+where_once i s = there_once_or i (place_of i s)
+
+-- the lengths of values
+pub lengths_once : (i : Image) (route : Option Name) → OneUnlessMemory (AreLengthsOf i route)
+lengths_once i route = by (missing_route i route)
+  where
+    by : (o : Option Missing) → OneUnlessMemory (UnlessMissing o (UnlessMemory (AreLengths route i)))
+    by None = unless_memory (AreLengths route i) (λ x y h g. are_unique route i x y h g)
+    by (Some what) = λ r q h g some also. h ∙ sym g

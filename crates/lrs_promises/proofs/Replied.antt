@@ -12,12 +12,12 @@ use Rattle.lrs_machine.specs.declared.image.Image.{Image}
 use Rattle.lrs_machine.specs.declared.question.Destination.TheVariants as destination
 use Rattle.lrs_machine.specs.declared.question.Question.{Question}
 use Rattle.lrs_machine.specs.declared.question.Question.TheVariants as question
-use Rattle.lrs_report_answers.specs.Answers.{IsAt, UnlessMemory}
+use Rattle.lrs_report_answers.specs.Answers.{IsAt, UnlessMemory, asset_missing}
 use Rattle.lrs_report_answers.specs.AssetStretches.{IsFound, all_rows_of}
 use Rattle.lrs_report_answers.specs.RouteSegments.{IsSegmented}
 use Rattle.lrs_report_answers.specs.ToldAnswers.{IsOnLink, IsTold, IsTranslated, Tells, length_on}
 use Rattle.lrs_report_answers.specs.declared.fault.AskFault.{AskFault}
-use Rattle.lrs_report_answers.specs.declared.fault.AskFault.TheVariants.{Memory, NoAsset}
+use Rattle.lrs_report_answers.specs.declared.fault.AskFault.TheVariants.{Memory}
 use Rattle.lrs_report_answers.specs.declared.told.Told.{Told}
 use Rattle.lrs_report_answers.specs.declared.told.Told.TheVariants as told
 use Rattle.lrs_sheet_records.specs.Questions.{SaysQuestion, all_questions, question_shapes}
@@ -33,7 +33,7 @@ use Rattle.lrs_promises.proofs.Translated.{by_method_once, on_link_once, stated_
 found_once : (s : State) (asset : ℕ) → OneUnlessMemory (IsFound s asset)
 found_once s asset r q h g some also = by (get s.assets asset) h g
   where
-    by : {A : Type 0} (o : Option A) → MatchOption o (r ≡ Err NoAsset) (λ a. UnlessMemory (λ found. found ≡ all_rows_of s asset) r) → MatchOption o (q ≡ Err NoAsset) (λ a. UnlessMemory (λ found. found ≡ all_rows_of s asset) q) → r ≡ q
+    by : {A : Type 0} (o : Option A) → MatchOption o (r ≡ Err asset_missing) (λ a. UnlessMemory (λ found. found ≡ all_rows_of s asset) r) → MatchOption o (q ≡ Err asset_missing) (λ a. UnlessMemory (λ found. found ≡ all_rows_of s asset) q) → r ≡ q
     by None x y = x ∙ sym y
     by (Some a) x y = unless_memory (λ found. found ≡ all_rows_of s asset) (λ c d k l. k ∙ sym l) r q x y some also
 
@@ -59,8 +59,11 @@ module _ (i j : Image) (same : state_of i ≡ state_of j) (fields : List Text) w
       tells_once (IsFound (state_of i) asset) told.Found (found_once (state_of i) asset) said other h (subst (λ s. Tells (IsFound s asset) told.Found other) (sym same) g) some also
   told_alike key (question.Route route) says said other h g some also = absurd (nameless (subst (Contains all_questions) says.same_question says.is_question))
   told_alike key (question.Diagram route classes from to) says said other h g some also = absurd (nameless (subst (Contains all_questions) says.same_question says.is_question))
-  told_alike key question.Routes says said other h g some also = absurd (nameless (subst (Contains all_questions) says.same_question says.is_question))
   told_alike key question.Totals says said other h g some also = absurd (nameless (subst (Contains all_questions) says.same_question says.is_question))
+  told_alike key (question.Where spot) says said other h g some also = absurd (nameless (subst (Contains all_questions) says.same_question says.is_question))
+  told_alike key (question.Lengths route) says said other h g some also = absurd (nameless (subst (Contains all_questions) says.same_question says.is_question))
+  told_alike key (question.List listing) says said other h g some also = absurd (nameless (subst (Contains all_questions) says.same_question says.is_question))
+  told_alike key question.Health says said other h g some also = absurd (nameless (subst (Contains all_questions) says.same_question says.is_question))
 
   -- there is no reply where memory ran out
   has_memory : (key : Text) (said : Result Told AskFault) (r : Reply) → reply_of key said ≡ Some r → said ≡ Err Memory → ⊥

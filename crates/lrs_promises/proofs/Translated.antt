@@ -30,10 +30,9 @@ use Rattle.lrs_machine.specs.declared.image.Image.{Image}
 use Rattle.lrs_machine.specs.declared.image.RouteRow.{RouteRow}
 use Rattle.lrs_machine.specs.declared.question.Destination.{Destination}
 use Rattle.lrs_machine.specs.declared.question.Destination.TheVariants as destination
-use Rattle.lrs_report_answers.specs.Answers.{AsksRoute, as_asked}
+use Rattle.lrs_report_answers.specs.Answers.{AsksRoute, as_asked, route_missing}
 use Rattle.lrs_report_answers.specs.ToldAnswers.{IsOnLink, IsTranslated, Tells}
 use Rattle.lrs_report_answers.specs.declared.fault.AskFault.{AskFault}
-use Rattle.lrs_report_answers.specs.declared.fault.AskFault.TheVariants.{NoRoute}
 use Rattle.lrs_report_answers.specs.declared.told.Told.{Told}
 use Rattle.lrs_report_answers.specs.declared.told.Told.TheVariants as told
 use Rattle.lrs_report_answers.proofs.Asked.{route_is}
@@ -153,8 +152,8 @@ asks_once : {A : Type 0} (s : State) (name : Name) (Answers : Alignment → (Nam
 asks_once {A} s name Answers once r q h g some also = by (get s.routes name) refl h g
   where
     by : (o : Option Alignment) → get s.routes name ≡ o
-        → MatchOption o (r ≡ Err NoRoute) (λ a. (answer : Result A PlaceFault) × Answers a (referent_chainage s a) answer × (r ≡ as_asked answer))
-        → MatchOption o (q ≡ Err NoRoute) (λ a. (answer : Result A PlaceFault) × Answers a (referent_chainage s a) answer × (q ≡ as_asked answer)) → r ≡ q
+        → MatchOption o (r ≡ Err route_missing) (λ a. (answer : Result A PlaceFault) × Answers a (referent_chainage s a) answer × (r ≡ as_asked answer))
+        → MatchOption o (q ≡ Err route_missing) (λ a. (answer : Result A PlaceFault) × Answers a (referent_chainage s a) answer × (q ≡ as_asked answer)) → r ≡ q
     by None there x y = x ∙ sym y
     by (Some a) there (x, is, same) (y, is', same') = same ∙ ap as_asked (once a there x y is is') ∙ sym same'
 

@@ -36,8 +36,8 @@ use Rattle.lrs_ordered.proofs.Keys.{finds_number}
 use Rattle.lrs_machine.specs.Image.{asset_entry}
 use Rattle.lrs_machine.specs.State as state
 use Rattle.lrs_report_answers.specs.declared.fault.AskFault.{AskFault}
-use Rattle.lrs_report_answers.specs.declared.fault.AskFault.TheVariants.{NoAsset, Memory}
-use Rattle.lrs_report_answers.specs.Answers.{UnlessMemory}
+use Rattle.lrs_report_answers.specs.declared.fault.AskFault.TheVariants.{Memory}
+use Rattle.lrs_report_answers.specs.Answers.{UnlessMemory, asset_missing}
 use Rattle.lrs_report_answers.specs.AssetStretches.{IsFound}
 use Rattle.lrs_report_answers.proofs.Asked.{values_found, found_in, found_passes}
 use Rattle.lrs_report_answers.proofs.Joined.{is_false}
@@ -133,7 +133,7 @@ module _ (i : Image) (n : ℕ) where
   asset_is = values_found nat_cmp_total asset_entry i.assets n
 
   abbrev Given : Option state.Asset → Result (List FoundRow) AskFault → Type 0
-  Given o result = MatchOption o (result ≡ Err NoAsset) (λ a. UnlessMemory (λ found. found ≡ all_rows_of (state_of i) n) result)
+  Given o result = MatchOption o (result ≡ Err asset_missing) (λ a. UnlessMemory (λ found. found ≡ all_rows_of (state_of i) n) result)
 
   there : (a : Asset) → Some a ≡ sought → Some (asset_entry a).1 ≡ get (state_of i).assets n
   there a h = ap (option_map (λ (x : Asset). (asset_entry x).1)) h ∙ sym asset_is
@@ -152,5 +152,5 @@ module _ (i : Image) (n : ℕ) where
   pub no_memory : (a : Asset) → Some a ≡ sought → IsFound (state_of i) n (Err Memory)
   no_memory a h = subst (λ (o : Option state.Asset). Given o (Err Memory)) (there a h) (λ k. Memory)
 
-  pub no_asset : None ≡ sought → IsFound (state_of i) n (Err NoAsset)
-  no_asset h = subst (λ (o : Option state.Asset). Given o (Err NoAsset)) (ap (option_map (λ (x : Asset). (asset_entry x).1)) h ∙ sym asset_is) (λ k. Err NoAsset)
+  pub no_asset : None ≡ sought → IsFound (state_of i) n (Err asset_missing)
+  no_asset h = subst (λ (o : Option state.Asset). Given o (Err asset_missing)) (ap (option_map (λ (x : Asset). (asset_entry x).1)) h ∙ sym asset_is) (λ k. Err asset_missing)

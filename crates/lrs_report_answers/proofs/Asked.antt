@@ -24,8 +24,7 @@ use Rattle.lrs_machine.specs.Sound.{IsSound}
 use Rattle.lrs_machine.proofs.Members.{In}
 use Rattle.lrs_image.specs.Change.{is_named}
 use Rattle.lrs_report_answers.specs.declared.fault.AskFault.{AskFault}
-use Rattle.lrs_report_answers.specs.declared.fault.AskFault.TheVariants.{NoRoute}
-use Rattle.lrs_report_answers.specs.Answers.{IsRouteIn, OnRoute, AsksRoute, as_asked}
+use Rattle.lrs_report_answers.specs.Answers.{IsRouteIn, OnRoute, AsksRoute, as_asked, route_missing}
 use Rattle.lrs_image_laws.proofs.FromReferents.{referents_found}
 
 -- ---- the route of a name
@@ -82,11 +81,11 @@ found_known i name r h =
 
 -- ---- what is asked of it
 
-pub no_route : {A : Type 0} (s : State) (name : Name) (Asked : Alignment → Result A AskFault → Type 0) → None ≡ get s.routes name → OnRoute s name Asked (Err NoRoute)
-no_route {A} s name Asked h = subst (λ (o : Option Alignment). MatchOption o (◌≡◌ {A = Result A AskFault} (Err NoRoute) (Err NoRoute)) (λ a. Asked a (Err NoRoute))) h (λ i. Err NoRoute)
+pub no_route : {A : Type 0} (s : State) (name : Name) (Asked : Alignment → Result A AskFault → Type 0) → None ≡ get s.routes name → OnRoute s name Asked (Err route_missing)
+no_route {A} s name Asked h = subst (λ (o : Option Alignment). MatchOption o (◌≡◌ {A = Result A AskFault} (Err route_missing) (Err route_missing)) (λ a. Asked a (Err route_missing))) h (λ i. Err route_missing)
 
 pub on_route : {A : Type 0} (s : State) (name : Name) (Asked : Alignment → Result A AskFault → Type 0) (a : Alignment) (result : Result A AskFault) → Some a ≡ get s.routes name → Asked a result → OnRoute s name Asked result
-on_route s name Asked a result h asked = subst (λ (o : Option Alignment). MatchOption o (result ≡ Err NoRoute) (λ a. Asked a result)) h asked
+on_route s name Asked a result h asked = subst (λ (o : Option Alignment). MatchOption o (result ≡ Err route_missing) (λ a. Asked a result)) h asked
 
 -- where the referents of a route stand
 pub referents_are : (i : Image) (r : RouteRow) → IsSound i → IsRouteIn i r → referent_at r.route.refs ≡ referent_chainage (state_of i) (alignment_of r.route)

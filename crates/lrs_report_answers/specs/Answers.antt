@@ -1,5 +1,5 @@
 -- What is asked of an inventory, and what is answered, in the words of the state that its image stands for.
-use Rattle.std.specs.Prelude.{◌≡◌, ℕ, length, Option, Some, Result, Ok, Err, MatchOption, MatchResult, slice_get}
+use Rattle.std.specs.Prelude.{◌≡◌, ℕ, Bool, codes, if◌then◌else◌, length, Option, None, Some, Result, Ok, Err, MatchOption, MatchResult, slice_get}
 use Rattle.std.specs.List.{find}
 use Rattle.lrs_measure.specs.Texts.{Name}
 use Rattle.lrs_position.specs.declared.expression.Expr.{Expr}
@@ -7,27 +7,46 @@ use Rattle.lrs_position.specs.declared.location.PlaceFault.{PlaceFault}
 use Rattle.lrs_position.specs.Locations.{Alignment, located_or_fault, cell}
 use Rattle.lrs_machine.specs.declared.image.Image.{Image}
 use Rattle.lrs_machine.specs.declared.image.RouteRow.{RouteRow}
+use Rattle.lrs_machine.specs.declared.absence.Missing.{Missing as Absence}
+use Rattle.lrs_machine.specs.declared.absence.Missing.TheVariants.{Route, Asset}
+use Rattle.lrs_machine.specs.Lines.{Text}
 use Rattle.lrs_machine.specs.Machine.{referent_chainage}
 use Rattle.lrs_machine.specs.Readings.{hits_on}
 use Rattle.lrs_machine.specs.Register.{get}
 use Rattle.lrs_machine.specs.State.{State}
 use Rattle.lrs_image.specs.Change.{is_named}
 use Rattle.lrs_report_answers.specs.declared.fault.AskFault.{AskFault}
-use Rattle.lrs_report_answers.specs.declared.fault.AskFault.TheVariants.{NoRoute, Place, Memory}
+use Rattle.lrs_report_answers.specs.declared.fault.AskFault.TheVariants.{Missing, Place, Memory}
 use Rattle.lrs_report_answers.specs.declared.hits.AtAnswer.{AtAnswer}
+
+-- whether a route runs along a link or against it
+abbrev pub direction_text : Bool → Text
+direction_text forward = if forward then codes "+" else codes "-"
 
 -- the route with what lies on it is the image's route of its name
 abbrev pub IsRouteIn : Image → RouteRow → Type 0
 IsRouteIn i e = find (is_named e.route.name) i.routes ≡ Some e
+
+-- no route has the name, and no asset the number
+abbrev pub route_missing : AskFault
+route_missing = Missing Route
+
+abbrev pub asset_missing : AskFault
+asset_missing = Missing Asset
+
+-- what is named first and is not there refuses the question; else this passes
+abbrev pub UnlessMissing : {A : Type 0} → Option Absence → (Result A AskFault → Type 0) → Result A AskFault → Type 0
+UnlessMissing None Passes result = Passes result
+UnlessMissing (Some what) Passes result = result ≡ Err (Missing what)
 
 -- what is answered passes, unless memory ran out
 abbrev pub UnlessMemory : {A : Type 0} → (A → Type 0) → Result A AskFault → Type 0
 UnlessMemory Passes (Ok answer) = Passes answer
 UnlessMemory Passes (Err fault) = fault ≡ Memory
 
--- `NoRoute` exactly where no route has the name; else what is asked of the route
+-- the route is missing exactly where no route has the name; else what is asked of the route
 abbrev pub OnRoute : {A : Type 0} → State → Name → (Alignment → Result A AskFault → Type 0) → Result A AskFault → Type 0
-OnRoute s name Asked result = MatchOption (get s.routes name) (result ≡ Err NoRoute) (λ a. Asked a result)
+OnRoute s name Asked result = MatchOption (get s.routes name) (result ≡ Err route_missing) (λ a. Asked a result)
 
 -- the fault of a position as that of a question
 abbrev pub as_asked : {A : Type 0} → Result A PlaceFault → Result A AskFault

@@ -11,9 +11,8 @@ use Rattle.lrs_machine.specs.Readings.{rows_of}
 use Rattle.lrs_machine.specs.Register.{get, entries}
 use Rattle.lrs_machine.specs.State.{State}
 use Rattle.lrs_report_answers.specs.declared.fault.AskFault.{AskFault}
-use Rattle.lrs_report_answers.specs.declared.fault.AskFault.TheVariants.{NoAsset}
 use Rattle.lrs_report_answers.specs.declared.rows.FoundRow.{FoundRow}
-use Rattle.lrs_report_answers.specs.Answers.{UnlessMemory}
+use Rattle.lrs_report_answers.specs.Answers.{UnlessMemory, asset_missing}
 
 -- a canonical row on the route of a name
 abbrev pub found_row : Name → Run Side → FoundRow
@@ -25,7 +24,7 @@ all_rows_of s asset = flat_map (λ r. map (found_row r.0) (rows_of s r.0 asset))
 
 -- The answer is all rows of the asset of the number, or that there is none.
 abbrev pub IsFound : State → ℕ → Result (List FoundRow) AskFault → Type 0
-IsFound s asset result = MatchOption (get s.assets asset) (result ≡ Err NoAsset) (λ a. UnlessMemory (λ found. found ≡ all_rows_of s asset) result)
+IsFound s asset result = MatchOption (get s.assets asset) (result ≡ Err asset_missing) (λ a. UnlessMemory (λ found. found ≡ all_rows_of s asset) result)
 
 -- what is kept of a route
 

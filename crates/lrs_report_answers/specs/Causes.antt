@@ -5,16 +5,16 @@ use Rattle.lrs_position.specs.declared.location.PlaceFault.{PlaceFault}
 use Rattle.lrs_position.specs.declared.location.PlaceFault.TheVariants as place
 use Rattle.lrs_machine.specs.declared.segment.SegFault.{SegFault}
 use Rattle.lrs_machine.specs.declared.segment.SegFault.TheVariants as segments
+use Rattle.lrs_machine.specs.Absence.{missing_text}
 use Rattle.lrs_machine.specs.Lines.{Text}
 use Rattle.lrs_report_answers.specs.declared.fault.AskFault.{AskFault}
 use Rattle.lrs_report_answers.specs.declared.fault.AskFault.TheVariants as asked
 use Rattle.lrs_report_answers.specs.declared.cause.AskCause.{AskCause}
-use Rattle.lrs_report_answers.specs.declared.cause.AskCause.TheVariants.{NoRoute, NoAsset, NoRef, TooFine, OffRoute, NoClass, NotExclusive, SideB}
+use Rattle.lrs_report_answers.specs.declared.cause.AskCause.TheVariants.{Missing, NoRef, TooFine, OffRoute, NoClass, NotExclusive, SideB}
 
 -- the name of a cause, and behind a colon the index of the class that was asked for
 abbrev pub cause_text : AskCause → Text
-cause_text NoRoute = codes "NoRoute"
-cause_text NoAsset = codes "NoAsset"
+cause_text (Missing what) = missing_text what
 cause_text NoRef = codes "NoRef"
 cause_text TooFine = codes "TooFine"
 cause_text OffRoute = codes "OffRoute"
@@ -37,8 +37,7 @@ cause_of_segments segments.Memory = None
 
 -- why a question is refused; none where memory ran out, or where what is kept has to be opened again
 abbrev pub cause_of : AskFault → Option AskCause
-cause_of asked.NoRoute = Some NoRoute
-cause_of asked.NoAsset = Some NoAsset
+cause_of (asked.Missing what) = Some (Missing what)
 cause_of (asked.Place fault) = Some (cause_of_place fault)
 cause_of (asked.Seg fault) = cause_of_segments fault
 cause_of asked.MustReopen = None

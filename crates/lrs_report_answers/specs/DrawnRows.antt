@@ -1,5 +1,5 @@
 -- What a diagram of a route draws: the rows of the chosen classes, from a chainage to another.
-use Rattle.std.specs.Prelude.{◌≡◌, ◌⊎◌, ◌&&◌, ◌+◌, ◌<◌, ◌≤◌, ℕ, Bool, true, false, ⊤, List, [], ◌∷◌, take, length, map, filter, Option, Some, None, MatchOption, Result, Ok, Err, slice_get, unwrap_or}
+use Rattle.std.specs.Prelude.{◌≡◌, ◌⊎◌, ◌+◌, ◌<◌, ◌≤◌, ℕ, Bool, true, false, ⊤, List, [], ◌∷◌, take, length, map, filter, Option, Some, None, MatchOption, Result, Ok, Err, slice_get, unwrap_or}
 use Rattle.std.specs.List.{find}
 use Rattle.std.specs.Option.{option_map}
 use Rattle.std.specs.List.Sorted.{IsPermutation, IsSortedBy}
@@ -30,8 +30,9 @@ use Rattle.lrs_report.specs.declared.diagrams.diagram.Diagram.{Diagram}
 use Rattle.lrs_report.specs.declared.diagrams.diagram.DrawnPiece.{DrawnPiece}
 use Rattle.lrs_report.specs.declared.diagrams.diagram.DrawnRow.{DrawnRow}
 use Rattle.lrs_report_answers.specs.declared.fault.AskFault.{AskFault}
-use Rattle.lrs_report_answers.specs.declared.fault.AskFault.TheVariants.{NoRoute, Place, Seg, Memory}
+use Rattle.lrs_report_answers.specs.declared.fault.AskFault.TheVariants.{Place, Seg, Memory}
 use Rattle.lrs_report_answers.specs.Hits.{hit_by}
+use Rattle.lrs_report_answers.specs.Answers.{route_missing}
 
 -- ---- rows
 
@@ -131,7 +132,7 @@ IsDrawnOn i e names from to (Ok d) = (chosen : List Class) × AreChosen i.classe
 IsDrawnOn i e names from to (Err fault) =
     LacksClass i.classes names fault ⊎ ((chosen : List Class) × AreChosen i.classes names chosen × (IsStretch e from to → ⊥) × (fault ≡ Place place.OffRoute))
 
--- A diagram of the route of a name, by default from its start to its end; `NoRoute` where no route has the name.
+-- A diagram of the route of a name, by default from its start to its end; the route is missing where none has the name.
 abbrev pub IsDrawn : Image → Name → List Name → Option ℕ → Option ℕ → Result Diagram AskFault → Type 0
 IsDrawn i name names from to result =
-    MatchOption (find (is_named name) i.routes) (result ≡ Err NoRoute) (λ e. IsDrawnOn i e names (unwrap_or from 0) (unwrap_or to (length e.route.course)) result)
+    MatchOption (find (is_named name) i.routes) (result ≡ Err route_missing) (λ e. IsDrawnOn i e names (unwrap_or from 0) (unwrap_or to (length e.route.course)) result)

@@ -6,9 +6,8 @@ pub mod Totals
 pub mod Ground
 pub mod NamedRows
 pub mod ToldAnswers
-pub mod Lines
 pub mod Causes
 pub mod DrawnRows
-pub mod RouteList
+pub mod Listings
 pub mod Tally
 pub mod Place

@@ -19,13 +19,13 @@ use Rattle.lrs_machine.specs.Register.{get}
 use Rattle.lrs_machine.specs.State.{State}
 use Rattle.lrs_image.specs.Change.{is_named}
 use Rattle.lrs_report_answers.specs.declared.fault.AskFault.{AskFault}
-use Rattle.lrs_report_answers.specs.declared.fault.AskFault.TheVariants.{NoRoute}
 use Rattle.lrs_report_answers.specs.declared.told.Told.{Told}
 use Rattle.lrs_report_answers.specs.declared.told.Told.TheVariants as told
-use Rattle.lrs_report_answers.specs.Answers.{AsksRoute, IsAt, UnlessMemory}
+use Rattle.lrs_report_answers.specs.Answers.{AsksRoute, IsAt, UnlessMemory, route_missing}
 use Rattle.lrs_report_answers.specs.DrawnRows.{IsDrawn}
 use Rattle.lrs_report_answers.specs.AssetStretches.{IsFound}
-use Rattle.lrs_report_answers.specs.RouteList.{AreRoutes}
+use Rattle.lrs_report_answers.specs.Listings.{AreLengthsOf, IsListing}
+use Rattle.lrs_report_answers.specs.Place.Answers.{IsWhereabouts}
 use Rattle.lrs_report_answers.specs.RouteSegments.{IsSegmented}
 use Rattle.lrs_report_answers.specs.Totals.{totals_of}
 
@@ -43,7 +43,7 @@ AreTotals s = UnlessMemory (λ totals. totals ≡ totals_of s)
 
 -- the route of a name
 abbrev pub IsNamedRoute : Image → Name → Result Route AskFault → Type 0
-IsNamedRoute i name result = MatchOption (find (is_named name) i.routes) (result ≡ Err NoRoute) (λ e. UnlessMemory (λ route. route ≡ e.route) result)
+IsNamedRoute i name result = MatchOption (find (is_named name) i.routes) (result ≡ Err route_missing) (λ e. UnlessMemory (λ route. route ≡ e.route) result)
 
 -- how long the route of a name is, in millimetres
 abbrev pub length_on : State → Name → ℕ
@@ -62,6 +62,9 @@ IsTold i (question.Segments route side classes) = Tells (IsSegmented (state_of i
 IsTold i (question.Translate route e (destination.Method target)) = Tells (IsTranslated (state_of i) route e target) (told.Translated route)
 IsTold i (question.Translate route e destination.Link) = Tells (IsOnLink (state_of i) route e) (λ on. told.OnLink route on.0 on.1)
 IsTold i (question.Diagram route classes from to) = Tells (IsDrawn i route classes from to) told.Diagram
-IsTold i question.Routes = Tells (AreRoutes i) told.Routes
 IsTold i question.Totals = Tells (AreTotals (state_of i)) told.Totals
 IsTold i (question.Find asset) = Tells (IsFound (state_of i) asset) told.Found
+IsTold i (question.Where spot) = Tells (IsWhereabouts i spot) told.Where
+IsTold i (question.Lengths route) = Tells (AreLengthsOf i route) told.Lengths
+IsTold i (question.List l) = Tells (IsListing i l) (told.Listing l)
+IsTold i question.Health = λ result. result ≡ Ok (told.Health (length i.edits))

@@ -4,15 +4,15 @@ ghost use Rattle.std.specs.Prelude.{◌≡◌};
 ghost use Rattle.lrs_report_answers.specs.Causes.{cause_of};
 
 use crate::AskFault;
-use lrs_machine::SegFault;
+use lrs_machine::{Missing, SegFault, missing_text};
 use lrs_position::PlaceFault;
 use std::fmt;
 
 /// Why a question is refused. A number is the index of a class that was asked for, which begins at 0.
 #[derive(Clone, Copy, PartialEq, Eq)]
 pub enum AskCause {
-    NoRoute,
-    NoAsset,
+    /// What is named, and the inventory does not have.
+    Missing(Missing),
     NoRef,
     TooFine,
     OffRoute,
@@ -30,8 +30,7 @@ impl fmt::Display for AskCause {
 
     fn fmt<W: fmt::Write>(&self, f: &mut fmt::Formatter<W>) -> fmt::Result {
         match *self {
-            AskCause::NoRoute => f.write_str("NoRoute"),
-            AskCause::NoAsset => f.write_str("NoAsset"),
+            AskCause::Missing(missing) => f.write_str(missing_text(missing)),
             AskCause::NoRef => f.write_str("NoRef"),
             AskCause::TooFine => f.write_str("TooFine"),
             AskCause::OffRoute => f.write_str("OffRoute"),
@@ -48,8 +47,7 @@ pub fn cause_of(fault: AskFault) -> Option<AskCause>
     ensures { result ≡ cause_of fault }
 {
     match fault {
-        AskFault::NoRoute => Some(AskCause::NoRoute),
-        AskFault::NoAsset => Some(AskCause::NoAsset),
+        AskFault::Missing(missing) => Some(AskCause::Missing(missing)),
         AskFault::Place(PlaceFault::NoRef) => Some(AskCause::NoRef),
         AskFault::Place(PlaceFault::TooFine) => Some(AskCause::TooFine),
         AskFault::Place(PlaceFault::OffRoute) => Some(AskCause::OffRoute),

@@ -1,16 +1,14 @@
 //! Why a question is refused.
 
-use lrs_machine::SegFault;
+use lrs_machine::{Missing, SegFault};
 use lrs_position::PlaceFault;
 use std::alloc::AllocError;
 
 /// Why a question is refused.
 #[derive(Clone, Copy, PartialEq, Eq)]
 pub enum AskFault {
-    /// No route has this name.
-    NoRoute,
-    /// No asset has this number.
-    NoAsset,
+    /// What is named, and the inventory does not have.
+    Missing(Missing),
     /// The position expression locates nothing on the route.
     Place(PlaceFault),
     /// Segments of these classes on this side are refused; lack of memory is `Memory`, never this.

@@ -17,7 +17,7 @@ use crate::route::route_of;
 use lrs_element::Ground;
 use lrs_events::{Asset, Span};
 use lrs_image::KeptImage;
-use lrs_machine::{Hit, RouteRow};
+use lrs_machine::{Hit, Missing, RouteRow};
 use lrs_measure::Rows;
 use lrs_ordered::Chunked;
 use lrs_position::{Expr, RouteName};
@@ -105,7 +105,7 @@ fn answer_at(
 /// The millimetre of a route that a position stands in, and who holds it, by asset number.
 ///
 /// # Errors
-/// `NoRoute`, then the first that applies of `NoRef`, `TooFine` and `OffRoute`, and `Memory`.
+/// `Missing(Route)`, then the first that applies of `NoRef`, `TooFine` and `OffRoute`, and `Memory`.
 pub fn at(
     alloc: Global,
     kept: &KeptImage,
@@ -123,6 +123,6 @@ pub fn at(
             },
             Err(fault) => Err(AskFault::Place(fault)),
         },
-        None => Err(AskFault::NoRoute),
+        None => Err(AskFault::Missing(Missing::Route)),
     }
 }

@@ -1,5 +1,5 @@
 //! Answers to questions, over the lists of an inventory: the assets at a position, where an asset is, segments, positions
-//! by another method, diagrams; and the lines as which answers are printed.
+//! by another method, diagrams, totals, lengths; and what is listed.
 #![tactic(auto)]
 
 mod asset_rows;
@@ -10,13 +10,11 @@ mod fault;
 mod ground_routes;
 mod hits;
 pub mod laws;
-mod lines;
 pub mod places;
 mod position;
 mod questions;
 mod route;
 mod route_diagram;
-mod route_list;
 mod rows;
 mod search;
 mod segmentation;
@@ -26,13 +24,11 @@ mod told;
 pub use cause::{AskCause, cause_of};
 pub use fault::AskFault;
 pub use hits::{AtAnswer, at};
-pub use lines::write_told;
-pub use places::{WhereFault, Whereabouts, missing_for, whereabouts, write_whereabouts};
+pub use places::{Whereabouts, whereabouts};
 pub use position::{to_link, translate};
 pub use questions::tell;
 pub use route::{length_of, named_route};
 pub use route_diagram::diagram;
-pub use route_list::{RouteLength, routes};
 pub use rows::{FoundRow, push_rows};
 pub use search::find;
 pub use segmentation::{RouteSegments, segments};

@@ -2,15 +2,11 @@
 //! method.
 
 mod answer;
-mod fault;
 mod ground;
 pub mod laws;
-mod lines;
 mod place;
 mod positions;
 mod question;
 
 pub use answer::Whereabouts;
-pub use fault::{WhereFault, missing_for};
-pub use lines::write_whereabouts;
 pub use question::whereabouts;

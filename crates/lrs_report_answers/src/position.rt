@@ -13,7 +13,7 @@ ghost use Rattle.lrs_report_answers.specs.Answers.{AsksRoute};
 use crate::fault::AskFault;
 use crate::route::route_of;
 use lrs_image::KeptImage;
-use lrs_machine::RouteRow;
+use lrs_machine::{Missing, RouteRow};
 use lrs_measure::Frac;
 use lrs_position::{Expr, PlaceFault, RouteName, Target, cell, locate, route_to_link};
 
@@ -36,7 +36,7 @@ pub(crate) fn cell_of(row: &RouteRow, expression: Expr) -> Result<u64, PlaceFaul
 /// The expression by the target's method that locates on a route what the given one locates there, exactly.
 ///
 /// # Errors
-/// `NoRoute`, then the first that applies of `NoRef` of the expression, `TooFine`, `OffRoute`, `NoRef` of the target, and
+/// `Missing(Route)`, then the first that applies of `NoRef` of the expression, `TooFine`, `OffRoute`, `NoRef` of the target, and
 /// `TooFine` and `OffRoute` of the chainage.
 pub fn translate(
     kept: &KeptImage,
@@ -54,7 +54,7 @@ pub fn translate(
             Ok(translated) => Ok(translated),
             Err(fault) => Err(AskFault::Place(fault)),
         },
-        None => Err(AskFault::NoRoute),
+        None => Err(AskFault::Missing(Missing::Route)),
     }
 }
 
@@ -63,7 +63,7 @@ pub fn translate(
 /// At a seam the later piece is meant, at the route's end the last one.
 ///
 /// # Errors
-/// `NoRoute`, then the first that applies of `NoRef`, `TooFine` and `OffRoute`.
+/// `Missing(Route)`, then the first that applies of `NoRef`, `TooFine` and `OffRoute`.
 pub fn to_link(
     kept: &KeptImage,
     route: &RouteName,
@@ -78,6 +78,6 @@ pub fn to_link(
             Ok(position) => Ok(position),
             Err(fault) => Err(AskFault::Place(fault)),
         },
-        None => Err(AskFault::NoRoute),
+        None => Err(AskFault::Missing(Missing::Route)),
     }
 }

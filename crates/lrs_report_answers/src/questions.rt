@@ -6,20 +6,24 @@ ghost use Rattle.lrs_report_answers.specs.declared.told.Told.TheVariants as told
 ghost use Rattle.lrs_report_answers.specs.Answers.{IsAt};
 ghost use Rattle.lrs_report_answers.specs.AssetStretches.{IsFound};
 ghost use Rattle.lrs_report_answers.specs.DrawnRows.{IsDrawn};
-ghost use Rattle.lrs_report_answers.specs.RouteList.{AreRoutes};
+ghost use Rattle.lrs_report_answers.specs.Listings.{AreLengthsOf, IsListing, has_key};
+ghost use Rattle.lrs_report_answers.specs.Listings as spec;
+ghost use Rattle.lrs_report_answers.specs.Place.Answers.{IsWhereabouts};
 ghost use Rattle.lrs_report_answers.specs.RouteSegments.{IsSegmented};
 ghost use Rattle.lrs_report_answers.specs.Tally.RunningCounts.{IsCounted};
 ghost use Rattle.lrs_report_answers.specs.ToldAnswers.{AreTotals, IsNamedRoute, IsOnLink, IsTold, IsTranslated, Tells, length_on};
 
 use crate::tallies::Counts;
 use crate::{
-    AskFault, Told, at, diagram, find, length_of, named_route, routes, segments, to_link, translate,
+    AskFault, Told, at, diagram, find, length_of, named_route, segments, to_link, translate,
+    whereabouts,
 };
 use lrs_events::{ClassName, Side};
 use lrs_inventory::Inventory;
-use lrs_machine::{Destination, Question};
+use lrs_machine::{Destination, Key, Listing, Missing, Question, Spot};
 use lrs_measure::Rows;
 use lrs_position::{Expr, RouteName, Target};
+use lrs_report_lists::{ValueLength, lacks_edit, lacks_route, lengths, missing_row};
 use std::alloc::Global;
 
 fn tell_at<'a>(
@@ -129,14 +133,6 @@ fn tell_diagram<'a>(
     Ok(Told::Diagram(drawn))
 }
 
-fn tell_routes<'a>(alloc: Global, inventory: &'a Inventory) -> Result<Told<'a>, AskFault>
-    ensures answer { Tells (AreRoutes inventory.now) told.Routes result }
-    ensures never { result ≡ Err AskFault.MustReopen → ⊥ }
-{
-    let listed = routes(alloc, inventory.kept())?;
-    Ok(Told::Routes(listed))
-}
-
 fn tell_totals<'a>(
     alloc: Global,
     inventory: &'a Inventory,
@@ -159,11 +155,91 @@ fn tell_found<'a>(alloc: Global, inventory: &'a Inventory, asset: u64) -> Result
     Ok(Told::Found(found))
 }
 
+fn tell_where<'a>(alloc: Global, inventory: &'a Inventory, spot: Spot) -> Result<Told<'a>, AskFault>
+    ensures answer { Tells (IsWhereabouts inventory.now spot) told.Where result }
+    ensures never { result ≡ Err AskFault.MustReopen → ⊥ }
+{
+    let found = whereabouts(alloc, inventory, spot)?;
+    Ok(Told::Where(found))
+}
+
+/// The lengths of values on a route, or on all.
+fn lengths_on(
+    alloc: Global,
+    inventory: &Inventory,
+    route: Option<RouteName>,
+) -> Result<Rows<ValueLength>, AskFault>
+    ensures answer { AreLengthsOf inventory.now route result }
+    ensures never { result ≡ Err AskFault.MustReopen → ⊥ }
+{
+    if lacks_route(inventory.kept(), route) {
+        return Err(AskFault::Missing(Missing::Route));
+    }
+    Ok(lengths(alloc, inventory.kept(), route.as_ref())?)
+}
+
+fn tell_lengths<'a>(
+    alloc: Global,
+    inventory: &'a Inventory,
+    route: Option<RouteName>,
+) -> Result<Told<'a>, AskFault>
+    ensures answer { Tells (AreLengthsOf inventory.now route) told.Lengths result }
+    ensures never { result ≡ Err AskFault.MustReopen → ⊥ }
+{
+    let rows = lengths_on(alloc, inventory, route)?;
+    Ok(Told::Lengths(rows))
+}
+
+fn has_key(inventory: &Inventory, key: &Key) -> bool
+    ensures { result ≡ has_key inventory.now key.now }
+{
+    inventory.edit_of_key(key).is_some()
+}
+
+/// What a listing names first that the inventory does not have.
+fn missing_of(inventory: &Inventory, listing: &Listing) -> Option<Missing>
+    ensures { result ≡ spec.missing_of inventory.now listing.now }
+{
+    match listing {
+        Listing::Rows(wanted) => missing_row(inventory.kept(), wanted),
+        Listing::Gone(edit) if lacks_edit(inventory.kept(), *edit) => Some(Missing::Edit),
+        Listing::LogOfKey(key) if !has_key(inventory, key) => Some(Missing::Key),
+        Listing::Gone(_)
+        | Listing::LogOfKey(_)
+        | Listing::Log(_)
+        | Listing::Routes
+        | Listing::Links
+        | Listing::Classes
+        | Listing::Refs
+        | Listing::Marks => None,
+    }
+}
+
+/// The inventory, where it has all that a listing names.
+fn listed<'a>(inventory: &'a Inventory, listing: &Listing) -> Result<&'a Inventory, AskFault>
+    ensures answer { IsListing inventory.now listing.now result }
+    ensures never { result ≡ Err AskFault.MustReopen → ⊥ }
+{
+    match missing_of(inventory, listing) {
+        Some(missing) => Err(AskFault::Missing(missing)),
+        None => Ok(inventory),
+    }
+}
+
+fn tell_listing<'a>(inventory: &'a Inventory, listing: Listing) -> Result<Told<'a>, AskFault>
+    ensures answer { Tells (IsListing inventory.now listing) (told.Listing listing) result }
+    ensures never { result ≡ Err AskFault.MustReopen → ⊥ }
+{
+    let of = listed(inventory, &listing)?;
+    Ok(Told::Listing { listing, of })
+}
+
 /// Answers a question of any kind. `counts` are those of the inventory.
 ///
 /// # Errors
-/// Those of the function for its kind: `at`, `named_route`, `segments`, `translate`, `to_link`, `diagram`, `routes`,
-/// `Counts::totals` or `find`; never `MustReopen`.
+/// Those of the function for its kind: `at`, `named_route`, `segments`, `translate`, `to_link`, `diagram`, `Counts::totals`,
+/// `find` or `whereabouts`; `Missing` of the first thing that lengths or a listing name and the inventory does not have; never
+/// `MustReopen`.
 pub fn tell<'a>(
     alloc: Global,
     inventory: &'a Inventory,
@@ -196,8 +272,11 @@ pub fn tell<'a>(
             from,
             to,
         } => tell_diagram(alloc, inventory, route, classes, from, to),
-        Question::Routes => tell_routes(alloc, inventory),
         Question::Totals => tell_totals(alloc, inventory, counts),
         Question::Find { asset } => tell_found(alloc, inventory, asset),
+        Question::Where(spot) => tell_where(alloc, inventory, spot),
+        Question::Lengths(route) => tell_lengths(alloc, inventory, route),
+        Question::List(listing) => tell_listing(inventory, listing),
+        Question::Health => Ok(Told::Health(inventory.edits())),
     }
 }

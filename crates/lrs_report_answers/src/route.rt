@@ -14,7 +14,7 @@ ghost use Rattle.lrs_report_answers.specs.ToldAnswers.{IsNamedRoute, length_on};
 
 use crate::fault::AskFault;
 use lrs_image::KeptImage;
-use lrs_machine::RouteRow;
+use lrs_machine::{Missing, RouteRow};
 use lrs_position::{Route, RouteName};
 use std::alloc::Global;
 
@@ -40,14 +40,14 @@ pub(crate) fn row_of<'a>(kept: &'a KeptImage, name: &RouteName) -> Option<&'a Ro
 /// The route of a name: its course, marks and referents.
 ///
 /// # Errors
-/// `NoRoute` where no route has the name, and `Memory`.
+/// `Missing(Route)` where no route has the name, and `Memory`.
 pub fn named_route(alloc: Global, kept: &KeptImage, name: &RouteName) -> Result<Route, AskFault>
     requires sound { IsSound (image_of kept.now) }
     ensures { IsNamedRoute (image_of kept.now) name.now result }
 {
     match row_of(kept, name) {
         Some(row) => Ok(row.route.copy(alloc)?),
-        None => Err(AskFault::NoRoute),
+        None => Err(AskFault::Missing(Missing::Route)),
     }
 }
 

@@ -13,7 +13,7 @@ use crate::route::row_of;
 use lrs_element::Course;
 use lrs_events::{Class, ClassName};
 use lrs_image::KeptImage;
-use lrs_machine::{RouteRow, SegFault};
+use lrs_machine::{Missing, RouteRow, SegFault};
 use lrs_measure::Rows;
 use lrs_ordered::Chunked;
 use lrs_position::{PlaceFault, Referent, RouteName};
@@ -193,7 +193,7 @@ fn draw_on(
 /// its end: the rows of the classes of these names, or of all where there is no name.
 ///
 /// # Errors
-/// `NoRoute`, then `Seg` of the first class that is not there (`NoClass`), by its place in `names`, then `OffRoute` where
+/// `Missing(Route)`, then `Seg` of the first class that is not there (`NoClass`), by its place in `names`, then `OffRoute` where
 /// the stretch is empty or ends behind the route, and `Memory`.
 pub fn diagram(
     alloc: Global,
@@ -211,6 +211,6 @@ pub fn diagram(
             let to = to.unwrap_or(row.route.length());
             draw_on(alloc, kept, row, names, from.unwrap_or(0), to)
         }
-        None => Err(AskFault::NoRoute),
+        None => Err(AskFault::Missing(Missing::Route)),
     }
 }

@@ -11,6 +11,7 @@ use crate::ground_routes::routes_over_parts;
 use crate::{AskFault, FoundRow};
 use lrs_events::Asset;
 use lrs_inventory::Inventory;
+use lrs_machine::Missing;
 use lrs_measure::Rows;
 use std::alloc::{AllocError, Global};
 
@@ -34,7 +35,7 @@ fn rows_of(
 /// The routes are those that run today over the ground where the asset was entered; no other is looked at.
 ///
 /// # Errors
-/// `NoAsset` where no asset has this number, and `Memory`.
+/// `Missing(Asset)` where no asset has this number, and `Memory`.
 pub fn find(alloc: Global, inventory: &Inventory, asset: u64) -> Result<Rows<FoundRow>, AskFault>
     ensures { IsFound (state_of inventory.now) asset result }
 {
@@ -43,6 +44,6 @@ pub fn find(alloc: Global, inventory: &Inventory, asset: u64) -> Result<Rows<Fou
             Ok(found) => Ok(found),
             Err(AllocError) => Err(AskFault::Memory),
         },
-        None => Err(AskFault::NoAsset),
+        None => Err(AskFault::Missing(Missing::Asset)),
     }
 }

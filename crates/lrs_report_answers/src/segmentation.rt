@@ -10,7 +10,7 @@ use crate::fault::AskFault;
 use crate::route::route_of;
 use lrs_events::{Asset, ClassName, Side};
 use lrs_image::KeptImage;
-use lrs_machine::SegFault;
+use lrs_machine::{Missing, SegFault};
 use lrs_ordered::Chunked;
 use lrs_position::RouteName;
 use lrs_report::{Segments, sweep_segments};
@@ -34,7 +34,7 @@ fn asked_fault(fault: SegFault) -> AskFault
 /// taken.
 ///
 /// # Errors
-/// `NoRoute`, then `Seg` of the first class that is not there (`NoClass`), of the first that is not exclusive
+/// `Missing(Route)`, then `Seg` of the first class that is not there (`NoClass`), of the first that is not exclusive
 /// (`NotExclusive`), each by its place in `wanted`, and of both sides (`SideB`), and `Memory`.
 pub fn segments<'a>(
     alloc: Global,
@@ -56,6 +56,6 @@ pub fn segments<'a>(
                 Err(fault) => Err(asked_fault(fault)),
             }
         }
-        None => Err(AskFault::NoRoute),
+        None => Err(AskFault::Missing(Missing::Route)),
     }
 }

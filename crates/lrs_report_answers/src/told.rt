@@ -1,11 +1,13 @@
 //! What is told to a question: its answer, with the words of the question that its text repeats.
 
-use crate::{AtAnswer, FoundRow, RouteLength, RouteSegments};
+use crate::{AtAnswer, FoundRow, RouteSegments, Whereabouts};
 use lrs_events::{ClassName, Side};
-use lrs_machine::Total;
+use lrs_inventory::Inventory;
+use lrs_machine::{Listing, Total};
 use lrs_measure::{Frac, Rows};
 use lrs_position::{Expr, Route, RouteName};
 use lrs_report::Diagram;
+use lrs_report_lists::ValueLength;
 
 /// What is told to a question: one variant for each kind of answer.
 #[derive(Drop)]
@@ -39,10 +41,19 @@ pub enum Told<'a> {
     },
     /// A straight-line diagram of a route.
     Diagram(Diagram),
-    /// The routes, and how long each is.
-    Routes(Rows<RouteLength>),
     /// What there is of each class.
     Totals(Rows<Total>),
     /// The stretches that an asset holds.
     Found(Rows<FoundRow>),
+    /// What is at a place.
+    Where(Whereabouts),
+    /// How long each value of each class is.
+    Lengths(Rows<ValueLength>),
+    /// What is listed of this inventory, which has all that the listing names. Each entry is made where it is written.
+    Listing {
+        listing: Listing,
+        of: &'a Inventory,
+    },
+    /// How many edits were accepted.
+    Health(u64),
 }

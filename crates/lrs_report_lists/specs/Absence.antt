@@ -8,7 +8,7 @@ use Rattle.lrs_machine.specs.declared.image.Image.{Image}
 use Rattle.lrs_machine.specs.declared.absence.Missing.{Missing}
 use Rattle.lrs_machine.specs.declared.absence.Missing.TheVariants as missing
 use Rattle.lrs_image.specs.Change.{is_named}
-use Rattle.lrs_report_lists.specs.declared.wanted.RowsWanted.{RowsWanted}
+use Rattle.lrs_machine.specs.declared.question.RowsWanted.{RowsWanted}
 
 abbrev pub has_route : Image → Name → Bool
 has_route i name = list_any (is_named name) i.routes

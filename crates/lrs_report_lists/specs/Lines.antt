@@ -4,6 +4,7 @@ use Rattle.std.specs.List.{find}
 use Rattle.std.specs.Option.{option_map_or}
 use Rattle.std.specs.Fmt.{decimal}
 use Rattle.lrs_element.specs.declared.link.Link.{Link}
+use Rattle.lrs_element.specs.declared.marks.Mark.{Mark}
 use Rattle.lrs_element.specs.Marks.{first_mark, last_mark}
 use Rattle.lrs_position.specs.declared.route.Referent.{Referent}
 use Rattle.lrs_position.specs.declared.route.Route.{Route}
@@ -35,6 +36,10 @@ class_line c = csv_line (c.name ∷ kind_text c.kind ∷ [])
 -- a referent: its name, its route, the chainage of its millimetre, and the measure there
 abbrev pub ref_line : Route → Referent → Text
 ref_line route r = csv_line (r.name ∷ route.name ∷ decimal r.at ∷ measure_text route.marks r.at ∷ [])
+
+-- a mark: its route, its chainage, and the measure there
+abbrev pub mark_line : Route → Mark → Text
+mark_line route m = csv_line (route.name ∷ decimal m.chainage ∷ decimal m.measure ∷ [])
 
 -- the asset of a number
 abbrev pub asset_numbered : List Asset → ℕ → Option Asset

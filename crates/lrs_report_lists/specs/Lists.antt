@@ -5,8 +5,8 @@ use Rattle.lrs_events.specs.declared.class.Asset.{Asset}
 use Rattle.lrs_machine.specs.declared.image.Image.{Image}
 use Rattle.lrs_machine.specs.declared.image.RouteRow.{RouteRow}
 use Rattle.lrs_machine.specs.Lines.{Text}
-use Rattle.lrs_report_lists.specs.declared.wanted.RowsWanted.{RowsWanted}
-use Rattle.lrs_report_lists.specs.Lines.{class_line, csv_line, gone_line, link_line, ref_line, route_line, row_line}
+use Rattle.lrs_machine.specs.declared.question.RowsWanted.{RowsWanted}
+use Rattle.lrs_report_lists.specs.Lines.{class_line, csv_line, gone_line, link_line, mark_line, ref_line, route_line, row_line}
 use Rattle.lrs_report_lists.specs.WantedRows.{is_of_edit, is_of_route, is_wanted}
 
 -- every route
@@ -27,6 +27,13 @@ refs_of e = flat_map (ref_line e.route) e.route.refs
 
 abbrev pub refs_text : Image → Text
 refs_text i = csv_line (codes "ref" ∷ codes "route" ∷ codes "chainage" ∷ codes "measure" ∷ []) ++ flat_map refs_of i.routes
+
+-- every mark of every route
+abbrev pub marks_of : RouteRow → Text
+marks_of e = flat_map (mark_line e.route) e.route.marks
+
+abbrev pub marks_text : Image → Text
+marks_text i = csv_line (codes "route" ∷ codes "chainage" ∷ codes "measure" ∷ []) ++ flat_map marks_of i.routes
 
 -- every row that is asked for, of every route that is asked for
 abbrev pub rows_header : Text

@@ -9,7 +9,7 @@ use Rattle.lrs_events.specs.declared.part.Part.{Part}
 use Rattle.lrs_events.specs.declared.span.Span.{Span}
 use Rattle.lrs_events.specs.Names.{side_text}
 use Rattle.lrs_machine.specs.Lines.{Text}
-use Rattle.lrs_report_lists.specs.declared.wanted.RowsWanted.{RowsWanted}
+use Rattle.lrs_machine.specs.declared.question.RowsWanted.{RowsWanted}
 use Rattle.lrs_report_lists.specs.Lines.{gone_line, link_side_text, reason_text, row_line, said_of}
 use Rattle.lrs_report_lists.specs.Measures.{measure_text}
 use Rattle.lrs_report_lists.specs.WantedRows.{is_of_edit, is_wanted}

@@ -5,7 +5,7 @@ use Rattle.lrs_events.specs.declared.part.Gone.{Gone}
 use Rattle.lrs_events.specs.declared.span.Span.{Span}
 use Rattle.lrs_machine.specs.declared.image.RouteRow.{RouteRow}
 use Rattle.lrs_image.specs.Change.{is_named}
-use Rattle.lrs_report_lists.specs.declared.wanted.RowsWanted.{RowsWanted}
+use Rattle.lrs_machine.specs.declared.question.RowsWanted.{RowsWanted}
 
 -- the route is of the name
 abbrev pub is_of_route : Option Name → RouteRow → Bool

@@ -6,10 +6,9 @@ ghost use Rattle.lrs_image.specs.OpenLists.{image_of};
 ghost use Rattle.lrs_report_lists.specs.Absence.{has_asset, has_class, has_edit, has_route, lacks, missing_row};
 
 use crate::presence::{knows_asset, knows_class, knows_edit, knows_route};
-use crate::wanted::RowsWanted;
 use lrs_events::ClassName;
 use lrs_image::KeptImage;
-use lrs_machine::Missing;
+use lrs_machine::{Missing, RowsWanted};
 use lrs_position::RouteName;
 
 /// Whether a route is named, and there is none of the name.

@@ -14,10 +14,10 @@ ghost use Rattle.lrs_report_lists.specs.WantedRows.{is_of_route};
 
 use crate::assets::asset_numbered;
 use crate::measures::write_measure;
-use crate::wanted::{RowsWanted, is_wanted};
+use crate::wanted::is_wanted;
 use lrs_events::{Asset, Span};
 use lrs_image::KeptImage;
-use lrs_machine::RouteRow;
+use lrs_machine::{RouteRow, RowsWanted};
 use lrs_ordered::Chunked;
 use lrs_position::{Route, RouteName};
 use std::io;

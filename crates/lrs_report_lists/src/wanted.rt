@@ -4,18 +4,7 @@ ghost use Rattle.std.specs.Prelude.{◌≡◌};
 ghost use Rattle.lrs_report_lists.specs.WantedRows.{earlier, has_between, is_number, is_of_class, is_of_edit, is_wanted, later};
 
 use lrs_events::{ClassName, Gone, Span};
-use lrs_position::RouteName;
-
-/// What is asked of rows: to lie on a route, to have a millimetre at or behind chainage `from` and before chainage `to`, to be
-/// of a class, and of an asset. What is not asked leaves out nothing.
-#[derive(Clone, Copy, PartialEq, Eq)]
-pub struct RowsWanted {
-    pub route: Option<RouteName>,
-    pub from: Option<u64>,
-    pub to: Option<u64>,
-    pub class: Option<ClassName>,
-    pub asset: Option<u64>,
-}
+use lrs_machine::RowsWanted;
 
 fn later(from: Option<u64>, at: u64) -> u64
     ensures { result ≡ later from at }

@@ -12,7 +12,7 @@ use Rattle.lrs_machine.specs.Lines.{Text, fields, method_text}
 use Rattle.lrs_machine.specs.declared.hit.Hit.{Hit}
 use Rattle.lrs_machine.specs.declared.segment.Segment.{Segment}
 use Rattle.lrs_report.specs.Drawings.Strips.{value_text}
-use Rattle.lrs_report_answers.specs.Lines.{direction_text}
+use Rattle.lrs_report_answers.specs.Answers.{direction_text}
 use Rattle.lrs_report_answers.specs.declared.hits.AtAnswer.{AtAnswer}
 use Rattle.lrs_report_answers.specs.declared.rows.FoundRow.{FoundRow}
 use Rattle.lrs_report_answers.specs.declared.told.Told.{Told}

@@ -257,8 +257,11 @@ pub(crate) fn count_segments(told: &Told<'_>) -> Result<usize, AllocError>
         | Told::Found(_)
         | Told::Route(_)
         | Told::Diagram(_)
-        | Told::Routes(_)
-        | Told::Totals(_) => Ok(0),
+        | Told::Totals(_)
+        | Told::Where(_)
+        | Told::Lengths(_)
+        | Told::Listing { .. }
+        | Told::Health(_) => Ok(0),
     }
 }
 
@@ -288,6 +291,12 @@ pub(crate) fn write_told<W: Write>(
             segments,
             ..
         } => write_segments(writer, key, &route, side, count, segments),
-        Told::Route(_) | Told::Diagram(_) | Told::Routes(_) | Told::Totals(_) => Ok(()),
+        Told::Route(_)
+        | Told::Diagram(_)
+        | Told::Totals(_)
+        | Told::Where(_)
+        | Told::Lengths(_)
+        | Told::Listing { .. }
+        | Told::Health(_) => Ok(()),
     }
 }

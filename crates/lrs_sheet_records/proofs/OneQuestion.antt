@@ -47,8 +47,11 @@ questions-alike (question.Find asset) r known same alike = absurd (differ (same_
 questions-alike (question.Segments route side classes) r known same alike = absurd (differ (same_name (codes "segments")) (codes "segments") (question_of r) same refl refl)
 questions-alike (question.Route route) r known same alike = absurd (nameless known)
 questions-alike (question.Diagram route classes from to) r known same alike = absurd (nameless known)
-questions-alike question.Routes r known same alike = absurd (nameless known)
 questions-alike question.Totals r known same alike = absurd (nameless known)
+questions-alike (question.Where spot) r known same alike = absurd (nameless known)
+questions-alike (question.Lengths route) r known same alike = absurd (nameless known)
+questions-alike (question.List listing) r known same alike = absurd (nameless known)
+questions-alike question.Health r known same alike = absurd (nameless known)
 
 -- the fields ask one question
 pub one-question : (row : List Text) (key other : Text) (q r : Question) → SaysQuestion row key q → SaysQuestion row other r → (key ≡ other) × (q ≡ r)

@@ -2,7 +2,6 @@
 #![tactic(auto)]
 
 mod door;
-mod log;
 mod questions;
 mod request;
 mod sheet;

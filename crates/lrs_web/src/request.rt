@@ -3,25 +3,20 @@
 ghost use Rattle.std.specs.Prelude.{◌≡◌, ◌⊎◌, IfOk, IfSome, MatchOption, Err, true, false};
 ghost use Rattle.lrs_web_requests.specs.Request.{Asked, IsServed, asked_by};
 ghost use Rattle.lrs_web_requests.specs.Text.{Answer, answer_of, empty_answer};
-ghost use Rattle.lrs_web_replies.specs.Questions.{is_reported};
-ghost use Rattle.lrs_web_replies.specs.ReportAnswers.{AnswersReport};
 ghost use Rattle.lrs_web_requests.specs.declared.paths.Resource.TheVariants as path;
 ghost use Rattle.lrs_web_requests.specs.Request.{verb_of};
 ghost use Rattle.lrs_web_requests.specs.declared.response.Verb.TheVariants.{Get};
-ghost use Rattle.lrs_web.specs.QueryAnswers.{AnswersAsked, log_answer};
+ghost use Rattle.lrs_web.specs.QueryAnswers.{AnswersAsked};
 ghost use Rattle.lrs_web.specs.Questions.{AnswersQuestions};
 ghost use Rattle.lrs_web.specs.Sheets.{DoesSheet};
 ghost use Rattle.lrs_web.specs.RequestAnswers.{Does, Responds, Serves, Writes, allowed_answer, sheet_at};
 
-use crate::log::log_reply;
 use crate::questions::answer_questions;
 use crate::sheet::do_sheet;
 use http::StatusCode;
 use lrs_desk::{Desk, Keeper};
 use lrs_sheet::Sheet;
-use lrs_web_replies::{
-    Report, is_reported, log_from, question_of, reply_to, report_of, report_reply, unasked,
-};
+use lrs_web_replies::{question_of, reply_to, unasked};
 use lrs_web_requests::{
     BodyFault, Request, Resource, Response, Verb, receive, routes, write_reply, write_unavailable,
 };
@@ -74,6 +69,7 @@ fn allowed_reply(verb: Verb) -> Response
     }
 }
 
+/// The reply to the question that a resource is asked.
 #[tactic(auto, using(crate::proofs::Asking::answered, crate::proofs::Asking::refused))]
 fn question_reply<K: Keeper>(
     alloc: Global,
@@ -82,8 +78,6 @@ fn question_reply<K: Keeper>(
     desk: &Desk<K>,
 ) -> Result<Response, AllocError>
     requires verb { verb_of resource ≡ Get }
-    requires question { resource ≡ path.Log → ⊥ }
-    requires told { is_reported resource ≡ false }
     requires behind { desk.now.is_ahead ≡ false }
     ensures { IfOk result (λ reply. AnswersAsked desk.now.image resource argument.now
         (answer_of reply)) }
@@ -92,95 +86,6 @@ fn question_reply<K: Keeper>(
         Ok(question) => reply_to(alloc, desk.ask(question)),
         Err(fault) => unasked(alloc, fault),
     }
-}
-
-fn desk_log_reply<K: Keeper>(
-    alloc: Global,
-    from: u64,
-    desk: &Desk<K>,
-) -> Result<Response, AllocError>
-    ensures { IfOk result (λ reply. answer_of reply ≡ log_answer from desk.now.image) }
-{
-    log_reply(alloc, desk.inventory().kept(), from)
-}
-
-#[tactic(auto, using(crate::proofs::Asking::logged, crate::proofs::Asking::refused))]
-fn log_query_reply<K: Keeper>(
-    alloc: Global,
-    argument: &[u8],
-    desk: &Desk<K>,
-) -> Result<Response, AllocError>
-    ensures { IfOk result (λ reply. AnswersAsked desk.now.image path.Log argument.now
-        (answer_of reply)) }
-{
-    match log_from(alloc, argument) {
-        Ok(from) => desk_log_reply(alloc, from, desk),
-        Err(fault) => unasked(alloc, fault),
-    }
-}
-
-fn desk_report_reply<K: Keeper>(
-    alloc: Global,
-    report: &Report,
-    desk: &Desk<K>,
-) -> Result<Response, AllocError>
-    ensures { IfOk result (λ reply. AnswersReport desk.now.image report.now (answer_of reply)) }
-{
-    report_reply(alloc, desk.inventory(), report)
-}
-
-#[tactic(auto, using(crate::proofs::Asking::reported, crate::proofs::Asking::refused))]
-fn report_query_reply<K: Keeper>(
-    alloc: Global,
-    resource: Resource,
-    argument: &[u8],
-    desk: &Desk<K>,
-) -> Result<Response, AllocError>
-    requires report { is_reported resource ≡ true }
-    ensures { IfOk result (λ reply. AnswersAsked desk.now.image resource argument.now
-        (answer_of reply)) }
-{
-    match report_of(alloc, resource, argument) {
-        Ok(report) => desk_report_reply(alloc, &report, desk),
-        Err(fault) => unasked(alloc, fault),
-    }
-}
-
-/// The reply to a question, or with the log.
-fn told_reply<K: Keeper>(
-    alloc: Global,
-    resource: Resource,
-    argument: &[u8],
-    desk: &Desk<K>,
-) -> Result<Response, AllocError>
-    requires verb { verb_of resource ≡ Get }
-    requires told { is_reported resource ≡ false }
-    requires behind { desk.now.is_ahead ≡ false }
-    ensures { IfOk result (λ reply. AnswersAsked desk.now.image resource argument.now
-        (answer_of reply)) }
-{
-    match resource {
-        Resource::Log => log_query_reply(alloc, argument, desk),
-        _ => question_reply(alloc, resource, argument, desk),
-    }
-}
-
-/// The reply to a question, or with the log or a report.
-fn asked_reply<K: Keeper>(
-    alloc: Global,
-    resource: Resource,
-    argument: &[u8],
-    desk: &Desk<K>,
-) -> Result<Response, AllocError>
-    requires verb { verb_of resource ≡ Get }
-    requires behind { desk.now.is_ahead ≡ false }
-    ensures { IfOk result (λ reply. AnswersAsked desk.now.image resource argument.now
-        (answer_of reply)) }
-{
-    if is_reported(resource) {
-        return report_query_reply(alloc, resource, argument, desk);
-    }
-    told_reply(alloc, resource, argument, desk)
 }
 
 // Once a commit of several commands has failed, nothing is answered: not even that a parameter cannot be read. The
@@ -204,7 +109,7 @@ fn query_reply<K: Keeper>(
     if resource == Resource::Health && desk.must_reopen() {
         return Response::empty(StatusCode::SERVICE_UNAVAILABLE);
     }
-    match asked_reply(alloc, resource, argument, desk) {
+    match question_reply(alloc, resource, argument, desk) {
         Ok(reply) => reply,
         Err(_) => Response::empty(StatusCode::SERVICE_UNAVAILABLE),
     }

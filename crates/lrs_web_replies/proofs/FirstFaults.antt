@@ -1,5 +1,5 @@
 -- Which parameter is the first malformed one.
-use Rattle.std.proofs.Common.{◌≡◌, ℕ, Bool, true, false, if◌then◌else◌, List, [], ◌∷◌, Option, Result, Ok, Err, IfErr, refl, sym, ap, subst, inl, inr}
+use Rattle.std.proofs.Common.{◌≡◌, ℕ, Bool, true, false, if◌then◌else◌, List, [], ◌∷◌, Option, refl, sym, ap, subst, inl, inr}
 use Rattle.std.specs.Prelude.{⊤}
 use Rattle.lrs_measure.specs.Texts.{Name}
 use Rattle.lrs_position.specs.declared.expression.Expr.{Expr}
@@ -115,11 +115,10 @@ diagram_to query e route classes from given named began lacks =
 pub find_asset : (query : Text) (e : QueryFault) → Lacks Asset query e → CannotAsk path.Find query e
 find_asset query e lacks = find query e (first query Asset [] e lacks)
 
-pub log_edit : (query : Text) (from : Result ℕ QueryFault) → IfErr from (Lacks FirstEdit query) → IfErr from (CannotAsk path.Log query)
-log_edit query (Ok number) lacks = tt
-log_edit query (Err e) lacks = log query e (first query FirstEdit [] e lacks)
+pub log_edit : (query : Text) (e : QueryFault) → Lacks FirstEdit query e → CannotAsk path.Log query e
+log_edit query e lacks = log query e (first query FirstEdit [] e lacks)
 
--- ---- reports
+-- ---- lists
 
 rows : (query : Text) (e : QueryFault) → FaultAmong query (RouteOrAll ∷ From ∷ UpTo ∷ ClassOrAll ∷ AssetOrAll ∷ []) e → CannotAsk path.Rows query e
 rows query (Malformed p) among = among

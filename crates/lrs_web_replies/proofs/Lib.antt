@@ -3,4 +3,3 @@ pub mod FirstFaults
 pub mod ClassNames
 pub mod Said
 pub mod Listing
-pub mod Replying

@@ -13,7 +13,7 @@ use Rattle.lrs_machine.specs.Lines.{Text}
 use Rattle.lrs_report_lists.proofs.Chosen.{texts_of_chosen}
 use Rattle.lrs_web_replies.specs.Answers.{segment_data, segments_data}
 use Rattle.lrs_web_replies.specs.Parts.{front_text, item_text, opened_text, segments_end, segments_front}
-use Rattle.lrs_web_replies.specs.Reports.{named_list}
+use Rattle.lrs_web_replies.specs.Listings.{named_list}
 use Rattle.lrs_web_replies.specs.JsonParts.{each, list}
 
 -- what follows the first item

@@ -12,9 +12,9 @@ use Rattle.lrs_events.specs.declared.span.Span.{Span}
 use Rattle.lrs_machine.specs.declared.segment.Segment.{Segment}
 use Rattle.lrs_machine.specs.declared.hit.Hit.{Hit}
 use Rattle.lrs_report_answers.specs.declared.places.answer.Whereabouts.{Whereabouts}
-use Rattle.lrs_web_replies.specs.Reports.{gone_data_with, named_list, place_data, row_data_with, whereabouts_data}
+use Rattle.lrs_web_replies.specs.Listings.{gone_data_with, named_list, row_data_with}
 use Rattle.lrs_web_replies.specs.JsonParts.{each}
-use Rattle.lrs_web_replies.specs.Answers.{at_data, hit_data, mark_data, piece_data, referent_data, route_data, ShowsRoute, value_data, segment_data}
+use Rattle.lrs_web_replies.specs.Answers.{at_data, hit_data, mark_data, piece_data, referent_data, route_data, ShowsRoute, value_data, segment_data, place_data, whereabouts_data}
 
 neither : (a b : Bool) → a ≡ false → b ≡ false → (a || b) ≡ false
 neither a b p q = ap (λ x. x || b) p ∙ q
@@ -62,7 +62,7 @@ whereabouts_whole d w is =
     let positions = neither (has_float (each place_data w.positions)) false (each_whole place_data (λ e. refl) w.positions) refl in
     ap has_float is ∙ neither (has_float (each hit_data w.found.hits)) (has_float (each place_data w.positions) || false) (each_whole hit_data (λ h. refl) w.found.hits) positions
 
--- ---- entries of reports, of a known asset or of none
+-- ---- entries of lists, of a known asset or of none
 
 pub row_whole : (a : Option Asset) (route : Route) (r : Span) → has_float (row_data_with a route r) ≡ false
 row_whole None route r = refl

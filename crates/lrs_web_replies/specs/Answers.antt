@@ -1,5 +1,5 @@
 -- Answers to questions, as JSON: an object with its members in the order of their names.
-use Rattle.std.specs.Prelude.{◌≡◌, ℕ, Bool, List, [], ◌∷◌, ◌++◌, codes, if◌then◌else◌, Option, None, Some, length}
+use Rattle.std.specs.Prelude.{◌≡◌, ℕ, List, [], ◌∷◌, ◌++◌, codes, Option, None, Some, length}
 use Rattle.std.specs.Fmt.{decimal}
 use Rattle.serde_json.specs.Data.{Data, string}
 use Rattle.lrs_measure.specs.Fraction.{Fraction}
@@ -19,15 +19,13 @@ use Rattle.lrs_machine.specs.declared.segment.Segment.{Segment}
 use Rattle.lrs_machine.specs.declared.total.Total.{Total}
 use Rattle.lrs_machine.specs.declared.hit.Hit.{Hit}
 use Rattle.lrs_machine.specs.Lines.{Text, method_text, piece_text}
+use Rattle.lrs_report_answers.specs.Answers.{direction_text}
 use Rattle.lrs_report_answers.specs.declared.rows.FoundRow.{FoundRow}
-use Rattle.lrs_report_answers.specs.declared.route_list.RouteLength.{RouteLength}
+use Rattle.lrs_report_answers.specs.declared.places.answer.Whereabouts.{Whereabouts}
+use Rattle.lrs_report_lists.specs.declared.length_lists.table.ValueLength.{ValueLength}
 use Rattle.lrs_web_replies.specs.JsonParts.{whole, list, each, with}
 
 -- ---- where a position stands
-
--- whether a route runs along a link or against it
-abbrev pub direction_text : Bool → Text
-direction_text forward = if forward then codes "+" else codes "-"
 
 -- an asset that holds a millimetre, the edit that entered it, and the side on which it holds it
 abbrev pub hit_data : Hit → Data
@@ -110,15 +108,6 @@ total_data t = with (
 abbrev pub totals_data : List Total → Data
 totals_data totals = with ((codes "totals", each total_data totals) ∷ [])
 
--- ---- the routes
-
--- a route, and how long it is in millimetres
-abbrev pub route_length_data : RouteLength → Data
-route_length_data r = with ((codes "length", whole r.length) ∷ (codes "name", string r.route) ∷ [])
-
-abbrev pub routes_data : List RouteLength → Data
-routes_data routes = with ((codes "routes", each route_length_data routes) ∷ [])
-
 -- ---- where an asset is
 
 -- a stretch of a route that an asset holds, and its side
@@ -129,6 +118,38 @@ row_data r = with (
 
 abbrev pub found_data : List FoundRow → Data
 found_data rows = with ((codes "rows", each row_data rows) ∷ [])
+
+-- ---- lengths
+
+-- a value of a class: how many millimetres of the routes it holds on the left, on either side, and on the right
+abbrev pub length_data : ValueLength → Data
+length_data l = with (
+    (codes "class", string l.class) ∷ (codes "left", whole l.left) ∷ (codes "length", whole l.length) ∷ (codes "right", whole l.right)
+    ∷ (codes "value", string l.value) ∷ []
+    )
+
+abbrev pub lengths_data : List ValueLength → Data
+lengths_data lengths = with ((codes "lengths", each length_data lengths) ∷ [])
+
+-- ---- what is at a place
+
+-- the place by a method
+abbrev pub place_data : Expr → Data
+place_data e = with ((codes "method", string (method_text e)) ∷ (codes "pos", string (expression_text e)) ∷ [])
+
+-- the members that a position has, and the place by each method and from each referent
+abbrev pub whereabouts_data : Whereabouts → Data
+whereabouts_data w = with (
+    (codes "at", whole w.found.at) ∷ (codes "dir", string (direction_text w.found.ground.forward)) ∷ (codes "hits", each hit_data w.found.hits)
+    ∷ (codes "link", whole w.found.ground.link) ∷ (codes "mm", whole w.found.ground.mm) ∷ (codes "positions", each place_data w.positions)
+    ∷ (codes "route", string w.route) ∷ []
+    )
+
+-- ---- health
+
+-- how many edits were accepted
+abbrev pub health_data : ℕ → Data
+health_data edits = with ((codes "edits", whole edits) ∷ [])
 
 -- ---- why there is no answer
 

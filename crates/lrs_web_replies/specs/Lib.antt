@@ -4,7 +4,6 @@ pub mod Answers
 pub mod Questions
 pub mod Faults
 pub mod Replies
-pub mod Reports
-pub mod ReportAnswers
+pub mod Listings
 pub mod Parts
 pub mod QuestionAnswers

@@ -1,9 +1,10 @@
--- Parts of the text of a report or of segments, as they are written one behind the other.
+-- Parts of the text of a list or of segments, as they are written one behind the other.
 use Rattle.std.specs.Prelude.{ℕ, if◌then◌else◌, List, [], ◌∷◌, ◌++◌, codes, Option}
 use Rattle.std.specs.List.{flat_map}
 use Rattle.serde_json.specs.Data.{Data, string}
 use Rattle.serde_json.specs.Written.{compact_text}
 use Rattle.lrs_measure.specs.Texts.{Name}
+use Rattle.lrs_element.specs.declared.marks.Mark.{Mark}
 use Rattle.lrs_position.specs.declared.route.Referent.{Referent}
 use Rattle.lrs_position.specs.declared.route.Route.{Route}
 use Rattle.lrs_events.specs.declared.class.Asset.{Asset}
@@ -13,9 +14,9 @@ use Rattle.lrs_events.specs.declared.span.Span.{Span}
 use Rattle.lrs_events.specs.Names.{side_text}
 use Rattle.lrs_machine.specs.declared.image.RouteRow.{RouteRow}
 use Rattle.lrs_machine.specs.Lines.{Text}
-use Rattle.lrs_report_lists.specs.declared.wanted.RowsWanted.{RowsWanted}
+use Rattle.lrs_machine.specs.declared.question.RowsWanted.{RowsWanted}
 use Rattle.lrs_report_lists.specs.WantedRows.{is_of_edit, is_wanted}
-use Rattle.lrs_web_replies.specs.Reports.{gone_data, ref_data, refs_of, row_data, rows_of}
+use Rattle.lrs_web_replies.specs.Listings.{gone_data, mark_data, marks_of, ref_data, refs_of, row_data, rows_of}
 
 -- an object up to the value of its first member
 abbrev pub front_text : Text → Text
@@ -45,6 +46,14 @@ segments_end side = name_text (codes "side") ++ (compact_text (string (side_text
 -- a referent
 abbrev pub ref_part : Route → Referent → Text
 ref_part route r = item_text (ref_data route r)
+
+-- a mark
+abbrev pub mark_part : Route → Mark → Text
+mark_part route m = item_text (mark_data route m)
+
+-- the marks of a route
+abbrev pub marks_part : RouteRow → Text
+marks_part e = flat_map item_text (marks_of e)
 
 -- the referents of a route
 abbrev pub refs_part : RouteRow → Text

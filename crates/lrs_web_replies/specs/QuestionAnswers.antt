@@ -9,10 +9,11 @@ use Rattle.lrs_report_answers.specs.declared.told.Told.TheVariants as told
 use Rattle.lrs_report_answers.specs.ToldAnswers.{IsTold}
 use Rattle.lrs_report.specs.Drawings.Pictures.{diagram_text}
 use Rattle.lrs_web_requests.specs.Text.{Answer}
-use Rattle.lrs_web_replies.specs.Answers.{at_data, ShowsRoute, segments_data, translated_data, on_link_data, routes_data, totals_data, found_data}
+use Rattle.lrs_web_replies.specs.Answers.{at_data, ShowsRoute, segments_data, translated_data, on_link_data, totals_data, found_data, whereabouts_data, lengths_data, health_data}
+use Rattle.lrs_web_replies.specs.Listings.{listing_answer}
 use Rattle.lrs_web_replies.specs.Replies.{json_answer, svg_answer, refusal}
 
--- The table: the reply to each answer. A diagram is a picture, and any other answer is JSON.
+-- The table: the reply to each answer. A diagram is a picture, the log an edit sheet, and any other answer JSON.
 abbrev pub ShowsTold : Told → Answer → Type 0
 ShowsTold (told.At route found) answer = answer ≡ json_answer 200 (at_data route found.at found.ground found.hits)
 ShowsTold (told.Route route) answer = (d : Data) × ShowsRoute route d × (answer ≡ json_answer 200 d)
@@ -20,9 +21,12 @@ ShowsTold (told.Segments route side len classes segments) answer = answer ≡ js
 ShowsTold (told.Translated route e) answer = answer ≡ json_answer 200 (translated_data route e)
 ShowsTold (told.OnLink route link distance) answer = answer ≡ json_answer 200 (on_link_data route (link, distance))
 ShowsTold (told.Diagram diagram) answer = answer ≡ svg_answer (diagram_text diagram)
-ShowsTold (told.Routes routes) answer = answer ≡ json_answer 200 (routes_data routes)
 ShowsTold (told.Totals totals) answer = answer ≡ json_answer 200 (totals_data totals)
 ShowsTold (told.Found rows) answer = answer ≡ json_answer 200 (found_data rows)
+ShowsTold (told.Where w) answer = answer ≡ json_answer 200 (whereabouts_data w)
+ShowsTold (told.Lengths lengths) answer = answer ≡ json_answer 200 (lengths_data lengths)
+ShowsTold (told.Listing l of) answer = answer ≡ listing_answer of.now l
+ShowsTold (told.Health edits) answer = answer ≡ json_answer 200 (health_data edits)
 
 -- What is told is shown, or why nothing is told.
 abbrev pub IsReplyTo : Result Told AskFault → Answer → Type 0

@@ -11,7 +11,7 @@ use Rattle.lrs_position.specs.Names.{is_route_name}
 use Rattle.lrs_position.specs.Readings.{IsNamed, States, method_text, target_text}
 use Rattle.lrs_events.specs.declared.side.Side.{Side}
 use Rattle.lrs_events.specs.Names.{is_class_name, side_text}
-use Rattle.lrs_report_lists.specs.declared.wanted.RowsWanted.{RowsWanted}
+use Rattle.lrs_machine.specs.declared.question.RowsWanted.{RowsWanted}
 use Rattle.lrs_machine.specs.declared.question.Spot.{Spot}
 use Rattle.lrs_machine.specs.declared.question.Spot.TheVariants as spot
 use Rattle.lrs_web_requests.specs.Query.{parameter, parameters}
@@ -23,8 +23,7 @@ use Rattle.lrs_web_replies.specs.declared.question.Parameter.{Parameter}
 use Rattle.lrs_web_replies.specs.declared.question.Parameter.TheVariants.{Route, RouteOrAll, Method as Way, Position, To, Side as Hand, Class, ClassOrAll, ClassesOrAll, From, UpTo, Asset, AssetOrAll, FirstEdit, EditOrAll, Chainage, OnLink, Millimetre}
 use Rattle.lrs_machine.specs.declared.question.Question.{Question}
 use Rattle.lrs_machine.specs.declared.question.Question.TheVariants as question
-use Rattle.lrs_web_replies.specs.declared.report.Report.{Report}
-use Rattle.lrs_web_replies.specs.declared.report.Report.TheVariants as report
+use Rattle.lrs_machine.specs.declared.question.Listing.TheVariants as listing
 use Rattle.lrs_web_replies.specs.declared.question.QueryFault.{QueryFault}
 use Rattle.lrs_web_replies.specs.declared.question.QueryFault.TheVariants.{Malformed, NoRoute, Memory}
 
@@ -186,41 +185,21 @@ AsksOf path.At query (question.At route e) = GivesRoute query route × GivesPosi
 AsksOf path.Route name (question.Route route) = SaysRoute name route
 AsksOf path.Segments query (question.Segments route side classes) = GivesRoute query route × GivesSide query side × GivesClasses query classes
 AsksOf path.Translate query (question.Translate route e to) = GivesRoute query route × GivesPosition query e × GivesDestination query to
-AsksOf path.Totals query question.Totals = ⊤
+AsksOf path.Totals query q = q ≡ question.Totals
 AsksOf path.Diagram query (question.Diagram route classes from to) =
     GivesRoute query route × GivesClassesOrAll query classes × GivesFrom query from × GivesUpTo query to
-AsksOf path.Routes query question.Routes = ⊤
 AsksOf path.Find query (question.Find asset) = GivesAsset query asset
+AsksOf path.Where query (question.Where spot) = GivesSpot query spot
+AsksOf path.Lengths query (question.Lengths route) = GivesRouteOrAll query route
+AsksOf path.Routes query q = q ≡ question.List listing.Routes
+AsksOf path.Links query q = q ≡ question.List listing.Links
+AsksOf path.Classes query q = q ≡ question.List listing.Classes
+AsksOf path.Refs query q = q ≡ question.List listing.Refs
+AsksOf path.Rows query (question.List (listing.Rows wanted)) = GivesRows query wanted
+AsksOf path.Gone query (question.List (listing.Gone edit)) = GivesEditOrAll query edit
+AsksOf path.Log query (question.List (listing.Log from)) = GivesFirstEdit query from
+AsksOf path.Health query q = q ≡ question.Health
 AsksOf _ argument q = ⊥
-
--- A resource is asked for the log from this edit on.
-abbrev pub AsksLog : Resource → Text → ℕ → Type 0
-AsksLog path.Log query from = GivesFirstEdit query from
-AsksLog _ argument from = ⊥
-
--- What is reported where a resource is asked by this argument.
-abbrev pub AsksReport : Resource → Text → Report → Type 0
-AsksReport path.Health query report.Health = ⊤
-AsksReport path.Links query report.Links = ⊤
-AsksReport path.Classes query report.Classes = ⊤
-AsksReport path.Refs query report.Refs = ⊤
-AsksReport path.Rows query (report.Rows wanted) = GivesRows query wanted
-AsksReport path.Lengths query (report.Lengths route) = GivesRouteOrAll query route
-AsksReport path.Gone query (report.Gone edit) = GivesEditOrAll query edit
-AsksReport path.Where query (report.Where spot) = GivesSpot query spot
-AsksReport _ argument r = ⊥
-
--- a resource is answered by a report
-abbrev pub is_reported : Resource → Bool
-is_reported path.Health = true
-is_reported path.Links = true
-is_reported path.Classes = true
-is_reported path.Refs = true
-is_reported path.Rows = true
-is_reported path.Lengths = true
-is_reported path.Gone = true
-is_reported path.Where = true
-is_reported _ = false
 
 -- ---- what cannot be asked
 

@@ -3,12 +3,13 @@ use Rattle.std.specs.Prelude.{ℕ, ◌++◌, Option, None, Some, Result, Ok, Err
 use Rattle.serde_json.specs.Data.{Data}
 use Rattle.serde_json.specs.Written.{compact_text}
 use Rattle.lrs_machine.specs.Lines.{Text}
+use Rattle.lrs_machine.specs.declared.absence.Missing.TheVariants as missing
 use Rattle.lrs_report_answers.specs.declared.fault.AskFault.{AskFault}
 use Rattle.lrs_report_answers.specs.declared.cause.AskCause.{AskCause}
 use Rattle.lrs_report_answers.specs.declared.cause.AskCause.TheVariants as cause
 use Rattle.lrs_report_answers.specs.Causes.{cause_of, cause_text}
 use Rattle.lrs_web_requests.specs.declared.response.ContentType.{ContentType}
-use Rattle.lrs_web_requests.specs.declared.response.ContentType.TheVariants.{Json, Svg}
+use Rattle.lrs_web_requests.specs.declared.response.ContentType.TheVariants.{Csv, Json, Svg}
 use Rattle.lrs_web_requests.specs.Text.{Answer, empty_answer}
 use Rattle.lrs_web_replies.specs.Answers.{error_data}
 use Rattle.lrs_web_replies.specs.Questions.{parameter_text}
@@ -30,6 +31,10 @@ json_answer status d = json_bytes status (compact_text d)
 abbrev pub svg_answer : Text → Answer
 svg_answer = answer_with 200 Svg
 
+-- these bytes are an edit sheet
+abbrev pub sheet_answer : Text → Answer
+sheet_answer = answer_with 200 Csv
+
 abbrev pub error_answer : ℕ → Text → Answer
 error_answer status cause = json_answer status (error_data cause)
 
@@ -39,7 +44,7 @@ unavailable = empty_answer 503
 
 -- no such route is 404, and any other refusal 422
 abbrev pub status_of : AskCause → ℕ
-status_of cause.NoRoute = 404
+status_of (cause.Missing missing.Route) = 404
 status_of _ = 422
 
 abbrev pub cause_answer : Option AskCause → Answer

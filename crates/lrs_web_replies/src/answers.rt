@@ -4,8 +4,9 @@ ghost use Rattle.std.specs.Prelude.{◌≡◌, ◌++◌, false, map, IfOk, OnOk}
 ghost use Rattle.serde_json.specs.Data.{Data, object};
 ghost use Rattle.serde_json.specs.View.{members_view, view};
 ghost use Rattle.serde_json.specs.Written.{compact_text, has_float};
-ghost use Rattle.lrs_web_replies.specs.Reports.{lengths_data, named_list, whereabouts_data};
-ghost use Rattle.lrs_web_replies.specs.Answers.{at_data, direction_text, ShowsRoute, segments_data, translated_data, on_link_data, routes_data, totals_data, found_data, error_data};
+ghost use Rattle.lrs_web_replies.specs.Listings.{named_list};
+ghost use Rattle.lrs_report_answers.specs.Answers.{direction_text};
+ghost use Rattle.lrs_web_replies.specs.Answers.{at_data, ShowsRoute, segments_data, translated_data, on_link_data, health_data, lengths_data, totals_data, whereabouts_data, found_data, error_data};
 ghost use Rattle.lrs_web_replies.specs.Parts.{segments_end, segments_front};
 ghost use Rattle.lrs_machine.specs.Lines.{method_text};
 
@@ -17,7 +18,7 @@ use lrs_events::Side;
 use lrs_machine::{Hit, Total};
 use lrs_measure::Frac;
 use lrs_position::{Expr, Route, RouteName};
-use lrs_report_answers::{FoundRow, RouteLength, RouteSegments, Whereabouts};
+use lrs_report_answers::{FoundRow, RouteSegments, Whereabouts};
 use lrs_report_lists::ValueLength;
 use serde_json::{Map, Value, json};
 use std::alloc::{AllocError, Global};
@@ -279,16 +280,6 @@ pub fn totals_json(alloc: Global, totals: &[Total]) -> Result<Vec<u8>, AllocErro
     list_json(alloc, "totals", totals)
 }
 
-/// The routes, and how long each is.
-///
-/// # Errors
-/// When memory runs out.
-pub fn routes_json(alloc: Global, routes: &[RouteLength]) -> Result<Vec<u8>, AllocError>
-    ensures { IfOk result (λ bytes. bytes.items ≡ compact_text (routes_data routes.now)) }
-{
-    list_json(alloc, "routes", routes)
-}
-
 /// The stretches that an asset holds.
 ///
 /// # Errors
@@ -334,6 +325,23 @@ pub fn whereabouts_json(alloc: Global, found: &Whereabouts) -> Result<Vec<u8>, A
     ensures { IfOk result (λ bytes. bytes.items ≡ compact_text (whereabouts_data found.now)) }
 {
     let value = whereabouts_value(alloc, found)?;
+    bytes_of(alloc, value)
+}
+
+fn health_value(alloc: Global, edits: u64) -> Result<Value, AllocError>
+    ensures { IfOk result (λ value. view value ≡ health_data edits) }
+{
+    object_of(alloc, &[Member("edits", Scalar::Whole(edits))])
+}
+
+/// How many edits were accepted.
+///
+/// # Errors
+/// When memory runs out.
+pub fn health_json(alloc: Global, edits: u64) -> Result<Vec<u8>, AllocError>
+    ensures { IfOk result (λ bytes. bytes.items ≡ compact_text (health_data edits)) }
+{
+    let value = health_value(alloc, edits)?;
     bytes_of(alloc, value)
 }
 

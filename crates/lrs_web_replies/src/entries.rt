@@ -1,4 +1,4 @@
-//! The entries of reports, as JSON.
+//! The entries of lists, as JSON.
 
 ghost use Rattle.std.specs.Prelude.{◌≡◌, IfOk};
 ghost use Rattle.std.specs.Option.{option_map};
@@ -6,21 +6,38 @@ ghost use Rattle.serde_json.specs.Data.{string};
 ghost use Rattle.serde_json.specs.View.{view};
 ghost use Rattle.lrs_report_lists.specs.Measures.{measure_text};
 ghost use Rattle.lrs_web_replies.specs.Members.{scalar_data};
-ghost use Rattle.lrs_web_replies.specs.Reports.{gone_data_with, ref_data, row_data_with, said_of};
+ghost use Rattle.lrs_web_replies.specs.Listings.{gone_data_with, mark_data, ref_data, row_data_with, said_of};
 ghost use Rattle.lrs_web_replies.specs.JsonParts.{whole};
 
 use crate::answers::method_of;
 use crate::list::Shown;
 use crate::members::{Member, Scalar, object_of};
-use lrs_element::Link;
+use lrs_element::{Link, Mark};
 use lrs_events::{Asset, Class, Gone, Span};
+use lrs_machine::RouteRow;
 use lrs_position::{Expr, Referent, Route};
 use lrs_report_lists::{ValueLength, link_side_text, measure_on, reason_text};
 use serde_json::Value;
 use std::alloc::{AllocError, Global};
 
+impl Shown for RouteRow {
+    ghost use Rattle.lrs_web_replies.specs.Listings.{route_length_data};
+
+    ghost shown = { route_length_data };
+
+    fn value(&self, alloc: Global) -> Result<Value, AllocError> {
+        object_of(
+            alloc,
+            &[
+                Member("length", Scalar::Whole(self.route.length())),
+                Member("name", Scalar::Route(self.route.name)),
+            ],
+        )
+    }
+}
+
 impl Shown for Link {
-    ghost use Rattle.lrs_web_replies.specs.Reports.{link_data};
+    ghost use Rattle.lrs_web_replies.specs.Listings.{link_data};
 
     ghost shown = { link_data };
 
@@ -36,7 +53,7 @@ impl Shown for Link {
 }
 
 impl Shown for Class {
-    ghost use Rattle.lrs_web_replies.specs.Reports.{class_data};
+    ghost use Rattle.lrs_web_replies.specs.Listings.{class_data};
 
     ghost shown = { class_data };
 
@@ -52,7 +69,7 @@ impl Shown for Class {
 }
 
 impl Shown for ValueLength {
-    ghost use Rattle.lrs_web_replies.specs.Reports.{length_data};
+    ghost use Rattle.lrs_web_replies.specs.Answers.{length_data};
 
     ghost shown = { length_data };
 
@@ -71,7 +88,7 @@ impl Shown for ValueLength {
 }
 
 impl Shown for Expr {
-    ghost use Rattle.lrs_web_replies.specs.Reports.{place_data};
+    ghost use Rattle.lrs_web_replies.specs.Answers.{place_data};
 
     ghost shown = { place_data };
 
@@ -107,6 +124,20 @@ pub(crate) fn ref_value(
             Member("chainage", Scalar::Whole(referent.at)),
             Member("measure", measure_at(route, referent.at)),
             Member("ref", Scalar::Referent(referent.name)),
+            Member("route", Scalar::Route(route.name)),
+        ],
+    )
+}
+
+/// A mark of a route.
+pub(crate) fn mark_value(alloc: Global, route: &Route, mark: &Mark) -> Result<Value, AllocError>
+    ensures { IfOk result (λ value. view value ≡ mark_data route.now mark.now) }
+{
+    object_of(
+        alloc,
+        &[
+            Member("chainage", Scalar::Whole(mark.chainage)),
+            Member("measure", Scalar::Whole(mark.measure)),
             Member("route", Scalar::Route(route.name)),
         ],
     )

@@ -1,22 +1,19 @@
-//! Questions over HTTP, asked by the parameters of a query and answered as JSON (RFC 8259) or SVG; and reports, as JSON.
+//! Questions over HTTP, asked by the parameters of a query and answered as JSON (RFC 8259), SVG or CSV.
 #![tactic(auto)]
 
-mod absence;
 mod answers;
 mod entries;
 mod list;
+mod list_parameters;
 mod list_text;
+mod listings;
 mod members;
 mod parameters;
 mod parts;
 mod question;
 mod replies;
 mod reply;
-mod report;
-mod reports;
 
-pub use question::{Parameter, QueryFault, log_from, question_of};
+pub use question::{Parameter, QueryFault, question_of};
 pub use replies::reply_to;
 pub use reply::unasked;
-pub use report::{Report, is_reported, report_of};
-pub use reports::report_reply;

@@ -10,7 +10,7 @@ use lrs_element::{Mark, Piece};
 use lrs_events::Value as AssetValue;
 use lrs_machine::{Hit, Segment, Total, piece_text};
 use lrs_position::Referent;
-use lrs_report_answers::{FoundRow, RouteLength};
+use lrs_report_answers::FoundRow;
 use serde_json::Value;
 use std::alloc::{AllocError, Global};
 
@@ -133,22 +133,6 @@ impl Shown for Total {
                 Member("entered", Scalar::Whole(self.entered)),
                 Member("present", Scalar::Whole(self.present)),
                 Member("retired", Scalar::Whole(self.retired)),
-            ],
-        )
-    }
-}
-
-impl Shown for RouteLength {
-    ghost use Rattle.lrs_web_replies.specs.Answers.{route_length_data};
-
-    ghost shown = { route_length_data };
-
-    fn value(&self, alloc: Global) -> Result<Value, AllocError> {
-        object_of(
-            alloc,
-            &[
-                Member("length", Scalar::Whole(self.length)),
-                Member("name", Scalar::Route(self.route)),
             ],
         )
     }

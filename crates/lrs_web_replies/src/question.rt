@@ -1,16 +1,18 @@
-//! How questions, and the log, are asked for by the parameters of a query.
+//! How questions are asked by the parameters of a query.
 
-ghost use Rattle.std.specs.Prelude.{◌≡◌, IfOk, IfErr, false};
+ghost use Rattle.std.specs.Prelude.{◌≡◌, IfOk, IfErr};
 ghost use Rattle.lrs_web_requests.specs.declared.response.Verb.TheVariants as verb;
-ghost use Rattle.lrs_web_requests.specs.declared.paths.Resource.TheVariants as path;
 ghost use Rattle.lrs_web_requests.specs.Request.{verb_of};
-ghost use Rattle.lrs_web_replies.specs.Questions.{AsksLog, AsksOf, CannotAsk, is_reported, parameter_text};
+ghost use Rattle.lrs_web_replies.specs.Questions.{AsksOf, CannotAsk, parameter_text};
 
-use crate::parameters::{
-    asset_in, classes_in, classes_or_all_in, destination_in, first_edit_in, from_in, position_in,
-    route_in, side_in, to_in,
+use crate::list_parameters::{
+    gone_question, lengths_question, log_question, rows_question, where_question,
 };
-use lrs_machine::Question;
+use crate::parameters::{
+    asset_in, classes_in, classes_or_all_in, destination_in, from_in, position_in, route_in,
+    side_in, to_in,
+};
+use lrs_machine::{Listing, Question};
 use lrs_position::RouteName;
 use lrs_web_requests::Resource;
 use std::alloc::{AllocError, AllocFailed, Global};
@@ -190,9 +192,7 @@ pub fn question_of(
     resource: Resource,
     argument: &[u8],
 ) -> Result<Question, QueryFault>
-    requires verb { verb_of resource ≡ verb.Get }
-    requires question { resource ≡ path.Log → ⊥ }
-    requires told { is_reported resource ≡ false }
+    requires { verb_of resource ≡ verb.Get }
     ensures asked { IfOk result (AsksOf resource argument.now) }
     ensures unasked { IfErr result (CannotAsk resource argument.now) }
 {
@@ -203,32 +203,17 @@ pub fn question_of(
         Resource::Translate => translate_question(alloc, argument),
         Resource::Totals => Ok(Question::Totals),
         Resource::Diagram => diagram_question(alloc, argument),
-        Resource::Routes => Ok(Question::Routes),
         Resource::Find => find_question(alloc, argument),
-        Resource::Log
-        | Resource::Health
-        | Resource::Links
-        | Resource::Classes
-        | Resource::Refs
-        | Resource::Rows
-        | Resource::Lengths
-        | Resource::Gone
-        | Resource::Where
-        | Resource::Edits
-        | Resource::Surveys
-        | Resource::Questions => unreachable!(),
+        Resource::Where => where_question(alloc, argument),
+        Resource::Lengths => lengths_question(alloc, argument),
+        Resource::Routes => Ok(Question::List(Listing::Routes)),
+        Resource::Links => Ok(Question::List(Listing::Links)),
+        Resource::Classes => Ok(Question::List(Listing::Classes)),
+        Resource::Refs => Ok(Question::List(Listing::Refs)),
+        Resource::Rows => rows_question(alloc, argument),
+        Resource::Gone => gone_question(alloc, argument),
+        Resource::Log => log_question(alloc, argument),
+        Resource::Health => Ok(Question::Health),
+        Resource::Edits | Resource::Surveys | Resource::Questions => unreachable!(),
     }
-}
-
-/// From which edit on the log is asked for by the parameters of a query: from the first, where it is not said. Unknown
-/// parameters are passed over; of several of one name the first counts.
-///
-/// # Errors
-/// `Malformed` where the number of the edit cannot be read, and `Memory`.
-#[tactic(auto, using(crate::proofs::FirstFaults::log_edit))]
-pub fn log_from(alloc: Global, query: &[u8]) -> Result<u64, QueryFault>
-    ensures asked { IfOk result (AsksLog path.Log query.now) }
-    ensures unasked { IfErr result (CannotAsk path.Log query.now) }
-{
-    first_edit_in(alloc, query)
 }

@@ -6,14 +6,14 @@ ghost use Rattle.lrs_report.specs.Drawings.Pictures.{diagram_text};
 ghost use Rattle.lrs_web_requests.specs.Text.{answer_of};
 ghost use Rattle.lrs_web_replies.specs.QuestionAnswers.{IsReplyTo, ShowsTold};
 ghost use Rattle.lrs_web_replies.specs.Answers.{segments_data};
-ghost use Rattle.lrs_web_replies.specs.Replies.{json_answer, json_bytes};
+ghost use Rattle.lrs_web_replies.specs.Replies.{json_answer};
 
 use crate::answers::{
-    at_json, found_json, link_json, route_json, routes_json, segments_json, totals_json,
-    translated_json,
+    at_json, found_json, health_json, lengths_json, link_json, route_json, segments_json,
+    totals_json, translated_json, whereabouts_json,
 };
-use crate::reply::{json_reply, refusal, svg_reply};
-use http::StatusCode;
+use crate::listings::listing_reply;
+use crate::reply::{found_reply, refusal, svg_reply};
 use lrs_events::Side;
 use lrs_measure::Frac;
 use lrs_position::{Expr, RouteName};
@@ -31,13 +31,6 @@ fn diagram_bytes(alloc: Global, diagram: &Diagram) -> Result<Vec<u8>, AllocError
         Ok(()) => Ok(bytes),
         Err(_) => Err(AllocError),
     }
-}
-
-/// The reply with an answer that was found, as these bytes of JSON.
-fn found_reply(bytes: Vec<u8>) -> Response
-    ensures { answer_of result ≡ json_bytes 200 bytes.items }
-{
-    json_reply(StatusCode::OK, bytes)
 }
 
 fn at_reply(alloc: Global, route: &RouteName, found: &AtAnswer) -> Result<Response, AllocError>
@@ -86,7 +79,7 @@ fn on_link_reply(
     Ok(found_reply(bytes))
 }
 
-/// The reply to what is told to a question: a diagram as SVG, and any other answer as JSON.
+/// The reply to what is told to a question: a diagram as SVG, the log as CSV, and any other answer as JSON.
 fn told_reply(alloc: Global, told: Told<'_>) -> Result<Response, AllocError>
     ensures { IfOk result (λ reply. ShowsTold told.entry (answer_of reply)) }
 {
@@ -106,9 +99,12 @@ fn told_reply(alloc: Global, told: Told<'_>) -> Result<Response, AllocError>
             distance,
         } => on_link_reply(alloc, &route, link, distance),
         Told::Diagram(diagram) => Ok(svg_reply(diagram_bytes(alloc, &diagram)?)),
-        Told::Routes(routes) => Ok(found_reply(routes_json(alloc, routes.as_slice())?)),
         Told::Totals(totals) => Ok(found_reply(totals_json(alloc, totals.as_slice())?)),
         Told::Found(rows) => Ok(found_reply(found_json(alloc, rows.as_slice())?)),
+        Told::Where(found) => Ok(found_reply(whereabouts_json(alloc, &found)?)),
+        Told::Lengths(rows) => Ok(found_reply(lengths_json(alloc, rows.as_slice())?)),
+        Told::Listing { listing, of } => listing_reply(alloc, of, &listing),
+        Told::Health(edits) => Ok(found_reply(health_json(alloc, edits)?)),
     }
 }
 

@@ -7,6 +7,7 @@ ghost use Rattle.lrs_web_replies.specs.Replies as spec;
 use crate::answers::error_json;
 use crate::{Parameter, QueryFault};
 use http::StatusCode;
+use lrs_machine::Missing;
 use lrs_report_answers::{AskCause, AskFault, cause_of};
 use lrs_web_requests::{Content, ContentType, Response};
 use std::alloc::{AllocError, Global};
@@ -26,6 +27,20 @@ pub(crate) fn json_reply(status: StatusCode, bytes: Vec<u8>) -> Response
     ensures { answer_of result ≡ spec.json_bytes status bytes.items }
 {
     reply_with(status, ContentType::Json, bytes)
+}
+
+/// The reply with an answer, as these bytes of JSON.
+pub(crate) fn found_reply(bytes: Vec<u8>) -> Response
+    ensures { answer_of result ≡ spec.json_bytes 200 bytes.items }
+{
+    json_reply(StatusCode::OK, bytes)
+}
+
+/// The reply with an edit sheet, as these bytes of CSV.
+pub(crate) fn sheet_reply(bytes: Vec<u8>) -> Response
+    ensures { answer_of result ≡ spec.sheet_answer bytes.items }
+{
+    reply_with(StatusCode::OK, ContentType::Csv, bytes)
 }
 
 /// A reply with a picture, as these bytes of SVG.
@@ -51,8 +66,8 @@ fn status_for(cause: AskCause) -> StatusCode
     ensures { result ≡ spec.status_of cause }
 {
     match cause {
-        AskCause::NoRoute => StatusCode::NOT_FOUND,
-        AskCause::NoAsset
+        AskCause::Missing(Missing::Route) => StatusCode::NOT_FOUND,
+        AskCause::Missing(_)
         | AskCause::NoRef
         | AskCause::TooFine
         | AskCause::OffRoute

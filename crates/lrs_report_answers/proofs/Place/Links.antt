@@ -23,7 +23,7 @@ use Rattle.lrs_image_laws.proofs.Holding.{alone}
 use Rattle.lrs_image_laws.proofs.InOrder.{is_false}
 use Rattle.lrs_report_answers.specs.Answers.{IsRouteIn}
 use Rattle.lrs_report_answers.proofs.Asked.{route_in}
-use Rattle.lrs_report_answers.specs.declared.places.fault.WhereFault.TheVariants.{NoLink, OffRoute}
+use Rattle.lrs_machine.specs.declared.absence.Missing.TheVariants.{Link as NoLink, Place as NoPlace}
 use Rattle.lrs_report_answers.specs.Place.Laws.{LinksLeadBack}
 use Rattle.lrs_report_answers.specs.Place.Places.{Place, place_within, place_over, place_along}
 
@@ -111,6 +111,6 @@ leads_back i sound e chainage g known h =
     let inside = l.inside in
     let mm : min g.mm (l.link.length - 1) ≡ g.mm = omega (arith, inside) in
     ap (λ (o : Option Link). option_map_or (λ (x : Link). place_along i x g.mm) o (Err NoLink)) l.found
-    ∙ ap (λ (b : Bool). cond b (Err OffRoute) (ok_or (place_over i (l.link.number, min g.mm (l.link.length - 1))) OffRoute)) (le-ltb l.link.length g.mm (omega (arith, inside)))
-    ∙ (λ j. ok_or (place_over i (l.number j, mm j)) OffRoute)
-    ∙ ap (λ (o : Option Place). ok_or o OffRoute) (place_of_entry i e chainage g sound known h)
+    ∙ ap (λ (b : Bool). cond b (Err NoPlace) (ok_or (place_over i (l.link.number, min g.mm (l.link.length - 1))) NoPlace)) (le-ltb l.link.length g.mm (omega (arith, inside)))
+    ∙ (λ j. ok_or (place_over i (l.number j, mm j)) NoPlace)
+    ∙ ap (λ (o : Option Place). ok_or o NoPlace) (place_of_entry i e chainage g sound known h)

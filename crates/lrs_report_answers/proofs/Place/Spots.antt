@@ -13,8 +13,8 @@ use Rattle.lrs_machine.specs.declared.image.RouteRow.{RouteRow}
 use Rattle.lrs_machine.specs.Sound.{IsSound}
 use Rattle.lrs_image.specs.Change.{is_named}
 use Rattle.lrs_report_answers.specs.Answers.{IsRouteIn}
-use Rattle.lrs_report_answers.specs.declared.places.fault.WhereFault.{WhereFault}
-use Rattle.lrs_report_answers.specs.declared.places.fault.WhereFault.TheVariants.{NoRoute, NoLink, OffRoute}
+use Rattle.lrs_machine.specs.declared.absence.Missing.{Missing}
+use Rattle.lrs_machine.specs.declared.absence.Missing.TheVariants as missing
 use Rattle.lrs_machine.specs.declared.question.Spot.{Spot}
 use Rattle.lrs_machine.specs.declared.question.Spot.TheVariants.{OnRoute, OnLink}
 use Rattle.lrs_report_answers.specs.Place.Places.{Place, place_at, place_on_route, place_within, place_over, place_along, place_on_link, place_of}
@@ -25,7 +25,7 @@ pub record IsPlaceIn (i : Image) (p : Place) : Type 0 where
   pub known : IsRouteIn i p.0
   pub on_route : p.1 ≤ length p.0.route.course
 
-ok_is : (p q : Place) → ◌≡◌ {A = Result Place WhereFault} (Ok p) (Ok q) → p ≡ q
+ok_is : (p q : Place) → ◌≡◌ {A = Result Place Missing} (Ok p) (Ok q) → p ≡ q
 ok_is p q h = cc
 
 some_is : (p q : Place) → Some p ≡ Some q → p ≡ q
@@ -35,14 +35,14 @@ module _ (i : Image) (sound : IsSound i) (p : Place) where
   at_chainage : (chainage : ℕ) (e : RouteRow) → IsRouteIn i e → place_at chainage e ≡ Ok p → IsPlaceIn i p
   at_chainage chainage e known h = by (nat_lt (length e.route.course) chainage) refl h
     where
-      by : (b : Bool) → nat_lt (length e.route.course) chainage ≡ b → cond b (Err OffRoute) (Ok (e, chainage)) ≡ Ok p → IsPlaceIn i p
+      by : (b : Bool) → nat_lt (length e.route.course) chainage ≡ b → cond b (Err missing.Place) (Ok (e, chainage)) ≡ Ok p → IsPlaceIn i p
       by true t k = absurd (cc k)
       by false t k = subst (IsPlaceIn i) (ok_is (e, chainage) p k) (record { known = known; on_route = ltb-false (length e.route.course) chainage t })
 
   on_route : (name : Name) (chainage : ℕ) → place_on_route i name chainage ≡ Ok p → IsPlaceIn i p
   on_route name chainage h = by (find (is_named name) i.routes) refl h
     where
-      by : (o : Option RouteRow) → find (is_named name) i.routes ≡ o → option_map_or (place_at chainage) o (Err NoRoute) ≡ Ok p → IsPlaceIn i p
+      by : (o : Option RouteRow) → find (is_named name) i.routes ≡ o → option_map_or (place_at chainage) o (Err missing.Route) ≡ Ok p → IsPlaceIn i p
       by None e k = absurd (cc k)
       by (Some r) e k = at_chainage chainage r (is_route_in i (is_named name) r sound e) k
 
@@ -65,7 +65,7 @@ module _ (i : Image) (sound : IsSound i) (p : Place) where
   along : (link : Link) (mm : ℕ) → place_along i link mm ≡ Ok p → IsPlaceIn i p
   along link mm h = by (nat_lt link.length mm) (place_over i (link.number, min mm (link.length - 1))) refl h
     where
-      by : (b : Bool) (o : Option Place) → place_over i (link.number, min mm (link.length - 1)) ≡ o → cond b (Err OffRoute) (ok_or o OffRoute) ≡ Ok p → IsPlaceIn i p
+      by : (b : Bool) (o : Option Place) → place_over i (link.number, min mm (link.length - 1)) ≡ o → cond b (Err missing.Place) (ok_or o missing.Place) ≡ Ok p → IsPlaceIn i p
       by true o e k = absurd (cc k)
       by false None e k = absurd (cc k)
       by false (Some q) e k = over (link.number, min mm (link.length - 1)) (e ∙ ap (λ (x : Place). Some x) (ok_is q p k))
@@ -73,7 +73,7 @@ module _ (i : Image) (sound : IsSound i) (p : Place) where
   on_link : (number mm : ℕ) → place_on_link i number mm ≡ Ok p → IsPlaceIn i p
   on_link number mm h = by (find (λ link. nat_eq link.number number) i.links) h
     where
-      by : (o : Option Link) → option_map_or (λ (link : Link). place_along i link mm) o (Err NoLink) ≡ Ok p → IsPlaceIn i p
+      by : (o : Option Link) → option_map_or (λ (link : Link). place_along i link mm) o (Err missing.Link) ≡ Ok p → IsPlaceIn i p
       by None k = absurd (cc k)
       by (Some link) k = along link mm k
 

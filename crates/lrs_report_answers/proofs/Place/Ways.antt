@@ -27,9 +27,9 @@ use Rattle.lrs_machine.specs.Machine.{referent_chainage}
 use Rattle.lrs_machine.specs.Register.{get}
 use Rattle.lrs_machine.specs.Sound.{IsSound}
 use Rattle.lrs_report_answers.specs.declared.fault.AskFault.{AskFault}
-use Rattle.lrs_report_answers.specs.declared.fault.AskFault.TheVariants.{NoRoute, Place}
+use Rattle.lrs_report_answers.specs.declared.fault.AskFault.TheVariants.{Place}
 use Rattle.lrs_report_answers.specs.declared.hits.AtAnswer.{AtAnswer}
-use Rattle.lrs_report_answers.specs.Answers.{IsRouteIn, UnlessMemory, StandsAt, IsAt}
+use Rattle.lrs_report_answers.specs.Answers.{IsRouteIn, UnlessMemory, StandsAt, IsAt, route_missing}
 use Rattle.lrs_report_answers.proofs.Asked.{route_is, referents_are}
 use Rattle.lrs_report_answers.proofs.Located.{same_cell}
 use Rattle.lrs_report_answers.specs.Place.Answers.{IsPosition}
@@ -95,7 +95,7 @@ module _ (i : Image) (r : RouteRow) (sound : IsSound i) (known : IsRouteIn i r) 
     asked : IsAt (state_of i) r.route.name e result → Asked (referent_at r.route.refs)
     asked h =
         let on : Asked (referent_chainage (state_of i) (alignment_of r.route)) =
-        subst (λ (o : Option Alignment). MatchOption o (result ≡ Err NoRoute) (λ a. MatchResult (located_or_fault a (referent_chainage (state_of i) a) e) (λ x. UnlessMemory (StandsAt (state_of i) a x) result) (λ fault. result ≡ Err (Place fault)))) (sym route_value) h in
+        subst (λ (o : Option Alignment). MatchOption o (result ≡ Err route_missing) (λ a. MatchResult (located_or_fault a (referent_chainage (state_of i) a) e) (λ x. UnlessMemory (StandsAt (state_of i) a x) result) (λ fault. result ≡ Err (Place fault)))) (sym route_value) h in
         subst Asked (sym (referents_are i r sound known)) on
 
     at_value : (y : ℕ × ℕ) → cell (length r.route.course) y ≡ cell (length r.route.course) (k, 1) → (result : Result AtAnswer AskFault) → UnlessMemory (StandsAt (state_of i) (alignment_of r.route) y) result → UnlessMemory (StandsAt (state_of i) (alignment_of r.route) (k, 1)) result

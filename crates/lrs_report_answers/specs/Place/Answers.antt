@@ -1,5 +1,5 @@
 -- What is at a place: the ground there, who holds it, and the place by every method.
-use Rattle.std.specs.Prelude.{◌≡◌, ℕ, pos, List, ◌∷◌, map, Result, Ok, Err, MatchResult}
+use Rattle.std.specs.Prelude.{◌≡◌, ℕ, pos, List, ◌∷◌, map, Result, Err, MatchResult}
 use Rattle.std.specs.List.{AllZip}
 use Rattle.lrs_position.specs.declared.expression.Expr.{Expr}
 use Rattle.lrs_position.specs.declared.expression.Target.{Target}
@@ -11,10 +11,10 @@ use Rattle.lrs_position.specs.Translations.{alignment_of, referent_at, Expresses
 use Rattle.lrs_machine.specs.declared.image.Image.{Image}
 use Rattle.lrs_machine.specs.declared.image.RouteRow.{RouteRow}
 use Rattle.lrs_machine.specs.Image.{state_of}
-use Rattle.lrs_report_answers.specs.Answers.{StandsAt}
+use Rattle.lrs_report_answers.specs.Answers.{StandsAt, UnlessMemory}
 use Rattle.lrs_report_answers.specs.declared.places.answer.Whereabouts.{Whereabouts}
-use Rattle.lrs_report_answers.specs.declared.places.fault.WhereFault.{WhereFault}
-use Rattle.lrs_report_answers.specs.declared.places.fault.WhereFault.TheVariants.{Memory}
+use Rattle.lrs_report_answers.specs.declared.fault.AskFault.{AskFault}
+use Rattle.lrs_report_answers.specs.declared.fault.AskFault.TheVariants.{Missing}
 use Rattle.lrs_machine.specs.declared.question.Spot.{Spot}
 use Rattle.lrs_report_answers.specs.Place.Places.{place_of}
 
@@ -32,11 +32,6 @@ pub record IsThere (i : Image) (e : RouteRow) (chainage : ℕ) (w : Whereabouts)
   pub stands : StandsAt (state_of i) (alignment_of e.route) (chainage, 1) w.found
   pub by_targets : AllZip (IsPosition e.route chainage) (targets_of e.route.refs) w.positions
 
--- what is answered passes, unless memory ran out
-abbrev pub UnlessMemory : {A : Type 0} → (A → Type 0) → Result A WhereFault → Type 0
-UnlessMemory Passes (Ok found) = Passes found
-UnlessMemory Passes (Err fault) = fault ≡ Memory
-
 -- The answer is what is at the place of a spot, or why the spot has no place.
-abbrev pub IsWhereabouts : Image → Spot → Result Whereabouts WhereFault → Type 0
-IsWhereabouts i spot result = MatchResult (place_of i spot) (λ place. UnlessMemory (IsThere i place.0 place.1) result) (λ fault. result ≡ Err fault)
+abbrev pub IsWhereabouts : Image → Spot → Result Whereabouts AskFault → Type 0
+IsWhereabouts i spot result = MatchResult (place_of i spot) (λ place. UnlessMemory (IsThere i place.0 place.1) result) (λ what. result ≡ Err (Missing what))

@@ -4,11 +4,10 @@ ghost use Rattle.std.specs.Prelude.{◌≡◌, Ok, Err, length, nat_eq, IfOk, If
 ghost use Rattle.std.specs.List.{find};
 ghost use Rattle.lrs_report_answers.specs.Place.Places.{place_along, place_of, place_on_link, place_on_route};
 
-use crate::places::fault::WhereFault;
 use crate::places::ground::place_over;
 use lrs_element::Link;
 use lrs_inventory::Inventory;
-use lrs_machine::{RouteRow, Spot};
+use lrs_machine::{Missing, RouteRow, Spot};
 use lrs_position::RouteName;
 
 /// A chainage of the route of a name, which is found by search.
@@ -16,21 +15,21 @@ fn place_on_route<'a>(
     inventory: &'a Inventory,
     route: &RouteName,
     chainage: u64,
-) -> Result<(&'a RouteRow, u64), WhereFault>
+) -> Result<(&'a RouteRow, u64), Missing>
     ensures ok { IfOk result (λ place. place_on_route inventory.now route.now chainage
         ≡ Ok (place.0.now, place.1)) }
-    ensures err { IfErr result (λ fault. place_on_route inventory.now route.now chainage
-        ≡ Err fault) }
+    ensures err { IfErr result (λ missing. place_on_route inventory.now route.now chainage
+        ≡ Err missing) }
 {
     match inventory.route(route) {
         Some(row) => {
             if chainage > row.route.length() {
-                Err(WhereFault::OffRoute)
+                Err(Missing::Place)
             } else {
                 Ok((row, chainage))
             }
         }
-        None => Err(WhereFault::NoRoute),
+        None => Err(Missing::Route),
     }
 }
 
@@ -42,45 +41,41 @@ fn link_of(inventory: &Inventory, number: u32) -> Option<Link>
 }
 
 /// The route that runs over a millimetre of a known link, and its chainage there.
-fn place_along(inventory: &Inventory, link: Link, mm: u64) -> Result<(&RouteRow, u64), WhereFault>
+fn place_along(inventory: &Inventory, link: Link, mm: u64) -> Result<(&RouteRow, u64), Missing>
     ensures ok { IfOk result (λ place. place_along inventory.now link mm
         ≡ Ok (place.0.now, place.1)) }
-    ensures err { IfErr result (λ fault. place_along inventory.now link mm ≡ Err fault) }
+    ensures err { IfErr result (λ missing. place_along inventory.now link mm ≡ Err missing) }
 {
     let length = u64::from(link.length);
     if mm > length {
-        return Err(WhereFault::OffRoute);
+        return Err(Missing::Place);
     }
     let mm = mm.min(length - 1) as u32;
     match place_over(inventory, link, mm) {
         Some(place) => Ok(place),
-        None => Err(WhereFault::OffRoute),
+        None => Err(Missing::Place),
     }
 }
 
 /// The route that runs over a millimetre of the link of a number, and its chainage there.
-fn place_on_link(
-    inventory: &Inventory,
-    number: u32,
-    mm: u64,
-) -> Result<(&RouteRow, u64), WhereFault>
+fn place_on_link(inventory: &Inventory, number: u32, mm: u64) -> Result<(&RouteRow, u64), Missing>
     ensures ok { IfOk result (λ place. place_on_link inventory.now number mm
         ≡ Ok (place.0.now, place.1)) }
-    ensures err { IfErr result (λ fault. place_on_link inventory.now number mm ≡ Err fault) }
+    ensures err { IfErr result (λ missing. place_on_link inventory.now number mm ≡ Err missing) }
 {
     match link_of(inventory, number) {
         Some(link) => place_along(inventory, link, mm),
-        None => Err(WhereFault::NoLink),
+        None => Err(Missing::Link),
     }
 }
 
 /// The route of a spot, and the chainage that is meant.
 ///
 /// # Errors
-/// `NoRoute`, `NoLink` and `OffRoute`.
-pub(crate) fn place_of(inventory: &Inventory, spot: Spot) -> Result<(&RouteRow, u64), WhereFault>
+/// The first of the route, the link and the place that is missing.
+pub(crate) fn place_of(inventory: &Inventory, spot: Spot) -> Result<(&RouteRow, u64), Missing>
     ensures ok { IfOk result (λ place. place_of inventory.now spot ≡ Ok (place.0.now, place.1)) }
-    ensures err { IfErr result (λ fault. place_of inventory.now spot ≡ Err fault) }
+    ensures err { IfErr result (λ missing. place_of inventory.now spot ≡ Err missing) }
 {
     match spot {
         Spot::OnRoute { route, chainage } => place_on_route(inventory, &route, chainage),

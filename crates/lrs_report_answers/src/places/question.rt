@@ -1,9 +1,10 @@
 //! The question what is at a place.
 
+ghost use Rattle.std.specs.Prelude.{◌≡◌, Err};
 ghost use Rattle.lrs_report_answers.specs.Place.Answers.{IsWhereabouts};
 
+use crate::AskFault;
 use crate::places::answer::{Whereabouts, answer_at};
-use crate::places::fault::WhereFault;
 use crate::places::place::place_of;
 use lrs_inventory::Inventory;
 use lrs_machine::Spot;
@@ -15,22 +16,23 @@ use std::alloc::{AllocError, Global};
 /// Routes and links are found by search, and the route of a millimetre by the index of ground.
 ///
 /// # Errors
-/// `NoRoute` where no route has the name, `NoLink` where no link has the number, then `OffRoute` behind the end of the route or
-/// of the link and where no route runs over the millimetre, and `Memory`.
+/// `Missing` of the route where none has the name, of the link where none has the number, then of the place behind the end of
+/// the route or of the link and where no route runs over the millimetre, and `Memory`.
 pub fn whereabouts(
     alloc: Global,
     inventory: &Inventory,
     spot: Spot,
-) -> Result<Whereabouts, WhereFault>
-    ensures { IsWhereabouts inventory.now spot result }
+) -> Result<Whereabouts, AskFault>
+    ensures answer { IsWhereabouts inventory.now spot result }
+    ensures never { result ≡ Err AskFault.MustReopen → ⊥ }
 {
     // For the prover alone: what its contract says is known from here on.
     inventory.prove_sound();
     match place_of(inventory, spot) {
         Ok((row, chainage)) => match answer_at(alloc, inventory, row, chainage) {
             Ok(found) => Ok(found),
-            Err(AllocError) => Err(WhereFault::Memory),
+            Err(AllocError) => Err(AskFault::Memory),
         },
-        Err(fault) => Err(fault),
+        Err(missing) => Err(AskFault::Missing(missing)),
     }
 }

@@ -5,8 +5,9 @@ use Rattle.lrs_machine.specs.Image.{state_of}
 use Rattle.lrs_machine.specs.Sound.{IsSound}
 use Rattle.lrs_image.specs.OpenLists.{image_of}
 use Rattle.lrs_image.proofs.Tables.{assets_in_order}
-use Rattle.lrs_report_answers.specs.declared.fault.AskFault.TheVariants.{NoAsset, Memory}
+use Rattle.lrs_report_answers.specs.declared.fault.AskFault.TheVariants.{Memory}
 use Rattle.lrs_report_answers.specs.AssetStretches.{rows_on, IsFound}
+use Rattle.lrs_report_answers.specs.Answers.{asset_missing}
 use Rattle.lrs_report_answers.proofs.AllRows.{sought_known, rows_found, no_memory, no_asset}
 use Rattle.lrs_report_answers.proofs.Everywhere.{Contains-from_In}
 use Rattle.lrs_report_answers.proofs.search.find.Goals as goal
@@ -32,4 +33,4 @@ pub returns-in-Err : goal.returns-in-Err
 returns-in-Err c = subst (λ (j : Image). IsFound (state_of j) c.args.asset (Err Memory)) c.kept.ensures.image (no_memory (image_of c.kept.result.now) c.args.asset c.in-Some.known.now c.in-Some.ensures)
 
 pub returns-in-None : goal.returns-in-None
-returns-in-None c = subst (λ (j : Image). IsFound (state_of j) c.args.asset (Err NoAsset)) c.kept.ensures.image (no_asset (image_of c.kept.result.now) c.args.asset c.in-None.ensures)
+returns-in-None c = subst (λ (j : Image). IsFound (state_of j) c.args.asset (Err asset_missing)) c.kept.ensures.image (no_asset (image_of c.kept.result.now) c.args.asset c.in-None.ensures)

@@ -1,8 +1,0 @@
-use Rattle.std.proofs.Common.{take}
-use Rattle.std.specs.List.{flat_map}
-use Rattle.std.specs.Io.KnownBytes.{Appends}
-use Rattle.lrs_report_answers.specs.Lines.{hit_text}
-use Rattle.lrs_report_answers.proofs.lines.write_hits.Given as goal
-
-abbrev pub invariant-loop-hit : goal.invariant-loop-hit
-invariant-loop-hit g l = Appends (g.W.Write.contents l.fn.writer) (g.W.Write.contents l.writer) (flat_map hit_text (take l.hit-index l.hits))

@@ -1,0 +1,38 @@
+-- What is listed of an inventory; or which of the things that are named it does not have.
+use Rattle.std.specs.Prelude.{◌≡◌, Bool, is_some, List, Option, Some, None, Result, MatchResult, if◌then◌else◌}
+use Rattle.std.specs.Borrow.{Bor}
+use Rattle.lrs_measure.specs.Texts.{Name}
+use Rattle.lrs_machine.specs.Image.{state_of}
+use Rattle.lrs_machine.specs.Machine.{place_of_key}
+use Rattle.lrs_machine.specs.declared.absence.Missing.{Missing}
+use Rattle.lrs_machine.specs.declared.absence.Missing.TheVariants as missing
+use Rattle.lrs_machine.specs.declared.image.Image.{Image}
+use Rattle.lrs_machine.specs.declared.question.Listing.{Listing}
+use Rattle.lrs_machine.specs.declared.question.Listing.TheVariants as listing
+use Rattle.lrs_report_lists.specs.Absence.{has_edit, has_route, lacks, missing_row}
+use Rattle.lrs_report_lists.specs.Length.Lengths.{AreLengths}
+use Rattle.lrs_report_lists.specs.declared.length_lists.table.ValueLength.{ValueLength}
+use Rattle.lrs_report_answers.specs.declared.fault.AskFault.{AskFault}
+use Rattle.lrs_report_answers.specs.Answers.{UnlessMemory, UnlessMissing}
+
+abbrev pub has_key : Image → Name → Bool
+has_key i key = is_some (place_of_key key (state_of i).done)
+
+-- the route, where one is named and is not there
+abbrev pub missing_route : Image → Option Name → Option Missing
+missing_route i route = if lacks (has_route i) route then Some missing.Route else None
+
+-- the first of the things that a listing names, and the inventory does not have
+abbrev pub missing_of : Image → Listing → Option Missing
+missing_of i (listing.Rows wanted) = missing_row i wanted
+missing_of i (listing.Gone edit) = if lacks (has_edit i) edit then Some missing.Edit else None
+missing_of i (listing.LogOfKey key) = if has_key i key then None else Some missing.Key
+missing_of i _ = None
+
+-- The answer is the inventory that is listed, or what is missing.
+abbrev pub IsListing : Image → Listing → Result (Bor Image) AskFault → Type 0
+IsListing i l = UnlessMissing (missing_of i l) (λ result. MatchResult result (λ of. of.now ≡ i) (λ fault. ⊥))
+
+-- The answer is the lengths of values on the route of a name, or on all; or the route is missing.
+abbrev pub AreLengthsOf : Image → Option Name → Result (List ValueLength) AskFault → Type 0
+AreLengthsOf i route = UnlessMissing (missing_route i route) (UnlessMemory (AreLengths route i))

@@ -1,0 +1,108 @@
+//! How lists, lengths and places are asked for by the parameters of a query.
+
+ghost use Rattle.std.specs.Prelude.{◌≡◌, IfOk, IfErr, true, false};
+ghost use Rattle.lrs_web_requests.specs.declared.paths.Resource.TheVariants as path;
+ghost use Rattle.lrs_web_replies.specs.Questions.{AsksOf, CannotAsk, GivesRows, GivesSpot, is_on_link};
+
+use crate::parameters::{
+    asset_or_all_in, chainage_of_place_in, class_or_all_in, edit_or_all_in, first_edit_in, from_in,
+    is_on_link, link_in, millimetre_in, route_in, route_or_all_in, to_in,
+};
+use crate::question::QueryFault;
+use lrs_machine::{Listing, Question, RowsWanted, Spot};
+use std::alloc::Global;
+
+#[tactic(auto, using(crate::proofs::FirstFaults::rows_route, crate::proofs::FirstFaults::rows_from, crate::proofs::FirstFaults::rows_to, crate::proofs::FirstFaults::rows_class, crate::proofs::FirstFaults::rows_asset))]
+fn rows_in(alloc: Global, query: &[u8]) -> Result<RowsWanted, QueryFault>
+    ensures asked { IfOk result (GivesRows query.now) }
+    ensures unasked { IfErr result (CannotAsk path.Rows query.now) }
+{
+    let route = route_or_all_in(alloc, query)?;
+    let from = from_in(alloc, query)?;
+    let to = to_in(alloc, query)?;
+    let class = class_or_all_in(alloc, query)?;
+    let asset = asset_or_all_in(alloc, query)?;
+    Ok(RowsWanted {
+        route,
+        from,
+        to,
+        class,
+        asset,
+    })
+}
+
+#[tactic(auto, using(crate::proofs::FirstFaults::gone_edit))]
+pub(crate) fn gone_question(alloc: Global, query: &[u8]) -> Result<Question, QueryFault>
+    ensures asked { IfOk result (AsksOf path.Gone query.now) }
+    ensures unasked { IfErr result (CannotAsk path.Gone query.now) }
+{
+    let edit = edit_or_all_in(alloc, query)?;
+    Ok(Question::List(Listing::Gone(edit)))
+}
+
+pub(crate) fn rows_question(alloc: Global, query: &[u8]) -> Result<Question, QueryFault>
+    ensures asked { IfOk result (AsksOf path.Rows query.now) }
+    ensures unasked { IfErr result (CannotAsk path.Rows query.now) }
+{
+    let wanted = rows_in(alloc, query)?;
+    Ok(Question::List(Listing::Rows(wanted)))
+}
+
+#[tactic(auto, using(crate::proofs::FirstFaults::lengths_route))]
+pub(crate) fn lengths_question(alloc: Global, query: &[u8]) -> Result<Question, QueryFault>
+    ensures asked { IfOk result (AsksOf path.Lengths query.now) }
+    ensures unasked { IfErr result (CannotAsk path.Lengths query.now) }
+{
+    let route = route_or_all_in(alloc, query)?;
+    Ok(Question::Lengths(route))
+}
+
+#[tactic(auto, using(crate::proofs::FirstFaults::where_link, crate::proofs::FirstFaults::where_mm))]
+fn spot_on_link(alloc: Global, query: &[u8]) -> Result<Spot, QueryFault>
+    requires on_link { is_on_link query.now ≡ true }
+    ensures asked { IfOk result (GivesSpot query.now) }
+    ensures unasked { IfErr result (CannotAsk path.Where query.now) }
+{
+    let link = link_in(alloc, query)?;
+    let mm = millimetre_in(alloc, query)?;
+    Ok(Spot::OnLink { link, mm })
+}
+
+#[tactic(auto, using(crate::proofs::FirstFaults::where_route, crate::proofs::FirstFaults::where_chainage))]
+fn spot_on_route(alloc: Global, query: &[u8]) -> Result<Spot, QueryFault>
+    requires on_route { is_on_link query.now ≡ false }
+    ensures asked { IfOk result (GivesSpot query.now) }
+    ensures unasked { IfErr result (CannotAsk path.Where query.now) }
+{
+    let route = route_in(alloc, query)?;
+    let chainage = chainage_of_place_in(alloc, query)?;
+    Ok(Spot::OnRoute { route, chainage })
+}
+
+/// The place that is asked for: on a link where one is named, and else on a route.
+fn spot_in(alloc: Global, query: &[u8]) -> Result<Spot, QueryFault>
+    ensures asked { IfOk result (GivesSpot query.now) }
+    ensures unasked { IfErr result (CannotAsk path.Where query.now) }
+{
+    if is_on_link(alloc, query)? {
+        return spot_on_link(alloc, query);
+    }
+    spot_on_route(alloc, query)
+}
+
+pub(crate) fn where_question(alloc: Global, query: &[u8]) -> Result<Question, QueryFault>
+    ensures asked { IfOk result (AsksOf path.Where query.now) }
+    ensures unasked { IfErr result (CannotAsk path.Where query.now) }
+{
+    let spot = spot_in(alloc, query)?;
+    Ok(Question::Where(spot))
+}
+
+#[tactic(auto, using(crate::proofs::FirstFaults::log_edit))]
+pub(crate) fn log_question(alloc: Global, query: &[u8]) -> Result<Question, QueryFault>
+    ensures asked { IfOk result (AsksOf path.Log query.now) }
+    ensures unasked { IfErr result (CannotAsk path.Log query.now) }
+{
+    let from = first_edit_in(alloc, query)?;
+    Ok(Question::List(Listing::Log(from)))
+}

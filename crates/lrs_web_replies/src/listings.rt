@@ -1,0 +1,426 @@
+//! Lists of an inventory as replies.
+
+ghost use Rattle.std.specs.Prelude.{◌≡◌, ◌++◌, [], IfOk, OnOk, filter, true};
+ghost use Rattle.std.specs.List.{flat_map};
+ghost use Rattle.std.specs.Option.{option_map, option_map_or};
+ghost use Rattle.serde_json.specs.Written.{compact_text};
+ghost use Rattle.lrs_measure.specs.Lists.{each_two};
+ghost use Rattle.lrs_machine.specs.Image.{state_of};
+ghost use Rattle.lrs_machine.specs.Sound.{IsSound, asset_before, route_before};
+ghost use Rattle.lrs_image.specs.OpenLists.{image_of};
+ghost use Rattle.lrs_report_lists.specs.WantedRows.{is_of_route};
+ghost use Rattle.lrs_sheet_log.specs.Log.{edits_from, edits_under, log_text};
+ghost use Rattle.lrs_web_requests.specs.Text.{answer_of};
+ghost use Rattle.lrs_web_replies.specs.Listings.{all_gone_data, classes_data, gone_data, links_data, listing_answer, marks_data, refs_data, routes_data, row_data, rows_data};
+ghost use Rattle.lrs_web_replies.specs.Parts.{gone_part, item_text, mark_part, marks_part, ref_part, refs_part, row_part, rows_part};
+
+use crate::entries::{gone_value, mark_value, ref_value, row_value};
+use crate::list_text::{add_each, add_item, begin, end};
+use crate::reply::{found_reply, sheet_reply};
+use lrs_element::Mark;
+use lrs_events::{Asset, Gone, Span};
+use lrs_image::KeptImage;
+use lrs_inventory::Inventory;
+use lrs_machine::{Key, Listing, RouteRow, RowsWanted};
+use lrs_ordered::Chunked;
+use lrs_position::{Referent, Route};
+use lrs_report_lists::{asset_numbered, is_of_edit, is_wanted};
+use lrs_sheet_log::{write_log, write_log_of_key};
+use lrs_web_requests::Response;
+use std::alloc::{AllocError, Global};
+
+fn routes_json(alloc: Global, kept: &KeptImage) -> Result<Vec<u8>, AllocError>
+    ensures { IfOk result (λ bytes. bytes.items ≡ compact_text (routes_data (image_of kept.now))) }
+{
+    let mut bytes = begin(alloc, "routes")?;
+    let start = bytes.len();
+    add_each(alloc, &mut bytes, &kept.routes)?;
+    end(bytes, start)
+}
+
+fn links_json(alloc: Global, kept: &KeptImage) -> Result<Vec<u8>, AllocError>
+    ensures { IfOk result (λ bytes. bytes.items ≡ compact_text (links_data (image_of kept.now))) }
+{
+    let mut bytes = begin(alloc, "links")?;
+    let start = bytes.len();
+    add_each(alloc, &mut bytes, &kept.links)?;
+    end(bytes, start)
+}
+
+fn classes_json(alloc: Global, kept: &KeptImage) -> Result<Vec<u8>, AllocError>
+    ensures { IfOk result (λ bytes. bytes.items ≡ compact_text (classes_data (image_of kept.now))) }
+{
+    let mut bytes = begin(alloc, "classes")?;
+    let start = bytes.len();
+    add_each(alloc, &mut bytes, &kept.classes)?;
+    end(bytes, start)
+}
+
+// ---- referents
+
+fn add_ref(
+    alloc: Global,
+    bytes: &mut Vec<u8>,
+    route: &Route,
+    referent: &Referent,
+) -> Result<(), AllocError>
+    ensures { OnOk result (bytes.new.items ≡ bytes.old.items ++ ref_part route.now referent.now) }
+{
+    let value = ref_value(alloc, route, referent)?;
+    add_item(alloc, bytes, value)
+}
+
+fn add_refs_on(
+    alloc: Global,
+    bytes: &mut Vec<u8>,
+    route: &Route,
+    refs: &[Referent],
+) -> Result<(), AllocError>
+    ensures { OnOk result (bytes.new.items
+        ≡ bytes.old.items ++ flat_map (ref_part route.now) refs.now) }
+{
+    for referent in refs {
+        add_ref(alloc, bytes, route, referent)?;
+    }
+    Ok(())
+}
+
+fn add_refs_of(alloc: Global, bytes: &mut Vec<u8>, route_row: &RouteRow) -> Result<(), AllocError>
+    ensures { OnOk result (bytes.new.items ≡ bytes.old.items ++ refs_part route_row.now) }
+{
+    let route = &route_row.route;
+    add_refs_on(alloc, bytes, route, route.refs.as_slice())
+}
+
+fn add_each_ref(
+    alloc: Global,
+    bytes: &mut Vec<u8>,
+    routes: &Chunked<RouteRow>,
+) -> Result<(), AllocError>
+    ensures { OnOk result (bytes.new.items
+        ≡ bytes.old.items ++ flat_map refs_part routes.now.rows) }
+{
+    for route_row in routes.iter() {
+        add_refs_of(alloc, bytes, route_row)?;
+    }
+    Ok(())
+}
+
+fn refs_json(alloc: Global, kept: &KeptImage) -> Result<Vec<u8>, AllocError>
+    ensures { IfOk result (λ bytes. bytes.items ≡ compact_text (refs_data (image_of kept.now))) }
+{
+    let mut bytes = begin(alloc, "refs")?;
+    let start = bytes.len();
+    add_each_ref(alloc, &mut bytes, &kept.routes)?;
+    end(bytes, start)
+}
+
+// ---- marks
+
+fn add_mark(
+    alloc: Global,
+    bytes: &mut Vec<u8>,
+    route: &Route,
+    mark: &Mark,
+) -> Result<(), AllocError>
+    ensures { OnOk result (bytes.new.items ≡ bytes.old.items ++ mark_part route.now mark.now) }
+{
+    let value = mark_value(alloc, route, mark)?;
+    add_item(alloc, bytes, value)
+}
+
+fn add_marks_on(
+    alloc: Global,
+    bytes: &mut Vec<u8>,
+    route: &Route,
+    marks: &[Mark],
+) -> Result<(), AllocError>
+    ensures { OnOk result (bytes.new.items
+        ≡ bytes.old.items ++ flat_map (mark_part route.now) marks.now) }
+{
+    for mark in marks {
+        add_mark(alloc, bytes, route, mark)?;
+    }
+    Ok(())
+}
+
+fn add_marks_of(alloc: Global, bytes: &mut Vec<u8>, route_row: &RouteRow) -> Result<(), AllocError>
+    ensures { OnOk result (bytes.new.items ≡ bytes.old.items ++ marks_part route_row.now) }
+{
+    let route = &route_row.route;
+    add_marks_on(alloc, bytes, route, route.marks.list())
+}
+
+fn add_each_mark(
+    alloc: Global,
+    bytes: &mut Vec<u8>,
+    routes: &Chunked<RouteRow>,
+) -> Result<(), AllocError>
+    ensures { OnOk result (bytes.new.items
+        ≡ bytes.old.items ++ flat_map marks_part routes.now.rows) }
+{
+    for route_row in routes.iter() {
+        add_marks_of(alloc, bytes, route_row)?;
+    }
+    Ok(())
+}
+
+fn marks_json(alloc: Global, kept: &KeptImage) -> Result<Vec<u8>, AllocError>
+    ensures { IfOk result (λ bytes. bytes.items ≡ compact_text (marks_data (image_of kept.now))) }
+{
+    let mut bytes = begin(alloc, "marks")?;
+    let start = bytes.len();
+    add_each_mark(alloc, &mut bytes, &kept.routes)?;
+    end(bytes, start)
+}
+
+// ---- rows
+
+fn add_row(
+    alloc: Global,
+    bytes: &mut Vec<u8>,
+    assets: &Chunked<Asset>,
+    route: &Route,
+    row: &Span,
+) -> Result<(), AllocError>
+    requires order { each_two asset_before assets.now.rows ≡ true }
+    ensures { OnOk result (bytes.new.items
+        ≡ bytes.old.items ++ item_text (row_data assets.now.rows route.now row.now)) }
+{
+    let value = row_value(alloc, asset_numbered(assets, row.asset), route, row)?;
+    add_item(alloc, bytes, value)
+}
+
+/// Adds a row where it is asked for.
+fn add_wanted_row(
+    alloc: Global,
+    bytes: &mut Vec<u8>,
+    wanted: &RowsWanted,
+    assets: &Chunked<Asset>,
+    route: &Route,
+    row: &Span,
+) -> Result<(), AllocError>
+    requires order { each_two asset_before assets.now.rows ≡ true }
+    ensures { OnOk result (bytes.new.items
+        ≡ bytes.old.items ++ row_part wanted.now assets.now.rows route.now row.now) }
+{
+    if is_wanted(wanted, row) {
+        return add_row(alloc, bytes, assets, route, row);
+    }
+    Ok(())
+}
+
+fn add_rows_on(
+    alloc: Global,
+    bytes: &mut Vec<u8>,
+    wanted: &RowsWanted,
+    assets: &Chunked<Asset>,
+    route: &Route,
+    rows: &[Span],
+) -> Result<(), AllocError>
+    requires order { each_two asset_before assets.now.rows ≡ true }
+    ensures { OnOk result (bytes.new.items
+        ≡ bytes.old.items ++ flat_map (row_part wanted.now assets.now.rows route.now) rows.now) }
+{
+    for row in rows {
+        add_wanted_row(alloc, bytes, wanted, assets, route, row)?;
+    }
+    Ok(())
+}
+
+/// Adds the rows of a route that are asked for.
+fn add_rows_of(
+    alloc: Global,
+    bytes: &mut Vec<u8>,
+    wanted: &RowsWanted,
+    assets: &Chunked<Asset>,
+    route_row: &RouteRow,
+) -> Result<(), AllocError>
+    requires order { each_two asset_before assets.now.rows ≡ true }
+    ensures { OnOk result (bytes.new.items
+        ≡ bytes.old.items ++ rows_part wanted.now assets.now.rows route_row.now) }
+{
+    let route = &route_row.route;
+    add_rows_on(alloc, bytes, wanted, assets, route, route_row.spans.rows())
+}
+
+fn add_each_row(
+    alloc: Global,
+    bytes: &mut Vec<u8>,
+    wanted: &RowsWanted,
+    assets: &Chunked<Asset>,
+    routes: &Chunked<RouteRow>,
+) -> Result<(), AllocError>
+    requires order { each_two asset_before assets.now.rows ≡ true }
+    ensures { OnOk result (bytes.new.items
+        ≡ bytes.old.items ++ flat_map (rows_part wanted.now assets.now.rows) routes.now.rows) }
+{
+    for route_row in routes.iter() {
+        add_rows_of(alloc, bytes, wanted, assets, route_row)?;
+    }
+    Ok(())
+}
+
+/// Adds the rows that are asked for of one route, if there is one.
+fn add_rows_of_some(
+    alloc: Global,
+    bytes: &mut Vec<u8>,
+    wanted: &RowsWanted,
+    assets: &Chunked<Asset>,
+    route_row: Option<&RouteRow>,
+) -> Result<(), AllocError>
+    requires order { each_two asset_before assets.now.rows ≡ true }
+    ensures { OnOk result (bytes.new.items ≡ bytes.old.items
+        ++ option_map_or (rows_part wanted.now assets.now.rows)
+        (option_map (λ e. e.now) route_row.entry) []) }
+{
+    match route_row {
+        Some(route_row) => add_rows_of(alloc, bytes, wanted, assets, route_row),
+        None => Ok(()),
+    }
+}
+
+/// Adds the rows that are asked for. A route that is named is found by search.
+fn add_asked_rows(
+    alloc: Global,
+    bytes: &mut Vec<u8>,
+    wanted: &RowsWanted,
+    assets: &Chunked<Asset>,
+    routes: &Chunked<RouteRow>,
+) -> Result<(), AllocError>
+    requires assets_order { each_two asset_before assets.now.rows ≡ true }
+    requires routes_order { each_two route_before routes.now.rows ≡ true }
+    ensures { OnOk result (bytes.new.items ≡ bytes.old.items
+        ++ flat_map (rows_part wanted.now assets.now.rows)
+        (filter (is_of_route wanted.now.route) routes.now.rows)) }
+{
+    match &wanted.route {
+        Some(name) => add_rows_of_some(alloc, bytes, wanted, assets, routes.find(name)),
+        None => add_each_row(alloc, bytes, wanted, assets, routes),
+    }
+}
+
+fn rows_json(alloc: Global, kept: &KeptImage, wanted: &RowsWanted) -> Result<Vec<u8>, AllocError>
+    requires sound { IsSound (image_of kept.now) }
+    ensures { IfOk result (λ bytes. bytes.items
+        ≡ compact_text (rows_data wanted.now (image_of kept.now))) }
+{
+    let mut bytes = begin(alloc, "rows")?;
+    let start = bytes.len();
+    add_asked_rows(alloc, &mut bytes, wanted, &kept.assets, &kept.routes)?;
+    end(bytes, start)
+}
+
+// ---- what is gone
+
+fn add_part(
+    alloc: Global,
+    bytes: &mut Vec<u8>,
+    assets: &Chunked<Asset>,
+    gone: &Gone,
+) -> Result<(), AllocError>
+    requires order { each_two asset_before assets.now.rows ≡ true }
+    ensures { OnOk result (bytes.new.items
+        ≡ bytes.old.items ++ item_text (gone_data assets.now.rows gone.now)) }
+{
+    let value = gone_value(alloc, asset_numbered(assets, gone.part.asset), gone)?;
+    add_item(alloc, bytes, value)
+}
+
+/// Adds a part where it is asked for.
+fn add_asked_part(
+    alloc: Global,
+    bytes: &mut Vec<u8>,
+    edit: Option<u64>,
+    assets: &Chunked<Asset>,
+    gone: &Gone,
+) -> Result<(), AllocError>
+    requires order { each_two asset_before assets.now.rows ≡ true }
+    ensures { OnOk result (bytes.new.items
+        ≡ bytes.old.items ++ gone_part edit assets.now.rows gone.now) }
+{
+    if is_of_edit(edit, gone) {
+        return add_part(alloc, bytes, assets, gone);
+    }
+    Ok(())
+}
+
+fn add_parts(
+    alloc: Global,
+    bytes: &mut Vec<u8>,
+    edit: Option<u64>,
+    assets: &Chunked<Asset>,
+    ledger: &[Gone],
+) -> Result<(), AllocError>
+    requires order { each_two asset_before assets.now.rows ≡ true }
+    ensures { OnOk result (bytes.new.items
+        ≡ bytes.old.items ++ flat_map (gone_part edit assets.now.rows) ledger.now) }
+{
+    for gone in ledger {
+        add_asked_part(alloc, bytes, edit, assets, gone)?;
+    }
+    Ok(())
+}
+
+fn gone_json(alloc: Global, kept: &KeptImage, edit: Option<u64>) -> Result<Vec<u8>, AllocError>
+    requires sound { IsSound (image_of kept.now) }
+    ensures { IfOk result (λ bytes. bytes.items
+        ≡ compact_text (all_gone_data edit (image_of kept.now))) }
+{
+    let mut bytes = begin(alloc, "gone")?;
+    let start = bytes.len();
+    add_parts(alloc, &mut bytes, edit, &kept.assets, kept.gone.as_slice())?;
+    end(bytes, start)
+}
+
+// ---- the log
+
+// A vector takes every byte that it is given, unless memory runs out.
+fn log_bytes(alloc: Global, kept: &KeptImage, from: u64) -> Result<Vec<u8>, AllocError>
+    ensures { IfOk result (λ bytes. bytes.items
+        ≡ log_text (edits_from from (state_of (image_of kept.now)).done)) }
+{
+    let mut bytes = Vec::new(alloc);
+    match write_log(&mut bytes, kept, from) {
+        Ok(()) => Ok(bytes),
+        Err(_) => Err(AllocError),
+    }
+}
+
+fn log_bytes_of_key(alloc: Global, kept: &KeptImage, key: &Key) -> Result<Vec<u8>, AllocError>
+    ensures { IfOk result (λ bytes. bytes.items
+        ≡ log_text (edits_under key.now (state_of (image_of kept.now)).done)) }
+{
+    let mut bytes = Vec::new(alloc);
+    match write_log_of_key(&mut bytes, kept, key) {
+        Ok(_) => Ok(bytes),
+        Err(_) => Err(AllocError),
+    }
+}
+
+// ---- replies
+
+/// The reply with a list of an inventory: as JSON, and the log as an edit sheet.
+///
+/// # Errors
+/// When memory runs out.
+pub(crate) fn listing_reply(
+    alloc: Global,
+    of: &Inventory,
+    listing: &Listing,
+) -> Result<Response, AllocError>
+    ensures { IfOk result (λ reply. answer_of reply ≡ listing_answer of.now listing.now) }
+{
+    let kept = of.kept();
+    match listing {
+        Listing::Routes => Ok(found_reply(routes_json(alloc, kept)?)),
+        Listing::Links => Ok(found_reply(links_json(alloc, kept)?)),
+        Listing::Classes => Ok(found_reply(classes_json(alloc, kept)?)),
+        Listing::Refs => Ok(found_reply(refs_json(alloc, kept)?)),
+        Listing::Marks => Ok(found_reply(marks_json(alloc, kept)?)),
+        Listing::Rows(wanted) => Ok(found_reply(rows_json(alloc, kept, wanted)?)),
+        Listing::Gone(edit) => Ok(found_reply(gone_json(alloc, kept, *edit)?)),
+        Listing::Log(from) => Ok(sheet_reply(log_bytes(alloc, kept, *from)?)),
+        Listing::LogOfKey(key) => Ok(sheet_reply(log_bytes_of_key(alloc, kept, key)?)),
+    }
+}
