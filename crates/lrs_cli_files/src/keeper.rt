@@ -1,7 +1,7 @@
 //! The keeper of an inventory in a file of the system, as a type of its own: what is told of it above is one plain type,
 //! and not all that it is made of, which would be more than the prover can compare. So are its tables.
 
-use lrs_desk::{Batches, Change, CommitFault, Image, Keeper, LoadFault, Staged};
+use lrs_desk::{Batches, Change, CommitFault, Holder, Image, Keeper, LoadFault, Staged};
 use lrs_store::Tables;
 use lrs_store_image::Reader;
 use sqlite::{FileFrom, FileStore, Unknown};
@@ -12,21 +12,23 @@ pub struct FileTables {
     pub(crate) tables: Tables<FileStore<FileFrom<Unknown>>, Reader>,
 }
 
+impl Holder for FileTables {
+    ghost may_hold = { λ k. ⟦<Tables<FileStore<FileFrom<Unknown>>, Reader> as Holder>⟧.may_hold k.tables };
+
+    ghost is_clean = { λ k. ⟦<Tables<FileStore<FileFrom<Unknown>>, Reader> as Holder>⟧.is_clean k.tables };
+
+    ghost is_open = { λ k. ⟦<Tables<FileStore<FileFrom<Unknown>>, Reader> as Holder>⟧.is_open k.tables };
+
+    ghost is_loaded = { λ k. ⟦<Tables<FileStore<FileFrom<Unknown>>, Reader> as Holder>⟧.is_loaded k.tables };
+
+    ghost failures = { λ k. ⟦<Tables<FileStore<FileFrom<Unknown>>, Reader> as Holder>⟧.failures k.tables };
+}
+
 impl Batches for FileTables {
     ghost use Rattle.std.specs.Prelude.{refl};
     ghost use Rattle.std.proofs.Common.{inl};
     ghost use Rattle.sqlite_store.specs.Laws.{stays_at};
     ghost use Rattle.lrs_store.specs.TableKeeper.HeldImages.{finds_left};
-
-    ghost may_hold = { λ k. ⟦<Tables<FileStore<FileFrom<Unknown>>, Reader> as Batches>⟧.may_hold k.tables };
-
-    ghost is_clean = { λ k. ⟦<Tables<FileStore<FileFrom<Unknown>>, Reader> as Batches>⟧.is_clean k.tables };
-
-    ghost is_open = { λ k. ⟦<Tables<FileStore<FileFrom<Unknown>>, Reader> as Batches>⟧.is_open k.tables };
-
-    ghost is_loaded = { λ k. ⟦<Tables<FileStore<FileFrom<Unknown>>, Reader> as Batches>⟧.is_loaded k.tables };
-
-    ghost failures = { λ k. ⟦<Tables<FileStore<FileFrom<Unknown>>, Reader> as Batches>⟧.failures k.tables };
 
     fn load(&mut self, alloc: Global) -> Result<Image, LoadFault> {
         self.tables.load(alloc)
@@ -44,21 +46,23 @@ pub struct FileKeeper {
     pub(crate) inner: Staged<FileTables>,
 }
 
+impl Holder for FileKeeper {
+    ghost may_hold = { λ k. ⟦<Staged<FileTables> as Holder>⟧.may_hold k.inner };
+
+    ghost is_clean = { λ k. ⟦<Staged<FileTables> as Holder>⟧.is_clean k.inner };
+
+    ghost is_open = { λ k. ⟦<Staged<FileTables> as Holder>⟧.is_open k.inner };
+
+    ghost is_loaded = { λ k. ⟦<Staged<FileTables> as Holder>⟧.is_loaded k.inner };
+
+    ghost failures = { λ k. ⟦<Staged<FileTables> as Holder>⟧.failures k.inner };
+}
+
 impl Keeper for FileKeeper {
     ghost use Rattle.std.specs.Prelude.{refl};
     ghost use Rattle.std.proofs.Common.{inl};
     ghost use Rattle.sqlite_store.specs.Laws.{stays_at};
     ghost use Rattle.lrs_store.specs.TableKeeper.HeldImages.{finds_left};
-
-    ghost may_hold = { λ k. ⟦<Staged<FileTables> as Keeper>⟧.may_hold k.inner };
-
-    ghost is_clean = { λ k. ⟦<Staged<FileTables> as Keeper>⟧.is_clean k.inner };
-
-    ghost is_open = { λ k. ⟦<Staged<FileTables> as Keeper>⟧.is_open k.inner };
-
-    ghost is_loaded = { λ k. ⟦<Staged<FileTables> as Keeper>⟧.is_loaded k.inner };
-
-    ghost failures = { λ k. ⟦<Staged<FileTables> as Keeper>⟧.failures k.inner };
 
     ghost staged = { λ k. ⟦<Staged<FileTables> as Keeper>⟧.staged k.inner };
 

@@ -11,7 +11,7 @@ use lrs_cli_tasks::{
     Ending, ProgramFault, Task, Work, do_page, do_question, is_in_memory, open_in_memory, task_of,
 };
 use lrs_cli_words::{Job, QuestionFault, new_has_sums};
-use lrs_desk::{Desk, Files, Keeper, Plain};
+use lrs_desk::{Desk, Files, Holder, Keeper, Plain};
 use lrs_machine::Question;
 use std::alloc::Global;
 use std::fs;
@@ -50,7 +50,7 @@ fn do_work<R: Runtime<A = Global> + Net, K: Keeper>(
 
 // Does work in a fresh inventory in memory.
 fn do_in_memory<R: Runtime<A = Global> + Net>(rt: &R, work: Work<'_>, shown: Shown) -> Ending
-    ensures { EndsInMemory ⟦<Plain as Keeper>⟧.may_hold work.entry result }
+    ensures { EndsInMemory ⟦<Plain as Holder>⟧.may_hold work.entry result }
 {
     match open_in_memory(rt.alloc()) {
         Ok(mut desk) => {
@@ -164,7 +164,7 @@ fn do_in_file<F: Files>(
     work: Work<'_>,
     shown: Shown,
 ) -> Ending
-    ensures { EndsInFile ⟦<Plain as Keeper>⟧.may_hold F.Kept.may_hold F.Seen.may_hold
+    ensures { EndsInFile ⟦<Plain as Holder>⟧.may_hold F.Kept.may_hold F.Seen.may_hold
         F.has_opened F.has_read work.entry result }
 {
     if !looks(&work) {
@@ -221,7 +221,7 @@ fn do_at_path<F: Files>(
     work: Work<'_>,
     shown: Shown,
 ) -> Ending
-    ensures { EndsInFile ⟦<Plain as Keeper>⟧.may_hold F.Kept.may_hold F.Seen.may_hold
+    ensures { EndsInFile ⟦<Plain as Holder>⟧.may_hold F.Kept.may_hold F.Seen.may_hold
         F.has_opened F.has_read work.entry result }
 {
     if (existing || needs_file(&work)) && is_new(rt, path) {
@@ -242,7 +242,7 @@ fn do_task<F: Files>(
     existing: bool,
     shown: Shown,
 ) -> Ending
-    ensures { EndsTask ⟦<Plain as Keeper>⟧.may_hold F.Kept.may_hold F.Seen.may_hold
+    ensures { EndsTask ⟦<Plain as Holder>⟧.may_hold F.Kept.may_hold F.Seen.may_hold
         F.has_opened F.has_read task.entry result }
 {
     match task {
@@ -265,7 +265,7 @@ pub fn do_job<F: Files>(
     existing: bool,
     shown: Shown,
 ) -> Ending
-    ensures { EndsJob ⟦<Plain as Keeper>⟧.may_hold F.Kept.may_hold F.Seen.may_hold
+    ensures { EndsJob ⟦<Plain as Holder>⟧.may_hold F.Kept.may_hold F.Seen.may_hold
         F.has_opened F.has_read job.now result }
 {
     match task_of(rt.alloc(), job) {

@@ -9,7 +9,7 @@ ghost use Rattle.lrs_image.specs.KeeperCalls.{HoldsOnly};
 ghost use Rattle.lrs_cli_tasks.specs.Faults.{HasNoDesk};
 
 use crate::fault::ProgramFault;
-use lrs_desk::{Desk, Keeper, Plain};
+use lrs_desk::{Desk, Holder, Keeper, Plain};
 use lrs_machine::Limits;
 use std::alloc::Global;
 
@@ -40,7 +40,7 @@ pub fn open_full<K: Keeper>(keeper: K, alloc: Global) -> Result<Desk<K>, (Progra
 /// Opens a fresh inventory in memory, which ends with the program.
 pub fn open_in_memory(alloc: Global) -> Result<Desk<Plain>, ProgramFault>
     ensures fresh { IfOk result (λ desk. (desk.image ≡ nothing) × (desk.must_reopen ≡ false)) }
-    ensures kept { IfOk result (λ desk. HoldsOnly (⟦<Plain as Keeper>⟧.may_hold desk.keeper)
+    ensures kept { IfOk result (λ desk. HoldsOnly (⟦<Plain as Holder>⟧.may_hold desk.keeper)
         desk.image) }
     ensures behind { IfOk result (λ desk. desk.is_ahead ≡ false) }
     ensures limits { IfOk result (λ desk. (desk.limits.routes ≡ most_routes)

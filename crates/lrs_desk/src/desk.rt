@@ -7,7 +7,8 @@ ghost use Rattle.lrs_machine.specs.Image.{state_of};
 ghost use Rattle.lrs_machine.specs.Machine.{step};
 ghost use Rattle.lrs_machine.specs.Stop.KnownEdits.{edit_of};
 ghost use Rattle.lrs_image.specs.Change.{apply, CanMake};
-ghost use Rattle.lrs_image.specs.KeeperCalls.{HasRisen, HoldsOnly, HoldsOldOrNew};
+ghost use Rattle.lrs_image.specs.KeeperCalls.{HasLoaded, HasRisen, HoldsOnly};
+ghost use Rattle.lrs_image.specs.ChangeLists.{KeepsOne};
 ghost use Rattle.lrs_report_answers.specs.Tally.RunningCounts.{IsCounted};
 ghost use Rattle.lrs_inventory.specs.Plans.{change_of, TellsGround};
 ghost use Rattle.lrs_desk.specs.Desk.{IsUnchanged, HasBroken, DoesFirst, BreaksAmid, records_of};
@@ -323,28 +324,17 @@ fn make<K: Keeper>(
     edit: Edit,
     plan: Plan,
 ) -> Result<Answer, Fault>
-    requires loaded { K.is_loaded keeper.old ≡ true }
+    requires has { HasLoaded K.Holder keeper.old inventory.old }
     requires staged { K.staged keeper.old ≡ [] }
-    requires reached { K.is_clean keeper.old → K.is_open keeper.old }
-    requires kept { HoldsOnly (K.may_hold keeper.old) inventory.old }
     requires can { CanMake (change_of edit plan) inventory.old }
     requires tells { TellsGround plan inventory.old }
     requires counted { IsCounted inventory.old counts.old }
     ensures answer { IfOk result (λ answer. answer ≡ Answer.Done (length inventory.old.edits + 1)) }
     ensures ok { OnOk result (inventory.new ≡ apply (change_of edit plan) inventory.old) }
-    ensures ok_kept { OnOk result (HoldsOnly (K.may_hold keeper.new)
-        (apply (change_of edit plan) inventory.old)) }
     ensures err { OnErr result (inventory.new ≡ inventory.old) }
-    ensures memory { result ≡ Err Fault.Memory → (c : Result ImageRows Table)
-        → K.may_hold keeper.new c → K.may_hold keeper.old c }
-    ensures store { result ≡ Err Fault.Keep → HoldsOldOrNew (change_of edit plan)
-        (K.may_hold keeper.new) inventory.old }
-    ensures cause { result ≡ Err Fault.Keep → HasRisen (K.failures keeper.old)
-        (K.failures keeper.new) }
+    ensures keeps { KeepsOne K.Holder Fault.Memory Fault.Keep (change_of edit plan) inventory.old
+        keeper.old keeper.new result }
     ensures only { result ≡ Err Fault.MustReopen → ⊥ }
-    ensures reached { (result ≡ Err Fault.Keep → ⊥) → K.is_clean keeper.new
-        → K.is_open keeper.new }
-    ensures loaded { K.is_loaded keeper.new ≡ true }
     ensures staged { K.staged keeper.new ≡ [] }
     ensures counted { IsCounted inventory.new counts.new }
 {

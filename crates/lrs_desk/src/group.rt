@@ -1,9 +1,8 @@
 //! Commands that are done together: here first, by changes that are kept then.
 
-ghost use Rattle.std.specs.Prelude.{◌≡◌, ◌+◌, ◌<◌, ◌≤◌, ◌∷◌, ◌++◌, [], IfOk, OnOk, OnErr, Result, length, true, vec_len, vec_capacity};
-ghost use Rattle.lrs_machine.specs.declared.table.Table.{Table};
-ghost use Rattle.lrs_machine.specs.declared.image.Image.{Image as ImageRows};
+ghost use Rattle.std.specs.Prelude.{◌≡◌, ◌+◌, ◌<◌, ◌≤◌, ◌∷◌, ◌++◌, [], IfOk, OnOk, OnErr, length, true, vec_len, vec_capacity};
 ghost use Rattle.lrs_image.specs.Change.{apply, CanMake};
+ghost use Rattle.lrs_image.specs.KeeperCalls.{OnlyStages};
 ghost use Rattle.lrs_machine.specs.Stop.StoppedRuns.{IsAccepted};
 ghost use Rattle.lrs_report_answers.specs.Tally.RunningCounts.{IsCounted};
 ghost use Rattle.lrs_inventory.specs.Plans.{change_of, TellsGround};
@@ -38,11 +37,7 @@ pub fn do_first<K: Keeper>(
         inventory.old inventory.new given.items (K.staged keeper.new)) }
     ensures memory { OnErr result (inventory.new ≡ inventory.old) }
     ensures not_staged { OnErr result (K.staged keeper.new ≡ []) }
-    ensures content { (c : Result ImageRows Table) → K.may_hold keeper.new c → K.may_hold keeper.old c }
-    ensures loaded { K.is_loaded keeper.new ≡ K.is_loaded keeper.old }
-    ensures clean { K.is_clean keeper.new → K.is_clean keeper.old }
-    ensures open { K.is_open keeper.old → K.is_open keeper.new }
-    ensures quiet { K.failures keeper.new ≡ K.failures keeper.old }
+    ensures rest { OnlyStages K.Holder keeper.old keeper.new }
     ensures counted { IsCounted inventory.new counts.new }
 {
     inventory.prove_sound();
@@ -83,11 +78,7 @@ fn do_next<K: Keeper>(
     ensures memory { OnErr result (inventory.new ≡ inventory.old) }
     ensures given { OnErr result (given.new.items ≡ given.old.items) }
     ensures not_staged { OnErr result (K.staged keeper.new ≡ K.staged keeper.old) }
-    ensures content { (c : Result ImageRows Table) → K.may_hold keeper.new c → K.may_hold keeper.old c }
-    ensures loaded { K.is_loaded keeper.new ≡ K.is_loaded keeper.old }
-    ensures clean { K.is_clean keeper.new → K.is_clean keeper.old }
-    ensures open { K.is_open keeper.old → K.is_open keeper.new }
-    ensures quiet { K.failures keeper.new ≡ K.failures keeper.old }
+    ensures rest { OnlyStages K.Holder keeper.old keeper.new }
     ensures counted { IsCounted inventory.new counts.new }
 {
     given.reserve(1)?; // nothing fails once the command is done
@@ -141,11 +132,7 @@ fn make<K: Keeper>(
     ensures ok { OnOk result (inventory.new ≡ apply (change_of edit plan) inventory.old) }
     ensures err { OnErr result (inventory.new ≡ inventory.old) }
     ensures not_staged { OnErr result (K.staged keeper.new ≡ K.staged keeper.old) }
-    ensures content { (c : Result ImageRows Table) → K.may_hold keeper.new c → K.may_hold keeper.old c }
-    ensures loaded { K.is_loaded keeper.new ≡ K.is_loaded keeper.old }
-    ensures clean { K.is_clean keeper.new → K.is_clean keeper.old }
-    ensures open { K.is_open keeper.old → K.is_open keeper.new }
-    ensures quiet { K.failures keeper.new ≡ K.failures keeper.old }
+    ensures rest { OnlyStages K.Holder keeper.old keeper.new }
     ensures counted { IsCounted inventory.new counts.new }
 {
     inventory.prove_sound();

@@ -4,3 +4,4 @@ pub mod Becoming
 pub mod Tables
 pub mod Together
 pub mod OneChange
+pub mod Staging

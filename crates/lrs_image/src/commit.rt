@@ -1,13 +1,13 @@
 //! A change of an image, here and in what is kept.
 
-ghost use Rattle.std.specs.Prelude.{◌≡◌, ◌⊎◌, ◌∷◌, ◌++◌, [], IfOk, OnOk, OnErr, Ok, Err, true, Result};
+ghost use Rattle.std.specs.Prelude.{◌≡◌, ◌∷◌, ◌++◌, [], IfOk, OnOk, OnErr, Err, true, Result};
 ghost use Rattle.lrs_machine.specs.declared.image.Image.{Image};
 ghost use Rattle.lrs_machine.specs.declared.table.Table.{Table};
 ghost use Rattle.lrs_machine.specs.Sound.{IsSound};
 ghost use Rattle.lrs_image.specs.Change.{apply, CanMake};
-ghost use Rattle.lrs_image.specs.KeeperCalls.{HasRisen, HoldsOnly, HoldsSound, HoldsOldOrNew, HoldsSame};
+ghost use Rattle.lrs_image.specs.KeeperCalls.{HasLoaded, HasRisen, HoldsSound, OnlyStages};
 ghost use Rattle.lrs_image.specs.OpenLists.{image_of, image_with, IsPrepared};
-ghost use Rattle.lrs_image.specs.ChangeLists.{IsChangedBy};
+ghost use Rattle.lrs_image.specs.ChangeLists.{Keeps, KeepsOne};
 
 use crate::change::Change;
 use crate::keeper::{CommitFault, Keeper};
@@ -32,11 +32,7 @@ pub fn stage_change<K: Keeper>(
     ensures staged { OnOk result (K.staged keeper.new ≡ K.staged keeper.old ++ change ∷ []) }
     ensures err { OnErr result (image_of kept.new ≡ image_of kept.old) }
     ensures not_staged { OnErr result (K.staged keeper.new ≡ K.staged keeper.old) }
-    ensures content { HoldsSame (K.may_hold keeper.old) (K.may_hold keeper.new) }
-    ensures loaded { K.is_loaded keeper.new ≡ K.is_loaded keeper.old }
-    ensures clean { K.is_clean keeper.new → K.is_clean keeper.old }
-    ensures open { K.is_open keeper.old → K.is_open keeper.new }
-    ensures quiet { K.failures keeper.new ≡ K.failures keeper.old }
+    ensures rest { OnlyStages K.Holder keeper.old keeper.new }
 {
     match stage_prepared(alloc, kept, keeper, &change) {
         Ok(opened) => {
@@ -62,25 +58,14 @@ pub fn make_change<K: Keeper>(
     keeper: &mut K,
     change: Change,
 ) -> Result<(), CommitFault>
-    requires loaded { K.is_loaded keeper.old ≡ true }
+    requires has { HasLoaded K.Holder keeper.old (image_of kept.old) }
     requires staged { K.staged keeper.old ≡ [] }
-    requires reached { K.is_clean keeper.old → K.is_open keeper.old }
-    requires content { HoldsOnly (K.may_hold keeper.old) (image_of kept.old) }
     requires sound { IsSound (image_of kept.old) }
     requires can { CanMake change (image_of kept.old) }
     ensures ok { OnOk result (image_of kept.new ≡ apply change (image_of kept.old)) }
-    ensures ok_kept { OnOk result (HoldsOnly (K.may_hold keeper.new)
-        (apply change (image_of kept.old))) }
     ensures err { OnErr result (image_of kept.new ≡ image_of kept.old) }
-    ensures memory { result ≡ Err CommitFault.Memory → (c : Result Image Table)
-        → K.may_hold keeper.new c → K.may_hold keeper.old c }
-    ensures store { result ≡ Err CommitFault.Store
-        → HoldsOldOrNew change (K.may_hold keeper.new) (image_of kept.old) }
-    ensures cause { result ≡ Err CommitFault.Store
-        → HasRisen (K.failures keeper.old) (K.failures keeper.new) }
-    ensures loaded { K.is_loaded keeper.new ≡ true }
-    ensures reached { (result ≡ Err CommitFault.Store → ⊥)
-        → K.is_clean keeper.new → K.is_open keeper.new }
+    ensures keeps { KeepsOne K.Holder CommitFault.Memory CommitFault.Store change
+        (image_of kept.old) keeper.old keeper.new result }
     ensures staged { K.staged keeper.new ≡ [] }
 {
     match keep_prepared(alloc, kept, keeper, &change) {
@@ -110,11 +95,7 @@ fn stage_prepared<K: Keeper>(
     ensures staged { OnOk result (K.staged keeper.new ≡ K.staged keeper.old ++ change.now ∷ []) }
     ensures err { OnErr result (image_of kept.new ≡ image_of kept.old) }
     ensures not_staged { OnErr result (K.staged keeper.new ≡ K.staged keeper.old) }
-    ensures content { HoldsSame (K.may_hold keeper.old) (K.may_hold keeper.new) }
-    ensures loaded { K.is_loaded keeper.new ≡ K.is_loaded keeper.old }
-    ensures clean { K.is_clean keeper.new → K.is_clean keeper.old }
-    ensures open { K.is_open keeper.old → K.is_open keeper.new }
-    ensures quiet { K.failures keeper.new ≡ K.failures keeper.old }
+    ensures rest { OnlyStages K.Holder keeper.old keeper.new }
 {
     let opened = kept.prepare(alloc, &change.difference)?;
     match stage_copy(alloc, keeper, change) {
@@ -133,26 +114,15 @@ fn keep_prepared<K: Keeper>(
     keeper: &mut K,
     change: &Change,
 ) -> Result<Option<OpenRoute>, CommitFault>
-    requires loaded { K.is_loaded keeper.old ≡ true }
+    requires has { HasLoaded K.Holder keeper.old (image_of kept.old) }
     requires staged { K.staged keeper.old ≡ [] }
-    requires reached { K.is_clean keeper.old → K.is_open keeper.old }
-    requires content { HoldsOnly (K.may_hold keeper.old) (image_of kept.old) }
     requires sound { IsSound (image_of kept.old) }
     requires can { CanMake change.now (image_of kept.old) }
     ensures image { IfOk result (λ opened. image_with opened kept.new ≡ image_of kept.old) }
     ensures ready { IfOk result (λ opened. IsPrepared change.now.difference opened kept.new) }
-    ensures ok_kept { OnOk result (HoldsOnly (K.may_hold keeper.new)
-        (apply change.now (image_of kept.old))) }
     ensures err { OnErr result (image_of kept.new ≡ image_of kept.old) }
-    ensures memory { result ≡ Err CommitFault.Memory → (c : Result Image Table)
-        → K.may_hold keeper.new c → K.may_hold keeper.old c }
-    ensures store { result ≡ Err CommitFault.Store
-        → HoldsOldOrNew change.now (K.may_hold keeper.new) (image_of kept.old) }
-    ensures cause { result ≡ Err CommitFault.Store
-        → HasRisen (K.failures keeper.old) (K.failures keeper.new) }
-    ensures loaded { K.is_loaded keeper.new ≡ true }
-    ensures reached { (result ≡ Err CommitFault.Store → ⊥)
-        → K.is_clean keeper.new → K.is_open keeper.new }
+    ensures keeps { KeepsOne K.Holder CommitFault.Memory CommitFault.Store change.now
+        (image_of kept.old) keeper.old keeper.new result }
     ensures staged { K.staged keeper.new ≡ [] }
 {
     let opened = kept.prepare(alloc, &change.difference)?;
@@ -169,11 +139,7 @@ fn keep_prepared<K: Keeper>(
 fn stage_copy<K: Keeper>(alloc: Global, keeper: &mut K, change: &Change) -> Result<(), AllocError>
     ensures ok { OnOk result (K.staged keeper.new ≡ K.staged keeper.old ++ change.now ∷ []) }
     ensures err { OnErr result (K.staged keeper.new ≡ K.staged keeper.old) }
-    ensures content { HoldsSame (K.may_hold keeper.old) (K.may_hold keeper.new) }
-    ensures clean { K.is_clean keeper.new → K.is_clean keeper.old }
-    ensures open { K.is_open keeper.old → K.is_open keeper.new }
-    ensures loaded { K.is_loaded keeper.new ≡ K.is_loaded keeper.old }
-    ensures quiet { K.failures keeper.new ≡ K.failures keeper.old }
+    ensures rest { OnlyStages K.Holder keeper.old keeper.new }
 {
     let copy = change.copy(alloc)?;
     keeper.stage(copy)
@@ -186,18 +152,9 @@ fn keep_one<K: Keeper>(alloc: Global, keeper: &mut K, change: &Change) -> Result
     requires reached { K.is_clean keeper.old → K.is_open keeper.old }
     requires sound { HoldsSound (K.may_hold keeper.old) }
     requires can { (c : Result Image Table) → K.may_hold keeper.old c → IfOk c (CanMake change.now) }
-    ensures ok { OnOk result ((c : Result Image Table) → K.may_hold keeper.new c
-        → IsChangedBy (K.may_hold keeper.old) (change.now ∷ []) c) }
-    ensures memory { result ≡ Err CommitFault.Memory → (c : Result Image Table)
-        → K.may_hold keeper.new c → K.may_hold keeper.old c }
-    ensures store { result ≡ Err CommitFault.Store → (c : Result Image Table)
-        → K.may_hold keeper.new c
-        → K.may_hold keeper.old c ⊎ IsChangedBy (K.may_hold keeper.old) (change.now ∷ []) c }
+    ensures keeps { Keeps K.Holder (change.now ∷ []) keeper.old keeper.new result }
     ensures cause { result ≡ Err CommitFault.Store
         → HasRisen (K.failures keeper.old) (K.failures keeper.new) }
-    ensures loaded { K.is_loaded keeper.new ≡ true }
-    ensures reached { (result ≡ Err CommitFault.Store → ⊥)
-        → K.is_clean keeper.new → K.is_open keeper.new }
     ensures staged { K.staged keeper.new ≡ [] }
 {
     stage_copy(alloc, keeper, change)?;

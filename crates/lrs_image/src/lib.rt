@@ -4,6 +4,7 @@
 mod batches;
 mod change;
 mod commit;
+mod holder;
 mod keeper;
 mod kept_image;
 mod lists;
@@ -14,6 +15,7 @@ mod staged;
 pub use batches::Batches;
 pub use change::{Change, Difference, ReferentChange, RouteChange, RouteKeys};
 pub use commit::{make_change, stage_change};
+pub use holder::Holder;
 pub use keeper::{CommitFault, Keeper, LoadFault};
 pub use kept_image::KeptImage;
 pub use open_route::OpenRoute;

@@ -4,6 +4,7 @@ ghost use Rattle.std.specs.Prelude.{◌≡◌, []};
 
 use crate::batches::Batches;
 use crate::change::Change;
+use crate::holder::Holder;
 use crate::keeper::{CommitFault, Keeper, LoadFault};
 use lrs_machine::Image;
 use std::alloc::{AllocError, Global};
@@ -36,7 +37,7 @@ impl<B: Batches> Staged<B> {
     }
 }
 
-impl<B: Batches> Keeper for Staged<B> {
+impl<B: Batches> Holder for Staged<B> {
     ghost may_hold = { λ k c. B.may_hold k.batches c };
 
     ghost is_clean = { λ k. B.is_clean k.batches };
@@ -46,7 +47,9 @@ impl<B: Batches> Keeper for Staged<B> {
     ghost is_loaded = { λ k. B.is_loaded k.batches };
 
     ghost failures = { λ k. B.failures k.batches };
+}
 
+impl<B: Batches> Keeper for Staged<B> {
     ghost staged = { λ k. k.staged.items };
 
     fn load(&mut self, alloc: Global) -> Result<Image, LoadFault> {

@@ -42,6 +42,10 @@ module _ (kept n : ℕ) (xs : List Change) (all : n ≡ length xs) where
       (apply_all (take kept xs) (image_of k), refl, ap (λ (cs : List Change). content_after cs (Sound k)) (sym both) ∙ ap (λ (i : Image). let c : Result Image Table = Ok i in c) (apply_append (take kept xs) (drop kept xs) (image_of k)))
   changed (Unsound table) loaded = absurd (false≢true loaded)
 
+  loaded_with : (base : Content) → is_image (content_after (take kept xs) base) ≡ true → is_image (content_after (take n xs) base) ≡ true
+  loaded_with (Sound k) loaded = refl
+  loaded_with (Unsound table) loaded = loaded
+
   module _ (base : Content) (old : PlainView) (is : IsPlain base kept xs) (view : record { content = content_after (take kept xs) base; staged = drop kept xs } ≡ old) where
     -- All can be made, one after the other.
     pub all_kept : ((c : Result Image Table) → c ≡ old.content → IfOk c (CanMakeAll old.staged)) → IsPlain base n xs
@@ -55,6 +59,10 @@ module _ (kept n : ℕ) (xs : List Change) (all : n ≡ length xs) where
     all_made loaded c e =
         subst (λ (v : PlainView). is_image v.content ≡ true → IsChangedBy (λ c. c ≡ v.content) v.staged c) view
         (λ l. subst (IsChangedBy (λ c. c ≡ content_after (take kept xs) base) (drop kept xs)) (sym e) (changed base l)) loaded
+
+    -- An image is found still.
+    pub still_loaded : is_image old.content ≡ true → is_image (content_after (take n xs) base) ≡ true
+    still_loaded loaded = loaded_with base (subst (λ (v : PlainView). is_image v.content ≡ true) (sym view) loaded)
 
 -- One more that is staged leaves what is found.
 pub same_content : (kept : ℕ) (xs ys : List Change) (c : Change) (base : Content) → kept ≤ length xs → ys ≡ xs ++ c ∷ [] → content_after (take kept ys) base ≡ content_after (take kept xs) base

@@ -8,7 +8,7 @@ ghost use Rattle.lrs_image_plain.specs.PlainKeeper.{IsBase};
 ghost use Rattle.lrs_image.specs.ChangeLists.{apply_all};
 ghost use Rattle.lrs_image.specs.KeeperCalls.{content_of};
 
-use lrs_image::{Change, CommitFault, Keeper, KeptImage, LoadFault};
+use lrs_image::{Change, CommitFault, Holder, Keeper, KeptImage, LoadFault};
 use lrs_image_sound::first_unsound;
 use lrs_machine::{Image, Table};
 use std::alloc::{AllocError, Global};
@@ -98,10 +98,9 @@ impl Plain {
     }
 }
 
-impl Keeper for Plain {
+impl Holder for Plain {
     ghost use Rattle.std.specs.Prelude.{◌≡◌, ⊤};
     ghost use Rattle.lrs_image.specs.KeeperCalls.{is_image};
-    ghost use Rattle.lrs_image_plain.specs.PlainKeeper.{finds_kept};
 
     ghost may_hold = { λ plain c. c ≡ plain.content };
 
@@ -109,12 +108,14 @@ impl Keeper for Plain {
 
     ghost is_open = { λ plain. ⊤ };
 
-    ghost finds = { λ plain clean opened. finds_kept plain };
-
     ghost is_loaded = { λ plain. is_image plain.content };
 
     // It has no device, so that no commit fails.
     ghost failures = { λ plain. 0 };
+}
+
+impl Keeper for Plain {
+    ghost use Rattle.lrs_image_plain.specs.PlainKeeper.{finds_kept};
 
     ghost staged = { λ plain. plain.staged };
 
@@ -146,6 +147,8 @@ impl Keeper for Plain {
         self.kept = self.changes.as_slice().len();
         Ok(())
     }
+
+    ghost finds = { λ plain clean opened. finds_kept plain };
 }
 
 /// What changes make of an image.

@@ -1,13 +1,13 @@
 -- The indexes of an image as it changes.
-use Rattle.std.proofs.Common.{◌≡◌, ℕ, Bool, true, false, cond, length, Option, Some, None, refl, sym, ap, subst, ◌∙◌}
+use Rattle.std.proofs.Common.{◌≡◌, ℕ, Bool, true, false, cond, List, length, Option, Some, None, refl, sym, ap, subst, ◌∙◌}
 use Rattle.std.specs.FinMap.{get}
 use Rattle.std.proofs.lemmas.Bool.{false≢true}
 use Rattle.std.specs.Prelude.{◌||◌, is_some}
 use Rattle.std.specs.List.{list_any}
 use Rattle.std.specs.Option.{option_map}
-use Rattle.lrs_inventory.specs.Prelude.{Name, same_name, Millimetre, course_of, runs_over, Stretches, Edit, Image, state_of, with_difference}
+use Rattle.lrs_inventory.specs.Prelude.{Name, same_name, Millimetre, course_of, runs_over, Stretches, Edit, Image, IsSound, state_of, with_difference}
 use Rattle.lrs_position.specs.Index.Ground.{route_over}
-use Rattle.lrs_image.specs.Change.{apply}
+use Rattle.lrs_image.specs.Change.{apply, CanMake}
 use Rattle.lrs_inventory.specs.declared.plan.Plan.{Plan}
 use Rattle.lrs_inventory.specs.declared.plan.GroundChange.{GroundChange}
 use Rattle.lrs_inventory.specs.declared.plan.ReferentPlace.{ReferentPlace}
@@ -16,6 +16,7 @@ use Rattle.lrs_inventory.specs.declared.keys.KeyIndex.{KeyIndex}
 use Rattle.lrs_inventory.specs.Keys.{IsIndex, HaveSameKeys}
 use Rattle.lrs_inventory.specs.Changes.{route_on, ground_after, CanChange, CanChangeGround, without_referent, referents_after}
 use Rattle.lrs_inventory.specs.Plans.{change_of, TellsGround}
+use Rattle.lrs_inventory.specs.Inventory.{IsKnown}
 use Rattle.lrs_inventory.specs.Indexes.{IsIndexed, IsReadyFor, AreWholeFor, made_by, ground_made, IsPutIn, TellSame}
 use Rattle.lrs_inventory.proofs.Keyed.{IsIndex-push, IsIndex-same}
 use Rattle.lrs_inventory.proofs.Standing.{referents_back, out_of}
@@ -95,3 +96,17 @@ module _ (i : Image) (p : Plan) (e : Edit) (old ready new : Indexes) (ix : IsInd
           ∙ sym (tells.referents name) ∙ ap (λ (stands : Name → Option Millimetre). stands name) (sym same_referents);
     };
   }
+
+-- What is known of an image before a change is known of the one after it, where the indexes were given what is new and rid of what is gone.
+pub known_after : (i old_image next : Image) (p : Plan) (e : Edit) (old ready new : Indexes) (place : ℕ) (gone : List Name)
+    → IsKnown i old → i ≡ old_image → CanMake (change_of e p) old_image → TellsGround p old_image → next ≡ apply (change_of e p) i
+    → place ≡ length i.edits → IsPutIn e.key place p.ground p.referents.come old ready
+    → new.keys ≡ ready.keys → ((m : Millimetre) → route_over new.ground m ≡ ground_made p.ground (route_over ready.ground) m)
+    → gone ≡ p.referents.gone → ((name : Name) → get new.referents name ≡ out_of gone (get ready.referents) name) → IsKnown next new
+known_after i old_image next p e old ready new place gone known seen can tells made at put keys ground gone_is referents = record {
+  sound = subst IsSound (sym (made ∙ ap (apply (change_of e p)) seen)) can.sound;
+  indexed = subst (λ (j : Image). IsIndexed j new) (sym made)
+      (next_indexed i p e old ready new known.indexed (subst (TellsGround p) (sym seen) tells)
+      (subst (λ (n : ℕ). IsPutIn e.key n p.ground p.referents.come old ready) at put) keys ground
+      (subst (λ (names : List Name). (name : Name) → get new.referents name ≡ out_of names (get ready.referents) name) gone_is referents));
+}

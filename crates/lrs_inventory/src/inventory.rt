@@ -1,9 +1,8 @@
 //! An inventory: its image, and what is looked up in it.
 
-ghost use Rattle.std.specs.Prelude.{◌≡◌, ◌∷◌, ◌++◌, [], IfOk, OnOk, OnErr, Err, Result, true, length};
-ghost use Rattle.lrs_machine.specs.declared.image.Image.{Image as ImageRows};
-ghost use Rattle.lrs_machine.specs.declared.table.Table.{Table};
-ghost use Rattle.lrs_image.specs.KeeperCalls.{HasRisen, HoldsOnly, HoldsOldOrNew, HoldsSame};
+ghost use Rattle.std.specs.Prelude.{◌≡◌, ◌∷◌, ◌++◌, [], IfOk, OnOk, OnErr, length};
+ghost use Rattle.lrs_image.specs.KeeperCalls.{HasLoaded, OnlyStages};
+ghost use Rattle.lrs_image.specs.ChangeLists.{KeepsOne};
 ghost use Rattle.lrs_inventory.specs.Prelude.{IsSound, image_of};
 ghost use Rattle.lrs_image.specs.Change.{apply, CanMake};
 ghost use Rattle.lrs_inventory.specs.Plans.{change_of, TellsGround};
@@ -140,11 +139,7 @@ impl Inventory {
             ≡ K.staged keeper.old ++ change_of edit plan ∷ []) }
         ensures err { OnErr result (self.new ≡ self.old) }
         ensures not_staged { OnErr result (K.staged keeper.new ≡ K.staged keeper.old) }
-        ensures content { HoldsSame (K.may_hold keeper.old) (K.may_hold keeper.new) }
-        ensures loaded { K.is_loaded keeper.new ≡ K.is_loaded keeper.old }
-        ensures clean { K.is_clean keeper.new → K.is_clean keeper.old }
-        ensures open { K.is_open keeper.old → K.is_open keeper.new }
-        ensures quiet { K.failures keeper.new ≡ K.failures keeper.old }
+        ensures rest { OnlyStages K.Holder keeper.old keeper.new }
     {
         let Plan {
             difference,
@@ -191,25 +186,14 @@ impl Inventory {
         edit: Edit,
         plan: Plan,
     ) -> Result<(), CommitFault>
-        requires loaded { K.is_loaded keeper.old ≡ true }
+        requires has { HasLoaded K.Holder keeper.old self.old }
         requires staged { K.staged keeper.old ≡ [] }
-        requires reached { K.is_clean keeper.old → K.is_open keeper.old }
-        requires content { HoldsOnly (K.may_hold keeper.old) self.old }
         requires can { CanMake (change_of edit plan) self.old }
         requires tells { TellsGround plan self.old }
         ensures ok { OnOk result (self.new ≡ apply (change_of edit plan) self.old) }
-        ensures ok_kept { OnOk result (HoldsOnly (K.may_hold keeper.new)
-            (apply (change_of edit plan) self.old)) }
         ensures err { OnErr result (self.new ≡ self.old) }
-        ensures memory { result ≡ Err CommitFault.Memory → (c : Result ImageRows Table)
-            → K.may_hold keeper.new c → K.may_hold keeper.old c }
-        ensures store { result ≡ Err CommitFault.Store
-            → HoldsOldOrNew (change_of edit plan) (K.may_hold keeper.new) self.old }
-        ensures cause { result ≡ Err CommitFault.Store
-            → HasRisen (K.failures keeper.old) (K.failures keeper.new) }
-        ensures loaded { K.is_loaded keeper.new ≡ true }
-        ensures reached { (result ≡ Err CommitFault.Store → ⊥)
-            → K.is_clean keeper.new → K.is_open keeper.new }
+        ensures keeps { KeepsOne K.Holder CommitFault.Memory CommitFault.Store
+            (change_of edit plan) self.old keeper.old keeper.new result }
         ensures staged { K.staged keeper.new ≡ [] }
     {
         let Plan {

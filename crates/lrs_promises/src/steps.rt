@@ -12,7 +12,7 @@ ghost use Rattle.lrs_machine.specs.Stop.Laws.{IsMadeBy};
 ghost use Rattle.lrs_desk.specs.Desk.{IsUnchanged, records_of};
 ghost use Rattle.lrs_promises.specs.DeskLaws.Steps.{AreStepsOf, IsAtRest, IsInRun, step_of};
 
-use lrs_desk::{Answer, Command, Desk, Fault, Keeper, Key, Limits, OpenFault, Plain};
+use lrs_desk::{Answer, Command, Desk, Fault, Holder, Keeper, Key, Limits, OpenFault, Plain};
 use std::alloc::Global;
 
 /// Opens a desk, as `Desk::open` does. Where the device gives something back, the desk acts on what is stored:
@@ -57,10 +57,10 @@ pub fn act_in_memory(desk: &mut Desk<Plain>, key: Key, command: &Command) -> Res
     ensures image { OnOk result (state_of desk.new.image ≡ (do_step desk.old.limits key command.now
         (state_of desk.old.image)).state) }
     ensures memory { result ≡ Err Fault.Memory
-        → IsUnchanged ⟦<Plain as Keeper>⟧.may_hold desk.old desk.new }
+        → IsUnchanged ⟦<Plain as Holder>⟧.may_hold desk.old desk.new }
     ensures reopen { (result ≡ Err Fault.MustReopen) ↔ IsTrue desk.old.must_reopen }
     ensures stays { result ≡ Err Fault.MustReopen
-        → IsUnchanged ⟦<Plain as Keeper>⟧.may_hold desk.old desk.new }
+        → IsUnchanged ⟦<Plain as Holder>⟧.may_hold desk.old desk.new }
     ensures never { result ≡ Err Fault.Keep → ⊥ }
 {
     desk.act(key, command)

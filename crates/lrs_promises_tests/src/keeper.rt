@@ -2,7 +2,7 @@
 
 ghost use Rattle.std.specs.Prelude.{◌≡◌};
 
-use lrs_desk::{Change, CommitFault, Image, Keeper, LoadFault, Plain};
+use lrs_desk::{Change, CommitFault, Holder, Image, Keeper, LoadFault, Plain};
 use std::alloc::{AllocError, Global};
 use std::marker::Model;
 
@@ -62,10 +62,9 @@ impl Failing {
     }
 }
 
-impl Keeper for Failing {
+impl Holder for Failing {
     ghost use Rattle.std.specs.Prelude.{◌≡◌, ⊤};
     ghost use Rattle.lrs_image.specs.KeeperCalls.{is_image};
-    ghost use Rattle.lrs_image_plain.specs.PlainKeeper.{finds_kept};
 
     ghost may_hold = { λ f c. c ≡ f.plain.content };
 
@@ -73,11 +72,13 @@ impl Keeper for Failing {
 
     ghost is_open = { λ f. ⊤ };
 
-    ghost finds = { λ f clean opened. finds_kept f.plain };
-
     ghost is_loaded = { λ f. is_image f.plain.content };
 
     ghost failures = { λ f. f.failures };
+}
+
+impl Keeper for Failing {
+    ghost use Rattle.lrs_image_plain.specs.PlainKeeper.{finds_kept};
 
     ghost staged = { λ f. f.plain.staged };
 
@@ -116,4 +117,6 @@ impl Keeper for Failing {
             }
         }
     }
+
+    ghost finds = { λ f clean opened. finds_kept f.plain };
 }

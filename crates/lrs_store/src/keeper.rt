@@ -20,7 +20,7 @@ use crate::commit::write_next;
 use crate::image::{Unloaded, load_from};
 use crate::memory::new_store;
 use crate::migration::make_second;
-use lrs_image::{Batches, Change, CommitFault, LoadFault};
+use lrs_image::{Batches, Change, CommitFault, Holder, LoadFault};
 use lrs_machine::{Image, Table};
 use lrs_store_tables::StoreFault;
 use lrs_store_tables::stored_rows::ReadImage;
@@ -153,12 +153,11 @@ impl<R: ReadImage + Drop> Tables<MemStore, R> {
     }
 }
 
-impl<S: Alter, R: ReadImage> Batches for Tables<S, R> {
+impl<S: Alter, R: ReadImage> Holder for Tables<S, R> {
     ghost use Rattle.sqlite.specs.Held.{state};
     ghost use Rattle.std.specs.Prelude.{IsTrue};
     ghost use Rattle.sqlite.specs.State.{HasCleanDisk};
     ghost use Rattle.lrs_store_tables.specs.HeldRows.{MayHold};
-    ghost use Rattle.lrs_store.specs.TableKeeper.HeldImages.{finds_left};
 
     ghost may_hold = { λ k c. MayHold (state S.Store k.conn) c };
 
@@ -169,6 +168,10 @@ impl<S: Alter, R: ReadImage> Batches for Tables<S, R> {
     ghost is_loaded = { λ k. k.is_loaded };
 
     ghost failures = { λ k. k.failures };
+}
+
+impl<S: Alter, R: ReadImage> Batches for Tables<S, R> {
+    ghost use Rattle.lrs_store.specs.TableKeeper.HeldImages.{finds_left};
 
     // The last two clauses are not of `Batches`: why the store fails, and that all rows stay, whatever it answers.
     fn load(&mut self, alloc: Global) -> Result<Image, LoadFault>

@@ -4,7 +4,7 @@ ghost use Rattle.std.specs.Prelude.{◌≡◌, ◌≤◌};
 ghost use Rattle.lrs_image.specs.KeeperCalls.{HasRisen};
 
 use crate::image::read_image;
-use lrs_image::{Change, CommitFault, Keeper, LoadFault};
+use lrs_image::{Change, CommitFault, Holder, Keeper, LoadFault};
 use lrs_machine::Image;
 use sqlite_trees::store::Alter;
 use std::alloc::{AllocError, Global};
@@ -29,10 +29,9 @@ fn failures_after(failures: u64, fault: &LoadFault) -> u64
     }
 }
 
-impl<S: Alter> Keeper for Questions<S> {
-    ghost use Rattle.std.specs.Prelude.{[]};
+impl<S: Alter> Holder for Questions<S> {
     ghost use Rattle.sqlite_trees.specs.View.{IsClean};
-    ghost use Rattle.lrs_store_questions.specs.Readings.{MayTell, IsTold, finds_told};
+    ghost use Rattle.lrs_store_questions.specs.Readings.{MayTell, IsTold};
 
     ghost may_hold = { λ k c. MayTell S.Store.view S.Store.recovers c k.store };
 
@@ -43,6 +42,11 @@ impl<S: Alter> Keeper for Questions<S> {
     ghost is_loaded = { λ k. k.is_loaded };
 
     ghost failures = { λ k. k.failures };
+}
+
+impl<S: Alter> Keeper for Questions<S> {
+    ghost use Rattle.std.specs.Prelude.{[]};
+    ghost use Rattle.lrs_store_questions.specs.Readings.{finds_told};
 
     ghost staged = { λ k. [] };
 

@@ -3,4 +3,4 @@ use Rattle.lrs_cli_sheets.proofs.Between.{ran-between}
 use Rattle.lrs_cli_sheets.proofs.sheets.write_lines.Goals as goal
 
 pub returns-in-Ok-into_inner-clause-ran : goal.returns-in-Ok-into_inner-clause-ran
-returns-in-Ok-into_inner-clause-ran g c = ran-between g.K.Keeper.may_hold c.args.way (g.S.Read.remaining c.args.sheet) _ _ _ _ _ _ _ (search rules) c.in-Ok-into_inner.ensures.ok c.run-outcome.ensures.ran
+returns-in-Ok-into_inner-clause-ran g c = ran-between g.K.Holder.may_hold c.args.way (g.S.Read.remaining c.args.sheet) _ _ _ _ _ _ _ (search rules) c.in-Ok-into_inner.ensures.ok c.run-outcome.ensures.ran

@@ -3,5 +3,5 @@ use Rattle.lrs_cli_sheets.proofs.sheets.write_pieces.Goals as goal
 
 pub returns-clause-ran : goal.returns-clause-ran
 returns-clause-ran g c =
-    ran-between g.K.Keeper.may_hold c.args.way (g.S.Read.remaining c.args.sheet) _ _ _ _ _ _ _
+    ran-between g.K.Holder.may_hold c.args.way (g.S.Read.remaining c.args.sheet) _ _ _ _ _ _ _
     (keeps-same _ _ c.in_ok-pieces.ensures.same) c.in_ok-behind.ensures.same c.run-outcome.ensures.ran

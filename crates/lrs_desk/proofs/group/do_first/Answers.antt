@@ -1,5 +1,6 @@
-use Rattle.std.proofs.Common.{◌≤◌, length, arith, rules, ◌≡◌, ap, sym, refl, List, ◌∙◌}
+use Rattle.std.proofs.Common.{◌≤◌, length, arith, rules, ◌≡◌, ap, sym, List, ◌∙◌}
 use Rattle.lrs_machine.specs.declared.answer.Answer.{Answer}
+use Rattle.lrs_image.proofs.Staging.{stages_none, stages_more}
 use Rattle.lrs_desk.proofs.Grouping.{goes_on_from, none_staged, none_changed, group_ends, group_grows, group_stays, whole_group}
 use Rattle.lrs_desk.proofs.group.do_first.Goals as goal
 
@@ -7,11 +8,7 @@ pub loop-key-init : goal.loop-key-init
 loop-key-init g c = record {
   so_far = goes_on_from c.args.limits.now c.args.inventory.now c.prove_sound.ensures c.new-given.result.items (g.K.Keeper.staged c.args.keeper.now) c.new-given.ensures.items c.requires.staged;
   counted = c.requires.counted;
-  content = λ x h. h;
-  loaded = refl;
-  clean = λ h. h;
-  reached = λ h. h;
-  quiet = refl;
+  rest = stages_none g.K.Holder c.args.keeper.now;
 }
 
 pub loop-key-preserved : goal.loop-key-preserved
@@ -20,11 +17,7 @@ loop-key-preserved g c = record {
       c.loop-key.given.items c.do_next.new.given.items (g.K.Keeper.staged c.loop-key.keeper) (g.K.Keeper.staged c.do_next.new.keeper) c.in-Ok-true.field-0
       c.loop-key-test.true c.loop-key-item.is c.loop-key.invariant.so_far c.in-Ok-true.ensures.does c.in-Ok-true.field-0-test;
   counted = c.do_next.ensures.counted;
-  content = λ x h. c.loop-key.invariant.content x (c.do_next.ensures.content x h);
-  loaded = c.do_next.ensures.loaded ∙ c.loop-key.invariant.loaded;
-  clean = λ h. c.loop-key.invariant.clean (c.do_next.ensures.clean h);
-  reached = λ h. c.do_next.ensures.open (c.loop-key.invariant.reached h);
-  quiet = c.do_next.ensures.quiet ∙ c.loop-key.invariant.quiet;
+  rest = stages_more g.K.Holder c.args.keeper.now c.loop-key.keeper c.do_next.new.keeper c.loop-key.invariant.rest c.do_next.ensures.rest;
 }
 
 pub returns-in-Ok-false : goal.returns-in-Ok-false
@@ -34,11 +27,7 @@ returns-in-Ok-false g c = record {
       c.loop-key-test.true c.loop-key-item.is c.loop-key.invariant.so_far c.in-Ok-false.ensures.does;
   memory = tt;
   not_staged = tt;
-  content = λ x h. c.loop-key.invariant.content x (c.do_next.ensures.content x h);
-  loaded = c.do_next.ensures.loaded ∙ c.loop-key.invariant.loaded;
-  clean = λ h. c.loop-key.invariant.clean (c.do_next.ensures.clean h);
-  «open» = λ h. c.do_next.ensures.«open» (c.loop-key.invariant.reached h);
-  quiet = c.do_next.ensures.quiet ∙ c.loop-key.invariant.quiet;
+  rest = stages_more g.K.Holder c.args.keeper.now c.loop-key.keeper c.do_next.new.keeper c.loop-key.invariant.rest c.do_next.ensures.rest;
   counted = c.do_next.ensures.counted;
 }
 
@@ -52,11 +41,7 @@ returns-in-Err g c =
           c.loop-key.invariant.so_far (omega (arith, within)) some c.in-Err.ensures.memory c.in-Err.ensures.given c.in-Err.ensures.not_staged;
       memory = tt;
       not_staged = tt;
-      content = λ x h. c.loop-key.invariant.content x (c.do_next.ensures.content x h);
-      loaded = c.do_next.ensures.loaded ∙ c.loop-key.invariant.loaded;
-      clean = λ h. c.loop-key.invariant.clean (c.do_next.ensures.clean h);
-      «open» = λ h. c.do_next.ensures.«open» (c.loop-key.invariant.reached h);
-      quiet = c.do_next.ensures.quiet ∙ c.loop-key.invariant.quiet;
+      rest = stages_more g.K.Holder c.args.keeper.now c.loop-key.keeper c.do_next.new.keeper c.loop-key.invariant.rest c.do_next.ensures.rest;
       counted = c.do_next.ensures.counted;
     }
 
@@ -72,11 +57,7 @@ returns-then-is_empty g c =
           c.loop-key.invariant.so_far few none;
       not_staged = c.in-Err.ensures.not_staged ∙ none_staged c.args.commands.now c.args.limits.now c.loop-key.key-index c.args.inventory.now c.loop-key.inventory c.loop-key.given.items (g.K.Keeper.staged c.loop-key.keeper)
           c.loop-key.invariant.so_far few none;
-      content = λ x h. c.loop-key.invariant.content x (c.do_next.ensures.content x h);
-      loaded = c.do_next.ensures.loaded ∙ c.loop-key.invariant.loaded;
-      clean = λ h. c.loop-key.invariant.clean (c.do_next.ensures.clean h);
-      «open» = λ h. c.do_next.ensures.«open» (c.loop-key.invariant.reached h);
-      quiet = c.do_next.ensures.quiet ∙ c.loop-key.invariant.quiet;
+      rest = stages_more g.K.Holder c.args.keeper.now c.loop-key.keeper c.do_next.new.keeper c.loop-key.invariant.rest c.do_next.ensures.rest;
       counted = c.do_next.ensures.counted;
     }
 
@@ -86,10 +67,6 @@ returns g c = record {
       c.loop-key.invariant.so_far c.loop-key-test.false c.requires.some;
   memory = tt;
   not_staged = tt;
-  content = c.loop-key.invariant.content;
-  loaded = c.loop-key.invariant.loaded;
-  clean = c.loop-key.invariant.clean;
-  «open» = c.loop-key.invariant.reached;
-  quiet = c.loop-key.invariant.quiet;
+  rest = c.loop-key.invariant.rest;
   counted = c.loop-key.invariant.counted;
 }

@@ -34,10 +34,6 @@ returns-in_ok-answer-in-Make g c =
       memory = tt;
       given = tt;
       not_staged = tt;
-      content = made.ensures.content;
-      loaded = made.ensures.loaded;
-      clean = made.ensures.clean;
-      «open» = made.ensures.«open»;
-      quiet = made.ensures.quiet;
+      rest = made.ensures.rest;
       counted = made.ensures.counted;
     }

@@ -3,7 +3,7 @@ use Rattle.lrs_measure.specs.Lists.{each_two}
 use Rattle.lrs_machine.specs.declared.image.Image.{Image}
 use Rattle.lrs_machine.specs.Sound.{route_before}
 use Rattle.lrs_image.specs.OpenLists.{image_of}
-use Rattle.lrs_image.proofs.OneChange.{old_or_next}
+use Rattle.lrs_image.proofs.OneChange.{failed_one, kept_one}
 use Rattle.lrs_image.proofs.Tables.{routes_in_order}
 use Rattle.lrs_image.proofs.commit.keep_prepared.Goals as goal
 
@@ -11,8 +11,11 @@ pub put_back-requires-clause-order : goal.put_back-requires-clause-order
 put_back-requires-clause-order g c =
     ap (λ (i : Image). each_two route_before i.routes) c.in_ok-opened.ensures.image ∙ routes_in_order (image_of c.args.kept.now) c.requires.sound
 
-pub returns-in-Err-clause-store : goal.returns-in-Err-clause-store
-returns-in-Err-clause-store g c = λ e found h.
-    let old = g.K.Keeper.may_hold c.args.keeper.now in
-    old_or_next old (image_of c.args.kept.now) c.requires.content c.args.change.now found
-    (c.in-Err.ensures.store (ap Err (cc e)) found h)
+pub returns-in-Ok-clause-keeps : goal.returns-in-Ok-clause-keeps
+returns-in-Ok-clause-keeps g c =
+    kept_one g.K.Holder c.args.change.now (image_of c.args.kept.now) c.args.keeper.now c.keep_one.new.keeper c.requires.has.content _ _ c.in-Ok.ensures.keeps
+
+pub returns-in-Err-clause-keeps : goal.returns-in-Err-clause-keeps
+returns-in-Err-clause-keeps g c =
+    failed_one g.K.Holder c.args.change.now (image_of c.args.kept.now) c.args.keeper.now c.keep_one.new.keeper c.requires.has.content _ c.in-Err.ensures.keeps
+    (λ e. c.in-Err.ensures.cause (ap Err e))

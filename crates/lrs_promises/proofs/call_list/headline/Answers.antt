@@ -7,7 +7,7 @@ use Rattle.lrs_promises.proofs.call_list.headline.Goals as goal
 
 pub returns-clause-done : goal.returns-clause-done
 returns-clause-done g c =
-    let holds = g.K.Keeper.may_hold in
+    let holds = g.K.Holder.may_hold in
     let calls = c.args.calls.now in
     let old = c.args.desk.now in
     let new = c.do_all.new.desk in

@@ -7,7 +7,7 @@ returns g c =
     let r : Record = record { key = c.args.key; command = c.args.command.now } in
     let e = c.act.ensures in
     record {
-      answered = is_answered g.K.Keeper.may_hold g.K.Keeper.is_clean r c.args.desk.now c.act.new.self c.act.result e.answer e.image e.content e.found e.open e.ahead;
+      answered = is_answered g.K.Holder.may_hold g.K.Holder.is_clean r c.args.desk.now c.act.new.self c.act.result e.answer e.image e.content e.found e.open e.ahead;
       memory = e.memory;
       broken = e.keep;
       reopen = e.reopen;

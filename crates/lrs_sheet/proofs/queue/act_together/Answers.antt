@@ -8,14 +8,14 @@ pub returns-in_err-answers-clause-stops : goal.returns-in_err-answers-clause-sto
 returns-in_err-answers-clause-stops g c =
     let p = err_from_is_err_and c.from_residual.result c.from_residual.ensures.1 in
     rw (p.1, p.2)
-    (stops_together g.K.Keeper.may_hold g.K.Keeper.failures c.args.desk.now c.act_on_first.new.self c.args.commands.now (g.W.Write.contents c.args.writer.now) c.in_err-answers.field-0.0 c.requires.several
+    (stops_together g.K.Holder.may_hold g.K.Holder.failures c.args.desk.now c.act_on_first.new.self c.args.commands.now (g.W.Write.contents c.args.writer.now) c.in_err-answers.field-0.0 c.requires.several
     (λ e. c.in_err-answers.ensures.memory (ap Err e)) (λ e. c.in_err-answers.ensures.keep (ap Err e)) (λ e. c.in_err-answers.ensures.stays (ap Err e)))
 
 pub returns-in_err-write_answers-clause-stops : goal.returns-in_err-write_answers-clause-stops
 returns-in_err-write_answers-clause-stops g c =
     let p = err_from_is_err_and c.from_residual-in_err-write_answers.result c.from_residual-in_err-write_answers.ensures.1 in
     rw (p.1, p.2, c.in_err-write_answers.ensures.faults)
-    (wrote_some g.K.Keeper.may_hold c.args.commands.now c.in_ok-answers.answers.items c.args.desk.now c.act_on_first.new.self (g.W.Write.contents c.args.writer.now) (g.W.Write.contents c.write_answers.new.writer) c.in_ok-answers.ensures.does)
+    (wrote_some g.K.Holder.may_hold c.args.commands.now c.in_ok-answers.answers.items c.args.desk.now c.act_on_first.new.self (g.W.Write.contents c.args.writer.now) (g.W.Write.contents c.write_answers.new.writer) c.in_ok-answers.ensures.does)
 
 pub returns-clause-does : goal.returns-clause-does
 returns-clause-does g c =

@@ -11,7 +11,7 @@ pub returns-in_err-done-clause-stops : goal.returns-in_err-done-clause-stops
 returns-in_err-done-clause-stops g c =
     let p = err_from_is_err_and c.from_residual.result c.from_residual.ensures.1 in
     rw (p.1, p.2)
-    (stops_among g.K.Keeper.may_hold c.args.commands.now c.loop-done.done c.args.desk.now c.loop-done.desk (g.W.Write.contents c.args.writer.now) (g.W.Write.contents c.loop-done.writer) c.args.tally.now c.loop-done.tally c.loop-done-test.true c.loop-done.invariant.does c.loop-done.invariant.desk
+    (stops_among g.K.Holder.may_hold c.args.commands.now c.loop-done.done c.args.desk.now c.loop-done.desk (g.W.Write.contents c.args.writer.now) (g.W.Write.contents c.loop-done.writer) c.args.tally.now c.loop-done.tally c.loop-done-test.true c.loop-done.invariant.does c.loop-done.invariant.desk
     c.do_first.new.desk (g.W.Write.contents c.do_first.new.writer) c.in_err-done.field-0.0 (rw (the_rest c.loop-done.done c.args.commands.now) at c.in_err-done.ensures.stops))
 
 pub returns-in_err-done-clause-desk : goal.returns-in_err-done-clause-desk
@@ -21,7 +21,7 @@ returns-in_err-done-clause-desk g c =
 pub loop-done-preserved : goal.loop-done-preserved
 loop-done-preserved g c =
     let few : c.in_ok-done.field-0 ≤ length (drop c.loop-done.done c.args.commands.now) = rw (the_rest c.loop-done.done c.args.commands.now) at c.in_ok-done.ensures.few.1 in
-    let does = does_more g.K.Keeper.may_hold c.args.commands.now c.loop-done.done c.args.desk.now c.loop-done.desk (g.W.Write.contents c.args.writer.now) (g.W.Write.contents c.loop-done.writer) c.args.tally.now c.loop-done.tally c.loop-done-test.true c.loop-done.invariant.does c.loop-done.invariant.desk
+    let does = does_more g.K.Holder.may_hold c.args.commands.now c.loop-done.done c.args.desk.now c.loop-done.desk (g.W.Write.contents c.args.writer.now) (g.W.Write.contents c.loop-done.writer) c.args.tally.now c.loop-done.tally c.loop-done-test.true c.loop-done.invariant.does c.loop-done.invariant.desk
     c.in_ok-done.field-0 c.do_first.new.desk (g.W.Write.contents c.do_first.new.writer) c.do_first.new.tally (rw (the_rest c.loop-done.done c.args.commands.now) at c.in_ok-done.ensures.does) in
     let fits = within_rest c.loop-done.done c.in_ok-done.field-0 c.args.commands.now c.loop-done.invariant.few few in
     record {

@@ -9,7 +9,7 @@ abbrev pub invariant-loop-done : goal.invariant-loop-done
 invariant-loop-done g l = record {
   few : l.done ≤ length l.fn.commands;
   does : DoesAll l.initial.desk.limits (take l.done l.fn.commands) (state_of l.initial.desk.image) (state_of l.desk.image) (g.W.Write.contents l.initial.writer) (g.W.Write.contents l.writer) l.initial.tally l.tally;
-  desk : GoesAlong g.K.Keeper.may_hold l.initial.desk l.desk;
+  desk : GoesAlong g.K.Holder.may_hold l.initial.desk l.desk;
   count : answer_count l.tally ≡ answer_count l.initial.tally + l.done;
 }
 

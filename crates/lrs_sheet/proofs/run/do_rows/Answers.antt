@@ -25,7 +25,7 @@ returns-in_err-settle-clause-broken g c is =
 
 pub returns-in_err-settle-clause-still : goal.returns-in_err-settle-clause-still
 returns-in_err-settle-clause-still g c is one =
-    still_among g.K.Keeper.may_hold c.take_rows.new.queue.waiting.items c.take_rows.new.desk c.settle.new.desk (g.W.Write.contents c.take_rows.new.writer) (g.W.Write.contents c.settle.new.writer) (search rules)
+    still_among g.K.Holder.may_hold c.take_rows.new.queue.waiting.items c.take_rows.new.desk c.settle.new.desk (g.W.Write.contents c.take_rows.new.writer) (g.W.Write.contents c.settle.new.writer) (search rules)
     (let few = rw one at c.in_ok-unread.ensures.few in omega (arith, few))
 
 pub returns-in-Some-clause-rows : goal.returns-in-Some-clause-rows

@@ -37,13 +37,13 @@ returns-in_err-take_row-clause-broken g c is =
 
 pub returns-in_err-take_row-clause-still : goal.returns-in_err-take_row-clause-still
 returns-in_err-take_row-clause-still g c is one =
-    still_taking g.K.Keeper.may_hold (edit_record c.args.sheet (fields_of c.next_row.new.row)) c.loop-turn.queue.waiting.items c.loop-turn.desk c.take_row.new.desk (g.W.Write.contents c.loop-turn.writer) (g.W.Write.contents c.take_row.new.writer) c.loop-turn.queue.tally
+    still_taking g.K.Holder.may_hold (edit_record c.args.sheet (fields_of c.next_row.new.row)) c.loop-turn.queue.waiting.items c.loop-turn.desk c.take_row.new.desk (g.W.Write.contents c.loop-turn.writer) (g.W.Write.contents c.take_row.new.writer) c.loop-turn.queue.tally
     (rw one at c.loop-turn.invariant.few) (search rules)
 
 pub returns-in_err-take_row-clause-desk : goal.returns-in_err-take_row-clause-desk
 returns-in_err-take_row-clause-desk g c =
     leaves-after _ (Unit {0}) c.args.desk.now c.loop-turn.desk c.take_row.new.desk c.in_err-take_row.field-0.0 c.from_residual.result (search rules)
-    (never_header g.K.Keeper.may_hold (edit_record c.args.sheet (fields_of c.next_row.new.row)) c.loop-turn.queue.waiting.items c.loop-turn.desk c.take_row.new.desk (g.W.Write.contents c.loop-turn.writer) (g.W.Write.contents c.take_row.new.writer) c.loop-turn.queue.tally c.in_err-take_row.field-0.0 c.in_err-take_row.ensures.stops)
+    (never_header g.K.Holder.may_hold (edit_record c.args.sheet (fields_of c.next_row.new.row)) c.loop-turn.queue.waiting.items c.loop-turn.desk c.take_row.new.desk (g.W.Write.contents c.loop-turn.writer) (g.W.Write.contents c.take_row.new.writer) c.loop-turn.queue.tally c.in_err-take_row.field-0.0 c.in_err-take_row.ensures.stops)
     c.loop-turn.invariant.waiting.desk c.in_err-take_row.ensures.desk
 
 pub loop-turn-preserved : goal.loop-turn-preserved

@@ -5,7 +5,7 @@ use Rattle.lrs_web.proofs.door.serve_all.Goals as goal
 use Rattle.lrs_web.proofs.door.serve_all.Goals.{then-is_full, else-is_full}
 
 pub loop-turn-init : goal.loop-turn-init
-loop-turn-init g c = record { counted = refl; steady = refl; visited = visited_nobody g.K.Keeper.may_hold g.D.Reader.Read.remaining g.D.Writer.Write.contents _ _ _ }
+loop-turn-init g c = record { counted = refl; steady = refl; visited = visited_nobody g.K.Holder.may_hold g.D.Reader.Read.remaining g.D.Writer.Write.contents _ _ _ }
 
 pub loop-turn-preserved : goal.loop-turn-preserved
 loop-turn-preserved g c =

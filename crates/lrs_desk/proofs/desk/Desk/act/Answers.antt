@@ -24,23 +24,23 @@ returns-after-matches g c =
     let plan = c.in-Make.plan in
     let made = c.make-made.result in
     let new = c.make-made.new in
-    let may = g.K.Keeper.may_hold new.keeper in
+    let may = g.K.Holder.may_hold new.keeper in
     let is = c.make-made.ensures in
     let d = subst (IsDecision c.self.inside.limits key command i) c.in-Make.is c.in_ok-decision.ensures.decided in
     let edit : Edit = record { key = key; line = c.in_ok-line.line } in
     let same = ap (λ line. let e : Edit = record { key = key; line = line } in e) c.in_ok-line.ensures in
     let seen = c.self.view_is in
-    let content = kept_then may new.inventory (apply (change_of edit plan) i) made is.ok is.ok_kept in
+    let content = kept_then may new.inventory (apply (change_of edit plan) i) made is.ok is.keeps.ok in
     record {
       answer = subst (λ (v : DeskView g.row.K.Denot). IfOk made (λ (a : Answer). a ≡ (step v.limits key command (state_of v.image)).answer)) seen
           (if_ok made (λ a e. e ∙ sym (ap (λ (o : Outcome). o.answer) d.outcome)) is.answer);
       image = subst (λ (v : DeskView g.row.K.Denot). OnOk made (state_of new.inventory ≡ (step v.limits key command (state_of v.image)).state)) seen
           (on_ok made (λ e. ap state_of e ∙ ap (λ (e : Edit). state_of (apply (change_of e plan) i)) same ∙ sym (ap (λ (o : Outcome). o.state) d.outcome)) is.ok);
       content = content;
-      found = found_then may new.inventory (g.K.Keeper.is_clean new.keeper) (g.K.Keeper.is_open new.keeper) made content is.reached (g.met.K.Keeper.finds new.keeper);
+      found = found_then may new.inventory (g.K.Holder.is_clean new.keeper) (g.K.Holder.is_open new.keeper) made content is.keeps.reached (g.met.K.Keeper.finds new.keeper);
       memory = λ e. record {
         image = subst (λ r. OnErr r (new.inventory ≡ i)) e is.err ∙ ap (λ (v : DeskView g.row.K.Denot). v.image) seen;
-        content = λ found h. subst (λ (v : DeskView g.row.K.Denot). g.K.Keeper.may_hold v.keeper found) seen (is.memory e found h);
+        content = λ found h. subst (λ (v : DeskView g.row.K.Denot). g.K.Holder.may_hold v.keeper found) seen (is.keeps.none e found h);
         must_reopen = search rules;
         is_ahead = ap (λ (v : DeskView g.row.K.Denot). v.is_ahead) seen;
       };
@@ -48,10 +48,10 @@ returns-after-matches g c =
         image = subst (λ r. OnErr r (new.inventory ≡ i)) e is.err ∙ ap (λ (v : DeskView g.row.K.Denot). v.image) seen;
         content = λ found h.
             subst (λ (v : DeskView g.row.K.Denot). IsOldOrNext v.limits (record { key = key; command = command } ∷ []) v.image found) seen
-            (old_or_next c.self.inside.limits key command i plan edit d same found (is.store e found h));
+            (old_or_next c.self.inside.limits key command i plan edit d same found (is.keeps.either e found h));
         must_reopen = search rules;
         is_ahead = c.self.invariant.behind c.if-self.false;
-        cause = subst (λ (v : DeskView g.row.K.Denot). HasRisen (g.K.Keeper.failures v.keeper) (g.K.Keeper.failures new.keeper)) seen (is.cause e);
+        cause = subst (λ (v : DeskView g.row.K.Denot). HasRisen (g.K.Holder.failures v.keeper) (g.K.Holder.failures new.keeper)) seen (is.keeps.cause e);
       };
       reopen = (λ e. absurd (is.only e), λ yes. absurd (false≢true (sym c.if-self.false ∙ ap (λ (v : DeskView g.row.K.Denot). v.must_reopen) seen ∙ yes)));
       stays = λ e. absurd (is.only e);
@@ -66,11 +66,11 @@ invariant_of-self g c =
     (let failed : c.match-matches.self ≡ true = search rules in false≢true (sym shut ∙ failed)) in
     let d = c.make-made.ensures in
     record {
-      kept = λ shut. kept_after (g.K.Keeper.may_hold c.self.inside.keeper) (g.K.Keeper.may_hold c.make-made.new.keeper) c.self.inside.inventory c.make-made.new.inventory _ c.make-made.result
-          (c.self.invariant.kept c.if-self.false) d.ok d.ok_kept d.err d.memory d.only (no_failure shut);
-      reached = λ shut. d.reached (no_failure shut);
+      kept = λ shut. kept_after (g.K.Holder.may_hold c.self.inside.keeper) (g.K.Holder.may_hold c.make-made.new.keeper) c.self.inside.inventory c.make-made.new.inventory _ c.make-made.result
+          (c.self.invariant.kept c.if-self.false) d.ok d.keeps.ok d.err d.keeps.none d.only (no_failure shut);
+      reached = λ shut. d.keeps.reached (no_failure shut);
       behind = λ shut. c.self.invariant.behind c.if-self.false;
-      loaded = d.loaded;
+      loaded = d.keeps.loaded;
       none_staged = d.staged;
       counted = d.counted;
     }

@@ -14,11 +14,11 @@ returns-in-Err-clause-keep g c = λ e.
     let staged = g.K.Keeper.staged mid in
     let old : DeskView g.row.K.Denot = record { image = d.inventory; limits = d.limits; must_reopen = d.must_reopen; is_ahead = d.is_ahead; keeper = d.keeper } in
     let new : DeskView g.row.K.Denot = record { image = c.do_first.new.inventory; limits = d.limits; must_reopen = true; is_ahead = true; keeper = c.commit.new.self } in
-    let holds = g.K.Keeper.may_hold in
-    subst (λ (v : DeskView g.row.K.Denot). BreaksAmid holds g.K.Keeper.failures records v new) c.self.view_is
-    (breaks_amid holds g.K.Keeper.failures records old new c.in_ok-given.given.items staged c.in_ok-given.ensures.does (c.self.invariant.kept c.if-self.false)
-    (λ x h. as_before (holds d.keeper) (holds mid) c.do_first.ensures.content staged x (failed_either (holds c.commit.new.self) (holds mid) (IsChangedBy (holds mid) staged) c.commit.result c.in-Err.field-0 c.in-Err.is c.commit.ensures.memory c.commit.ensures.store x h))
-    refl refl (subst (λ (n : ℕ). HasRisen n (g.K.Keeper.failures c.commit.new.self)) c.do_first.ensures.quiet c.in-Err.ensures.cause))
+    let holds = g.K.Holder.may_hold in
+    subst (λ (v : DeskView g.row.K.Denot). BreaksAmid holds g.K.Holder.failures records v new) c.self.view_is
+    (breaks_amid holds g.K.Holder.failures records old new c.in_ok-given.given.items staged c.in_ok-given.ensures.does (c.self.invariant.kept c.if-self.false)
+    (λ x h. as_before (holds d.keeper) (holds mid) (λ y held. (c.do_first.ensures.rest.content y).0 held) staged x (failed_either (holds c.commit.new.self) (holds mid) (IsChangedBy (holds mid) staged) c.commit.result c.in-Err.field-0 c.in-Err.is c.commit.ensures.keeps.memory c.commit.ensures.keeps.store x h))
+    refl refl (subst (λ (n : ℕ). HasRisen n (g.K.Holder.failures c.commit.new.self)) c.do_first.ensures.rest.quiet c.in-Err.ensures.cause))
 
 -- Where no edit was made, nothing is staged, and the image is as it was.
 pub invariant_of-self-then-edits : goal.invariant_of-self-then-edits
@@ -29,10 +29,10 @@ invariant_of-self-then-edits g c =
     let m = c.in_ok-given.ensures.does.made in
     let none = none_made i j (g.K.Keeper.staged mid) m (sym c.edits.ensures ∙ c.if-edits.true ∙ c.edits-edits.ensures) in
     record {
-      kept = λ shut. same_only (g.K.Keeper.may_hold mid) i j (g.K.Keeper.staged mid) m none (still_only (g.K.Keeper.may_hold c.self.inside.keeper) (g.K.Keeper.may_hold mid) c.do_first.ensures.content i (c.self.invariant.kept shut));
-      reached = λ shut clean. c.do_first.ensures.«open» (c.self.invariant.reached shut (c.do_first.ensures.clean clean));
+      kept = λ shut. same_only (g.K.Holder.may_hold mid) i j (g.K.Keeper.staged mid) m none (still_only (g.K.Holder.may_hold c.self.inside.keeper) (g.K.Holder.may_hold mid) (λ x h. (c.do_first.ensures.rest.content x).0 h) i (c.self.invariant.kept shut));
+      reached = λ shut clean. c.do_first.ensures.rest.reached (c.self.invariant.reached shut (c.do_first.ensures.rest.clean clean));
       behind = c.self.invariant.behind;
-      loaded = c.do_first.ensures.loaded ∙ c.self.invariant.loaded;
+      loaded = c.do_first.ensures.rest.loaded ∙ c.self.invariant.loaded;
       none_staged = none;
       counted = c.do_first.ensures.counted;
     }
@@ -44,7 +44,7 @@ returns-then-edits-clause-content g c =
     let mid = c.do_first.new.keeper in
     let m = c.in_ok-given.ensures.does.made in
     let none = none_made i j (g.K.Keeper.staged mid) m (sym c.edits.ensures ∙ c.if-edits.true ∙ c.edits-edits.ensures) in
-    same_only (g.K.Keeper.may_hold mid) i j (g.K.Keeper.staged mid) m none (still_only (g.K.Keeper.may_hold c.self.inside.keeper) (g.K.Keeper.may_hold mid) c.do_first.ensures.content i (c.self.invariant.kept c.if-self.false))
+    same_only (g.K.Holder.may_hold mid) i j (g.K.Keeper.staged mid) m none (still_only (g.K.Holder.may_hold c.self.inside.keeper) (g.K.Holder.may_hold mid) (λ x h. (c.do_first.ensures.rest.content x).0 h) i (c.self.invariant.kept c.if-self.false))
 
 pub returns-then-edits-clause-found : goal.returns-then-edits-clause-found
 returns-then-edits-clause-found g c = λ clean.
@@ -53,6 +53,6 @@ returns-then-edits-clause-found g c = λ clean.
     let mid = c.do_first.new.keeper in
     let m = c.in_ok-given.ensures.does.made in
     let none = none_made i j (g.K.Keeper.staged mid) m (sym c.edits.ensures ∙ c.if-edits.true ∙ c.edits-edits.ensures) in
-    held (g.K.Keeper.may_hold mid) j
-    (same_only (g.K.Keeper.may_hold mid) i j (g.K.Keeper.staged mid) m none (still_only (g.K.Keeper.may_hold c.self.inside.keeper) (g.K.Keeper.may_hold mid) c.do_first.ensures.content i (c.self.invariant.kept c.if-self.false)))
-    (g.met.K.Keeper.finds mid clean (c.do_first.ensures.«open» (c.self.invariant.reached c.if-self.false (c.do_first.ensures.clean clean))))
+    held (g.K.Holder.may_hold mid) j
+    (same_only (g.K.Holder.may_hold mid) i j (g.K.Keeper.staged mid) m none (still_only (g.K.Holder.may_hold c.self.inside.keeper) (g.K.Holder.may_hold mid) (λ x h. (c.do_first.ensures.rest.content x).0 h) i (c.self.invariant.kept c.if-self.false)))
+    (g.met.K.Keeper.finds mid clean (c.do_first.ensures.rest.reached (c.self.invariant.reached c.if-self.false (c.do_first.ensures.rest.clean clean))))

@@ -3,4 +3,4 @@ use Rattle.lrs_desk.proofs.Deciding.{opened_unsound}
 use Rattle.lrs_desk.proofs.desk.Desk.open.Goals as goal
 
 pub returns-in-Err-clause-unsound : goal.returns-in-Err-clause-unsound
-returns-in-Err-clause-unsound g c = λ t e d h. c.in-Err.ensures.unsound t (ap Err (opened_unsound c.in-Err.fault t (sym c.from.ensures ∙ e))) d h
+returns-in-Err-clause-unsound g c = λ t e d h. c.in-Err.ensures.loads.unsound t (ap Err (opened_unsound c.in-Err.fault t (sym c.from.ensures ∙ e))) d h

@@ -1,6 +1,6 @@
-use Rattle.std.proofs.Common.{List, length, ap}
+use Rattle.std.proofs.Common.{List, length, ap, arith}
 use Rattle.lrs_image.specs.declared.change.Change.{Change}
-use Rattle.lrs_image_plain.proofs.Staged.{all_kept, all_made, holds_sound}
+use Rattle.lrs_image_plain.proofs.Staged.{all_kept, all_made, holds_sound, still_loaded}
 use Rattle.lrs_image_plain.proofs.plain.PlainKeeper.commit.Goals as goal
 
 pub invariant_of-self : goal.invariant_of-self
@@ -8,13 +8,18 @@ invariant_of-self c =
     let d = c.self.inside in
     all_kept d.kept _ d.changes.items (ap (λ (cs : List Change). length cs) c.as_slice.ensures.value) d.base c.args.self.now c.self.invariant c.self.view_is c.requires.can
 
-pub returns-clause-ok : goal.returns-clause-ok
-returns-clause-ok c =
+pub returns-clause-keeps : goal.returns-clause-keeps
+returns-clause-keeps c =
     let d = c.self.inside in
-    all_made d.kept _ d.changes.items (ap (λ (cs : List Change). length cs) c.as_slice.ensures.value) d.base c.args.self.now c.self.invariant c.self.view_is c.requires.loaded
-
-pub returns-clause-found : goal.returns-clause-found
-returns-clause-found c =
-    let d = c.self.inside in
-    let is = all_kept d.kept _ d.changes.items (ap (λ (cs : List Change). length cs) c.as_slice.ensures.value) d.base c.args.self.now c.self.invariant c.self.view_is c.requires.can in
-    holds_sound _ d.base is.content
+    let many = ap (λ (cs : List Change). length cs) c.as_slice.ensures.value in
+    let ok = all_made d.kept _ d.changes.items many d.base c.args.self.now c.self.invariant c.self.view_is c.requires.loaded in
+    let is = all_kept d.kept _ d.changes.items many d.base c.args.self.now c.self.invariant c.self.view_is c.requires.can in
+    record {
+      ok = ok;
+      memory = λ e. absurd (cc e);
+      store = λ e. absurd (cc e);
+      counts = omega arith;
+      found = holds_sound _ d.base is.content;
+      loaded = still_loaded d.kept _ d.changes.items many d.base c.args.self.now c.self.invariant c.self.view_is c.requires.loaded;
+      reached = λ other clean. tt;
+    }

@@ -1,12 +1,7 @@
-use Rattle.std.proofs.Common.{arith, ◌≡◌, ℕ, List, length, ap, sym, subst, ◌∙◌}
+use Rattle.std.proofs.Common.{arith, List, length, ap}
 use Rattle.std.proofs.lemmas.Grind.{common_steps}
-use Rattle.std.specs.FinMap.{get}
-use Rattle.lrs_inventory.specs.Prelude.{Name, Edit, Image, IsSound, image_of}
-use Rattle.lrs_image.specs.Change.{apply}
-use Rattle.lrs_inventory.specs.Indexes.{IsIndexed, IsPutIn}
-use Rattle.lrs_inventory.specs.Plans.{change_of, TellsGround}
-use Rattle.lrs_inventory.proofs.Standing.{out_of}
-use Rattle.lrs_inventory.proofs.Indexing.{still_indexed, next_indexed}
+use Rattle.lrs_inventory.specs.Prelude.{Edit, image_of}
+use Rattle.lrs_inventory.proofs.Indexing.{still_indexed, known_after}
 use Rattle.lrs_inventory.proofs.inventory.Inventory.stage.Goals as goal
 
 pub invariant_of-self : goal.invariant_of-self
@@ -17,93 +12,16 @@ invariant_of-self g c = record {
 
 pub invariant_of-self-in-Ok-stage_change : goal.invariant_of-self-in-Ok-stage_change
 invariant_of-self-in-Ok-stage_change g c =
-    let i = image_of c.self.inside.kept in
-    let p = c.args.plan in
-    let e = c.args.edit in
-    let old = c.self.inside.indexes in
-    let ready = c.put_in.new.self in
-    let new = c.let_go.new.self in
-    let place = ap (λ (es : List Edit). length es) c.as_slice.ensures.value in
-    let put = subst (λ (n : ℕ). IsPutIn e.key n p.ground p.referents.come old ready) place c.in-Ok.ensures.ok in
-    record {
-      sound = subst IsSound (sym (c.in-Ok-stage_change.ensures.ok ∙ ap (apply (change_of e p)) c.self.view_is)) c.requires.can.sound;
-      indexed = subst (λ (j : Image). IsIndexed j new) (sym c.in-Ok-stage_change.ensures.ok)
-          (next_indexed i p e old ready new c.self.invariant.indexed (subst (TellsGround p) (sym c.self.view_is) c.requires.tells) put
-          c.let_go.ensures.keys c.let_go.ensures.ground
-          (subst (λ (names : List Name). (name : Name) → get new.referents name ≡ out_of names (get ready.referents) name) c.as_slice-in-Ok-stage_change.ensures c.let_go.ensures.referents));
-    }
+    known_after (image_of c.self.inside.kept) c.args.self.now _ c.args.plan c.args.edit c.self.inside.indexes c.put_in.new.self c.let_go.new.self _ _
+    c.self.invariant c.self.view_is c.requires.can c.requires.tells c.in-Ok-stage_change.ensures.ok
+    (ap (λ (es : List Edit). length es) c.as_slice.ensures.value) c.in-Ok.ensures.ok
+    c.let_go.ensures.keys c.let_go.ensures.ground c.as_slice-in-Ok-stage_change.ensures c.let_go.ensures.referents
 
-pub returns-in-Err-clause-ok : goal.returns-in-Err-clause-ok
-returns-in-Err-clause-ok g c = grind (arith, common_steps)
+pub returns-in-Err : goal.returns-in-Err
+returns-in-Err g c = grind (arith, common_steps)
 
-pub returns-in-Err-clause-staged : goal.returns-in-Err-clause-staged
-returns-in-Err-clause-staged g c = grind (arith, common_steps)
+pub returns-in-Ok-stage_change : goal.returns-in-Ok-stage_change
+returns-in-Ok-stage_change g c = grind (arith, common_steps)
 
-pub returns-in-Err-clause-err : goal.returns-in-Err-clause-err
-returns-in-Err-clause-err g c = grind (arith, common_steps)
-
-pub returns-in-Err-clause-not_staged : goal.returns-in-Err-clause-not_staged
-returns-in-Err-clause-not_staged g c = grind (arith, common_steps)
-
-pub returns-in-Err-clause-content : goal.returns-in-Err-clause-content
-returns-in-Err-clause-content g c = grind (arith, common_steps)
-
-pub returns-in-Err-clause-loaded : goal.returns-in-Err-clause-loaded
-returns-in-Err-clause-loaded g c = grind (arith, common_steps)
-
-pub returns-in-Err-clause-clean : goal.returns-in-Err-clause-clean
-returns-in-Err-clause-clean g c = grind (arith, common_steps)
-
-pub returns-in-Err-clause-open : goal.returns-in-Err-clause-open
-returns-in-Err-clause-open g c = grind (arith, common_steps)
-
-pub returns-in-Err-clause-quiet : goal.returns-in-Err-clause-quiet
-returns-in-Err-clause-quiet g c = grind (arith, common_steps)
-
-pub returns-in-Ok-stage_change-clause-ok : goal.returns-in-Ok-stage_change-clause-ok
-returns-in-Ok-stage_change-clause-ok g c = grind (arith, common_steps)
-
-pub returns-in-Ok-stage_change-clause-staged : goal.returns-in-Ok-stage_change-clause-staged
-returns-in-Ok-stage_change-clause-staged g c = grind (arith, common_steps)
-
-pub returns-in-Ok-stage_change-clause-err : goal.returns-in-Ok-stage_change-clause-err
-returns-in-Ok-stage_change-clause-err g c = grind (arith, common_steps)
-
-pub returns-in-Ok-stage_change-clause-content : goal.returns-in-Ok-stage_change-clause-content
-returns-in-Ok-stage_change-clause-content g c = grind (arith, common_steps)
-
-pub returns-in-Ok-stage_change-clause-loaded : goal.returns-in-Ok-stage_change-clause-loaded
-returns-in-Ok-stage_change-clause-loaded g c = grind (arith, common_steps)
-
-pub returns-in-Ok-stage_change-clause-clean : goal.returns-in-Ok-stage_change-clause-clean
-returns-in-Ok-stage_change-clause-clean g c = grind (arith, common_steps)
-
-pub returns-in-Ok-stage_change-clause-open : goal.returns-in-Ok-stage_change-clause-open
-returns-in-Ok-stage_change-clause-open g c = grind (arith, common_steps)
-
-pub returns-in-Ok-stage_change-clause-quiet : goal.returns-in-Ok-stage_change-clause-quiet
-returns-in-Ok-stage_change-clause-quiet g c = grind (arith, common_steps)
-
-pub returns-in-Err-stage_change-clause-ok : goal.returns-in-Err-stage_change-clause-ok
-returns-in-Err-stage_change-clause-ok g c = grind (arith, common_steps)
-
-pub returns-in-Err-stage_change-clause-staged : goal.returns-in-Err-stage_change-clause-staged
-returns-in-Err-stage_change-clause-staged g c = grind (arith, common_steps)
-
-pub returns-in-Err-stage_change-clause-err : goal.returns-in-Err-stage_change-clause-err
-returns-in-Err-stage_change-clause-err g c = grind (arith, common_steps)
-
-pub returns-in-Err-stage_change-clause-content : goal.returns-in-Err-stage_change-clause-content
-returns-in-Err-stage_change-clause-content g c = grind (arith, common_steps)
-
-pub returns-in-Err-stage_change-clause-loaded : goal.returns-in-Err-stage_change-clause-loaded
-returns-in-Err-stage_change-clause-loaded g c = grind (arith, common_steps)
-
-pub returns-in-Err-stage_change-clause-clean : goal.returns-in-Err-stage_change-clause-clean
-returns-in-Err-stage_change-clause-clean g c = grind (arith, common_steps)
-
-pub returns-in-Err-stage_change-clause-open : goal.returns-in-Err-stage_change-clause-open
-returns-in-Err-stage_change-clause-open g c = grind (arith, common_steps)
-
-pub returns-in-Err-stage_change-clause-quiet : goal.returns-in-Err-stage_change-clause-quiet
-returns-in-Err-stage_change-clause-quiet g c = grind (arith, common_steps)
+pub returns-in-Err-stage_change : goal.returns-in-Err-stage_change
+returns-in-Err-stage_change g c = grind (arith, common_steps)

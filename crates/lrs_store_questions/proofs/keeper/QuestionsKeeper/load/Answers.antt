@@ -1,11 +1,22 @@
-use Rattle.std.proofs.Common.{Err, refl, sym, subst, ◌∙◌}
+use Rattle.std.proofs.Common.{Err, ap, refl, sym, subst, ◌∙◌}
 use Rattle.lrs_store_questions.specs.Readings.{Says}
-use Rattle.lrs_store_questions.proofs.ReadLemmas.{told_only, told_sound}
+use Rattle.lrs_store_questions.proofs.ReadLemmas.{told_before, told_only, told_sound}
 use Rattle.lrs_store_questions.proofs.keeper.QuestionsKeeper.load.Goals as goal
 
-pub returns-in-Err-clause-unsound : goal.returns-in-Err-clause-unsound
-returns-in-Err-clause-unsound g c t e x may =
-    told_only g.S.Store.view g.S.Store.recovers c.read_image.new.store x (Err t) (c.read_image.ensures.there (Err t) (subst (λ r. Says r (Err t)) (sym (c.in-Err.is ∙ e)) refl)) may
-
-pub returns-in-Err-clause-found : goal.returns-in-Err-clause-found
-returns-in-Err-clause-found g c = told_sound g.S.Store.view g.S.Store.recovers c.read_image.new.store
+pub returns-in-Err-clause-loads : goal.returns-in-Err-clause-loads
+returns-in-Err-clause-loads g c =
+    let view = g.S.Store.view in
+    let recovers = g.S.Store.recovers in
+    let store = c.read_image.new.store in
+    record {
+      image = tt;
+      sound = tt;
+      loaded = tt;
+      unsound = λ t e x may. told_only view recovers store x (Err t) (c.read_image.ensures.there (Err t) (subst (λ r. Says r (Err t)) (sym (c.in-Err.is ∙ e)) refl)) may;
+      store = λ e. c.failures_after.ensures.store (cc e);
+      quiet = λ other. c.failures_after.ensures.quiet (λ e. other (ap Err e));
+      counts = c.failures_after.ensures.counts;
+      found = told_sound view recovers store;
+      content = told_before view recovers c.args.self.now.store store c.read_image.ensures.still;
+      reached = tt;
+    }
