@@ -1,7 +1,7 @@
 -- How the ground machine answers a command, by what is found in an image.
 use Rattle.std.proofs.Common.{◌≡◌, ℕ, ◌+◌, ◌≤◌, Bool, true, false, cond, List, [], ◌∷◌, length, map, Option, Some, None, Result, Ok, Err, refl, sym, ap, ◌∙◌, arith, ◌⊎◌, inl, inr}
 use Rattle.std.specs.Prelude.{not, ◌&&◌, nat_le, nat_lt, option_map}
-use Rattle.std.specs.List.{position, position_or_len, prefix_len, list_all}
+use Rattle.std.specs.List.{position, prefix_len}
 use Rattle.std.specs.Option.{option_and_then}
 use Rattle.std.proofs.lemmas.Bool.{and_parts, leb-true}
 use Rattle.std.proofs.lemmas.Bool.Decides.{nat_tests}
@@ -28,7 +28,7 @@ use Rattle.lrs_machine.specs.Lines.{line_of}
 use Rattle.lrs_machine.specs.Sound.{IsSound}
 use Rattle.lrs_machine.specs.Machine.{Outcome, step, attempt, step_by_key, outcome_of, next, answer_known, line_at, place_of_key, check_room, refuse_if, ◌>>◌, needs_asset, needs_route}
 use Rattle.lrs_inventory.specs.Plans.{IsPlanOf, change_of}
-use Rattle.lrs_image_laws.proofs.Making.{made_is_sound}
+use Rattle.lrs_verbs.proofs.Made.{plans_can_be_made}
 use Rattle.lrs_machine.specs.declared.table.Table.{Table}
 use Rattle.lrs_image.specs.declared.keeper.LoadFault.{LoadFault}
 use Rattle.lrs_image.specs.declared.keeper.LoadFault.TheVariants as load
@@ -47,22 +47,6 @@ module _ {X Y : Type 0} (f : X → Y) (p : Y → Bool) where
 
   pub position-map : (xs : List X) → position p (map f xs) ≡ position (λ x. p (f x)) xs
   position-map xs = λ j. cond (nat_lt (prefix_len-map xs j) (length-map xs f j)) (Some (prefix_len-map xs j)) None
-
-module _ {X : Type 0} (p : X → Bool) where
-  none_in_front : (xs : List X) → length xs ≤ prefix_len (λ x. not (p x)) xs → list_all (λ x. not (p x)) xs ≡ true
-  none_in_front [] h = refl
-  none_in_front (x ∷ xs) h =
-      elim (not (p x)) as (λ b. length (x ∷ xs) ≤ cond b (1 + prefix_len (λ x. not (p x)) xs) 0 → (b && list_all (λ x. not (p x)) xs) ≡ true) [
-        | true ↦ λ k. none_in_front xs (omega (arith, k))
-        | false ↦ λ k. absurd (omega (arith, k))
-      ] h
-
-  pub none_passes : (xs : List X) → position p xs ≡ None → list_all (λ x. not (p x)) xs ≡ true
-  none_passes xs h = none_in_front xs (at_end (nat_lt (position_or_len p xs) (length xs)) refl h)
-    where
-      at_end : (b : Bool) → nat_lt (position_or_len p xs) (length xs) ≡ b → cond b (Some (position_or_len p xs)) None ≡ None → length xs ≤ position_or_len p xs
-      at_end true e k = cc
-      at_end false e k = grind (arith, nat_tests)
 
 -- The key is known: nothing changes.
 pub step-known : (limits : Limits) (key : Name) (command : Command) (s : State) (place : ℕ) → place_of_key key s.done ≡ Some place
@@ -162,9 +146,9 @@ module _ (limits : Limits) (key : Name) (command : Command) (i : Image) (none : 
   is_done p sound room plan = record {
     is_plan = plan;
     outcome = step-new limits key command i none ∙ ap (outcome_of key command (state_of i)) (next-attempt room ∙ plan.makes.state) ∙ done_is p;
-    sound = made_is_sound command i (with_difference p.difference i) (edit_of key command) sound plan.makes
+    sound = (plans_can_be_made command i p (edit_of key command) sound plan
         (record { assets = few_rows (needs_asset command) (length i.assets) limits.assets most_assets room.assets (limits_few_assets limits); routes = few_rows (needs_route command) (length i.routes) limits.routes most_routes room.routes (limits_few_routes limits) })
-        (none_passes (λ (e : Edit). same_name e.key key) i.edits none) (few room.edits (limits_few limits));
+        none (few room.edits (limits_few limits))).sound;
   }
     where
       few : nat_le limits.edits (length i.edits) ≡ false → limits.edits ≤ most_edits → length i.edits + 1 ≤ most_edits

@@ -1,15 +1,16 @@
--- The tests that a sound image passes, one for each table, and the order of its tables.
-use Rattle.std.proofs.Common.{◌≡◌, true, inl, inr, length, refl, sym, ◌∙◌}
+-- The tests that a sound image passes, one for each table, the order of its tables, and its edits.
+use Rattle.std.proofs.Common.{◌≡◌, ◌≤◌, true, inl, inr, length, refl, sym, ◌∙◌}
 use Rattle.std.specs.Prelude.{◌&&◌, not, nat_le}
 use Rattle.std.specs.List.{list_all}
-use Rattle.std.proofs.lemmas.Bool.{and_parts}
+use Rattle.std.proofs.lemmas.Bool.{and_parts, leb-true}
 use Rattle.lrs_measure.specs.Lists.{each_two}
+use Rattle.lrs_measure.specs.Texts.{same_name}
 use Rattle.lrs_element.specs.Course.{meets}
 use Rattle.lrs_machine.specs.declared.image.Image.{Image}
 use Rattle.lrs_machine.specs.declared.image.RouteRow.{RouteRow}
 use Rattle.lrs_machine.specs.declared.table.Table.TheVariants as table
-use Rattle.lrs_measure.specs.Limits.{most_routes, most_assets}
-use Rattle.lrs_machine.specs.Sound.{link_before, class_before, asset_before, route_before, course_before, is_asset, is_course, are_links, are_classes, are_assets, are_courses, courses_of, are_all_marks, marks_of, are_all_referents, referents_of, are_spans, spans_of, are_entered, are_gone, are_edits, are_origins, IsSound, first_unsound, tests}
+use Rattle.lrs_measure.specs.Limits.{most_routes, most_assets, most_edits}
+use Rattle.lrs_machine.specs.Sound.{link_before, class_before, asset_before, route_before, course_before, is_asset, is_course, are_links, are_classes, are_assets, are_courses, courses_of, are_all_marks, marks_of, are_all_referents, referents_of, are_spans, spans_of, are_entered, are_gone, are_edits, are_origins, is_named_by, parts_of, IsSound, first_unsound, tests}
 use Rattle.lrs_machine.proofs.SoundImages.{passed}
 use Rattle.lrs_machine.proofs.Pairs.{each_two-map}
 
@@ -64,3 +65,15 @@ routes_in_order i h =
     let few = nat_le (length courses) most_routes in
     sym (each_two-map course_before (λ (e : RouteRow). record { route = e.route.name; entries = e.route.course }) i.routes)
     ∙ (and_parts order each (and_parts (order && each) free (and_parts (order && each && free) few (passes i h).courses).0).0).0
+
+-- a sound image has no more edits than there may be
+pub few_edits : (i : Image) → IsSound i → length i.edits ≤ most_edits
+few_edits i h = leb-true (length i.edits) most_edits (and_parts (each_two (λ d e. not (same_name d.key e.key)) i.edits && list_all (is_named_by i.edits) i.entered && list_all (is_named_by i.edits) (parts_of i.gone)) (nat_le (length i.edits) most_edits) (passes i h).edits).1
+
+-- ... and each key once
+pub keys_once : (i : Image) → IsSound i → each_two (λ d e. not (same_name d.key e.key)) i.edits ≡ true
+keys_once i h =
+    let keys = each_two (λ d e. not (same_name d.key e.key)) i.edits in
+    let named = list_all (is_named_by i.edits) i.entered in
+    let taken = list_all (is_named_by i.edits) (parts_of i.gone) in
+    (and_parts keys named (and_parts (keys && named) taken (and_parts (keys && named && taken) (nat_le (length i.edits) most_edits) (passes i h).edits).0).0).0

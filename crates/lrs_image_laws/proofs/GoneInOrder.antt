@@ -25,7 +25,7 @@ use Rattle.lrs_machine.proofs.SoundImages.{and_three}
 use Rattle.lrs_image_laws.specs.Orderly.{IsOrderly, is_filled, share_nothing_for_a_reason}
 use Rattle.lrs_image_laws.proofs.Found.{each_two_from}
 use Rattle.lrs_image_laws.proofs.Ordering.{sound_is_orderly}
-use Rattle.lrs_image_laws.proofs.Tables.{passes}
+use Rattle.lrs_image.proofs.Tables.{passes}
 use Rattle.lrs_image_laws.specs.GoneRows.{AreGone, AreInOrder, GoneStaysInOrder}
 use Rattle.lrs_image_laws.proofs.Appended.{all-append, each_two-append}
 use Rattle.lrs_image_laws.proofs.Once.{parts_apart}

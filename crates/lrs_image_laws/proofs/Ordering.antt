@@ -12,7 +12,7 @@ use Rattle.lrs_machine.specs.Sound.{are_spans_of, spans_of, keeps_exclusive, is_
 use Rattle.lrs_machine.proofs.Members.{all_weaker}
 use Rattle.lrs_machine.proofs.Pairs.{each_two-map}
 use Rattle.lrs_machine.proofs.SoundImages.{and_three}
-use Rattle.lrs_image_laws.proofs.Tables.{passes, keys_once, few_edits}
+use Rattle.lrs_image.proofs.Tables.{passes, keys_once, few_edits}
 use Rattle.lrs_image_laws.specs.Orderly.{SoundIsOrderly, is_filled, share_nothing_in_an_edit, share_nothing_for_a_reason}
 use Rattle.lrs_image_laws.proofs.Found.{each_two_from}
 

@@ -33,7 +33,8 @@ use Rattle.lrs_machine.specs.Sound.{asset_before, are_spans_of, spans_of, gone_b
 use Rattle.lrs_machine.proofs.Members.{In, any_found, any_of, all_at, all_of, In-map, list_any-map, map_found, find_found, find_member, find_numbered}
 use Rattle.lrs_machine.proofs.Pairs.{pair_had, entered_by, has_entered, gone_by, has_gone, takes_away, is_same_reason, is_same_side, same_side_is, each_two-map}
 use Rattle.lrs_machine.proofs.Registers.{some_if_known}
-use Rattle.lrs_image_laws.proofs.Tables.{Passes, sound}
+use Rattle.lrs_image.proofs.Tables.{Passes}
+use Rattle.lrs_image_laws.proofs.Tables.{sound}
 use Rattle.lrs_image_laws.specs.Orderly.{IsOrderly, OrderlyLawfulIsSound, is_filled, share_nothing_in_an_edit, share_nothing_for_a_reason}
 use Rattle.lrs_image_laws.proofs.Found.{each_two_from, at_most_one}
 use Rattle.lrs_image_laws.proofs.Counted.{is_on_its_link, fewer}

@@ -1,5 +1,5 @@
 use Rattle.std.proofs.Common.{◌∷◌, [], arith, length-append, ◌≡◌, ◌∙◌, sym, subst, OnOk}
-use Rattle.lrs_image_laws.proofs.Tables.{few_edits}
+use Rattle.lrs_image.proofs.Tables.{few_edits}
 use Rattle.lrs_machine.specs.Sound.{IsSound}
 use Rattle.lrs_image.specs.Change.{apply}
 use Rattle.lrs_inventory.specs.Plans.{change_of}

@@ -1,6 +1,6 @@
 use Rattle.std.proofs.Common.{◌∷◌, [], arith, length-append, ◌∙◌, sym, subst}
 use Rattle.std.proofs.lemmas.Grind.{common_steps}
-use Rattle.lrs_image_laws.proofs.Tables.{few_edits}
+use Rattle.lrs_image.proofs.Tables.{few_edits}
 use Rattle.lrs_machine.specs.Sound.{IsSound}
 use Rattle.lrs_image.specs.Change.{apply}
 use Rattle.lrs_inventory.specs.Plans.{change_of}

@@ -2,7 +2,7 @@ use Rattle.std.proofs.Common.{ℕ, ◌+◌, List, Err, rules, sym, ap, subst, �
 use Rattle.std.proofs.lemmas.Result.{err_from_is_err_and}
 use Rattle.lrs_inventory.specs.Prelude.{Piece, state_of}
 use Rattle.lrs_machine.specs.declared.command.Command.TheVariants as verb
-use Rattle.lrs_image_laws.proofs.Tables.{few_edits}
+use Rattle.lrs_image.proofs.Tables.{few_edits}
 use Rattle.lrs_image_laws.proofs.Naming.{found_in}
 use Rattle.lrs_image_laws.proofs.Rewriting.{its_course}
 use Rattle.lrs_inventory.specs.declared.plan.Plan.{Plan}

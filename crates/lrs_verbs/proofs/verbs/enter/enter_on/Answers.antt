@@ -2,7 +2,7 @@ use Rattle.std.proofs.Common.{ℕ, ◌+◌, length, rules, ap, subst}
 use Rattle.std.proofs.lemmas.Result.{err_from_is_err_and}
 use Rattle.lrs_machine.specs.declared.command.Command.TheVariants as verb
 use Rattle.lrs_inventory.specs.Prelude.{state_of}
-use Rattle.lrs_image_laws.proofs.Tables.{few_edits}
+use Rattle.lrs_image.proofs.Tables.{few_edits}
 use Rattle.lrs_verbs.specs.Entries.{IsEntering}
 use Rattle.lrs_inventory.proofs.Stopping.{stopped}
 use Rattle.lrs_inventory.proofs.Located.{route_in}

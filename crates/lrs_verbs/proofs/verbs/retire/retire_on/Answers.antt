@@ -4,7 +4,7 @@ use Rattle.lrs_inventory.specs.Prelude.{alignment_of, state_of, extent_of, Retir
 use Rattle.lrs_measure.specs.Lists.{is_nothing}
 use Rattle.lrs_machine.specs.declared.answer.Cause.TheVariants as cause
 use Rattle.lrs_machine.specs.declared.command.Command.TheVariants as verb
-use Rattle.lrs_image_laws.proofs.Tables.{few_edits}
+use Rattle.lrs_image.proofs.Tables.{few_edits}
 use Rattle.lrs_verbs.specs.Removals.{IsTaking}
 use Rattle.lrs_inventory.proofs.Stopping.{refused, passed, stopped}
 use Rattle.lrs_inventory.proofs.Located.{route_in}

@@ -1,5 +1,5 @@
 use Rattle.std.proofs.Common.{ℕ, ◌+◌, rules, ap, subst}
-use Rattle.lrs_image_laws.proofs.Tables.{few_edits}
+use Rattle.lrs_image.proofs.Tables.{few_edits}
 use Rattle.lrs_verbs.specs.Supersessions.{IsSuperseding}
 use Rattle.lrs_inventory.proofs.Located.{route_in}
 use Rattle.lrs_image_laws.proofs.Holding.{alone}
