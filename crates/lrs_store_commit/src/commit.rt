@@ -3,7 +3,7 @@
 ghost use Rattle.std.specs.Prelude.{◌≡◌, ◌+◌, ◌<◌, ◌≤◌, ◌^◌, length, take, IfOk, OnOk, OnErr, IsTrue, false};
 ghost use Rattle.sqlite.specs.State.{HasCleanDisk, Survives};
 ghost use Rattle.sqlite.specs.Held.{state};
-ghost use Rattle.lrs_store_tables.specs.StoredRows.{IsWriting, Makes, stored, OkDoes, LeavesStore};
+ghost use Rattle.lrs_store_tables.specs.StoredRows.{IsWriting, Makes, stored, Changes, LeavesStore};
 ghost use Rattle.lrs_store_tables.specs.Writes.{MakesOf, Writes, WritesEach, AreWritten, with_some, changed_course, changed_route, new_course, new_route, with_ledgers};
 ghost use Rattle.lrs_store_tables.specs.RowChanges.{without_route};
 ghost use Rattle.lrs_store_tables.specs.Connections.{IsReady};
@@ -27,10 +27,8 @@ fn drop_some<S: Alter>(
     route: &Option<RouteName>,
     keys: &RouteKeys,
 ) -> Result<(), Error>
-    ensures same_reference { tx.new.conn.ghost_name ≡ tx.old.conn.ghost_name }
-    ensures does { OkDoes result (state S.Store tx.old.conn.now) (state S.Store tx.new.conn.now)
-        (Makes (with_some (λ r. without_route r keys.now) route.now)) }
-    ensures survives { LeavesStore (state S.Store tx.old.conn.now) (state S.Store tx.new.conn.now) }
+    ensures { Changes S.Store (Makes (with_some (λ r. without_route r keys.now) route.now))
+        tx.old tx.new result }
 {
     match route {
         Some(route) => drop_route(tx, route, keys),
@@ -43,11 +41,8 @@ fn change_some<S: Alter>(
     tx: &mut Transaction<'_, S>,
     change: &Option<RouteChange>,
 ) -> Result<(), Error>
-    ensures same_reference { tx.new.conn.ghost_name ≡ tx.old.conn.ghost_name }
-    ensures does { OkDoes result (state S.Store tx.old.conn.now) (state S.Store tx.new.conn.now)
-        (MakesOf (changed_course change.now) (λ pieces.
-        with_some (λ c. changed_route c pieces) change.now)) }
-    ensures survives { LeavesStore (state S.Store tx.old.conn.now) (state S.Store tx.new.conn.now) }
+    ensures { Changes S.Store (MakesOf (changed_course change.now) (λ pieces.
+        with_some (λ c. changed_route c pieces) change.now)) tx.old tx.new result }
 {
     match change {
         Some(change) => change_route(tx, change),
@@ -60,11 +55,8 @@ fn put_some<S: Alter>(
     tx: &mut Transaction<'_, S>,
     route_row: &Option<RouteRow>,
 ) -> Result<(), Error>
-    ensures same_reference { tx.new.conn.ghost_name ≡ tx.old.conn.ghost_name }
-    ensures does { OkDoes result (state S.Store tx.old.conn.now) (state S.Store tx.new.conn.now)
-        (MakesOf (new_course route_row.now) (λ pieces.
-        with_some (λ e. new_route e pieces) route_row.now)) }
-    ensures survives { LeavesStore (state S.Store tx.old.conn.now) (state S.Store tx.new.conn.now) }
+    ensures { Changes S.Store (MakesOf (new_course route_row.now) (λ pieces.
+        with_some (λ e. new_route e pieces) route_row.now)) tx.old tx.new result }
 {
     match route_row {
         Some(route_row) => put_route(tx, route_row),
@@ -74,10 +66,7 @@ fn put_some<S: Alter>(
 
 /// Inserts rows into the ledgers.
 fn put_ledgers<S: Alter>(tx: &mut Transaction<'_, S>, difference: &Difference) -> Result<(), Error>
-    ensures same_reference { tx.new.conn.ghost_name ≡ tx.old.conn.ghost_name }
-    ensures does { OkDoes result (state S.Store tx.old.conn.now) (state S.Store tx.new.conn.now)
-        (Makes (with_ledgers difference.now)) }
-    ensures survives { LeavesStore (state S.Store tx.old.conn.now) (state S.Store tx.new.conn.now) }
+    ensures { Changes S.Store (Makes (with_ledgers difference.now)) tx.old tx.new result }
 {
     write_all(tx, &Ledger, difference.entered.as_slice())?;
     write_all(tx, &Ledger, difference.gone.as_slice())
@@ -86,10 +75,7 @@ fn put_ledgers<S: Alter>(tx: &mut Transaction<'_, S>, difference: &Difference) -
 /// Writes the rows of a change, whose edit has this number. The removed route is deleted first: the route that
 /// changes may get its referents, and a name is in the table once.
 fn write_rows<S: Alter>(tx: &mut Transaction<'_, S>, n: u64, change: &Change) -> Result<(), Error>
-    ensures same_reference { tx.new.conn.ghost_name ≡ tx.old.conn.ghost_name }
-    ensures does { OkDoes result (state S.Store tx.old.conn.now) (state S.Store tx.new.conn.now)
-        (Writes n change.now) }
-    ensures survives { LeavesStore (state S.Store tx.old.conn.now) (state S.Store tx.new.conn.now) }
+    ensures { Changes S.Store (Writes n change.now) tx.old tx.new result }
 {
     let difference = &change.difference;
     put_named(tx, difference)?;
@@ -135,10 +121,7 @@ fn write_each<S: Alter>(
     changes: &[Change],
 ) -> Result<(), Error>
     requires fits { n + length changes.now < 2 ^ 64 }
-    ensures same_reference { tx.new.conn.ghost_name ≡ tx.old.conn.ghost_name }
-    ensures does { OkDoes result (state S.Store tx.old.conn.now) (state S.Store tx.new.conn.now)
-        (WritesEach n changes.now) }
-    ensures survives { LeavesStore (state S.Store tx.old.conn.now) (state S.Store tx.new.conn.now) }
+    ensures { Changes S.Store (WritesEach n changes.now) tx.old tx.new result }
 {
     let mut done = 0;
     while done < changes.len() {

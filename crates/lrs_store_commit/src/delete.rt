@@ -1,8 +1,6 @@
 //! Removed rows: all of a route in a table, or some by their keys.
 
-ghost use Rattle.std.specs.Prelude.{◌≡◌};
-ghost use Rattle.sqlite.specs.Held.{state};
-ghost use Rattle.lrs_store_tables.specs.StoredRows.{Makes, OkDoes, LeavesStore};
+ghost use Rattle.lrs_store_tables.specs.StoredRows.{Makes, Changes};
 ghost use Rattle.lrs_store_tables.specs.RowChanges.{without_pieces, without_marks, less_spans, less_refs};
 ghost use Rattle.lrs_store_tables.specs.RowLaws.{no_less_spans, no_less_refs, less_spans_more, less_refs_more};
 
@@ -15,10 +13,7 @@ use sqlite::{Alter, Error, Transaction};
 
 /// The pieces of a route go.
 pub fn drop_pieces<S: Alter>(tx: &mut Transaction<'_, S>, route: &RouteName) -> Result<(), Error>
-    ensures same_reference { tx.new.conn.ghost_name ≡ tx.old.conn.ghost_name }
-    ensures does { OkDoes result (state S.Store tx.old.conn.now) (state S.Store tx.new.conn.now)
-        (Makes (without_pieces route.now)) }
-    ensures survives { LeavesStore (state S.Store tx.old.conn.now) (state S.Store tx.new.conn.now) }
+    ensures { Changes S.Store (Makes (without_pieces route.now)) tx.old tx.new result }
 {
     let name = ValueRef::Text(route.bytes());
     tx.execute("DELETE FROM piece WHERE route = ?1", &[name])?;
@@ -27,10 +22,7 @@ pub fn drop_pieces<S: Alter>(tx: &mut Transaction<'_, S>, route: &RouteName) -> 
 
 /// The marks of a route go.
 pub fn drop_marks<S: Alter>(tx: &mut Transaction<'_, S>, route: &RouteName) -> Result<(), Error>
-    ensures same_reference { tx.new.conn.ghost_name ≡ tx.old.conn.ghost_name }
-    ensures does { OkDoes result (state S.Store tx.old.conn.now) (state S.Store tx.new.conn.now)
-        (Makes (without_marks route.now)) }
-    ensures survives { LeavesStore (state S.Store tx.old.conn.now) (state S.Store tx.new.conn.now) }
+    ensures { Changes S.Store (Makes (without_marks route.now)) tx.old tx.new result }
 {
     let name = ValueRef::Text(route.bytes());
     tx.execute("DELETE FROM mark WHERE route = ?1", &[name])?;

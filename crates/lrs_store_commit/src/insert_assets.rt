@@ -5,7 +5,7 @@ ghost use Rattle.std.specs.List.{AllByRecursion, flat_map};
 ghost use Rattle.sqlite.specs.State.{HasCleanDisk};
 ghost use Rattle.sqlite.specs.Held.{state};
 ghost use Rattle.lrs_store_tables.specs.Contents.Encoders.{edit_row};
-ghost use Rattle.lrs_store_tables.specs.StoredRows.{IsWriting, Makes, OkDoes, LeavesStore};
+ghost use Rattle.lrs_store_tables.specs.StoredRows.{IsWriting, Makes, Changes};
 ghost use Rattle.lrs_store_tables.specs.Cells.{asset_cells, origin_cells, span_cells, entered_cells, edit_cells};
 ghost use Rattle.lrs_store_commit.specs.NewAssets.{IsNewAsset, HasTwoParts, asset_rows, origin_rows, span_rows, first_rows, other_rows, with_assets_of, with_origins_of, with_spans_of, with_firsts_of, with_others_of, with_parts_of, with_edits_of, with_new_assets};
 
@@ -152,10 +152,7 @@ impl Filled<Edits> for Change {
 fn put_assets<S: Alter>(tx: &mut Transaction<'_, S>, entries: &[Change]) -> Result<(), Error>
     requires eight { length entries.now ≡ 8 }
     requires there { AllByRecursion IsNewAsset entries.now }
-    ensures same_reference { tx.new.conn.ghost_name ≡ tx.old.conn.ghost_name }
-    ensures does { OkDoes result (state S.Store tx.old.conn.now) (state S.Store tx.new.conn.now)
-        (Makes (with_assets_of entries.now)) }
-    ensures survives { LeavesStore (state S.Store tx.old.conn.now) (state S.Store tx.new.conn.now) }
+    ensures { Changes S.Store (Makes (with_assets_of entries.now)) tx.old tx.new result }
 {
     let mut cells = [ValueRef::Null; 32];
     fill_eight(&Assets, 0, entries, &mut cells)?;
@@ -170,10 +167,7 @@ fn put_assets<S: Alter>(tx: &mut Transaction<'_, S>, entries: &[Change]) -> Resu
 fn put_origins<S: Alter>(tx: &mut Transaction<'_, S>, entries: &[Change]) -> Result<(), Error>
     requires eight { length entries.now ≡ 8 }
     requires there { AllByRecursion IsNewAsset entries.now }
-    ensures same_reference { tx.new.conn.ghost_name ≡ tx.old.conn.ghost_name }
-    ensures does { OkDoes result (state S.Store tx.old.conn.now) (state S.Store tx.new.conn.now)
-        (Makes (with_origins_of entries.now)) }
-    ensures survives { LeavesStore (state S.Store tx.old.conn.now) (state S.Store tx.new.conn.now) }
+    ensures { Changes S.Store (Makes (with_origins_of entries.now)) tx.old tx.new result }
 {
     let mut cells = [ValueRef::Null; 16];
     fill_eight(&Origins, 0, entries, &mut cells)?;
@@ -188,10 +182,7 @@ fn put_origins<S: Alter>(tx: &mut Transaction<'_, S>, entries: &[Change]) -> Res
 fn put_spans<S: Alter>(tx: &mut Transaction<'_, S>, entries: &[Change]) -> Result<(), Error>
     requires eight { length entries.now ≡ 8 }
     requires there { AllByRecursion IsNewAsset entries.now }
-    ensures same_reference { tx.new.conn.ghost_name ≡ tx.old.conn.ghost_name }
-    ensures does { OkDoes result (state S.Store tx.old.conn.now) (state S.Store tx.new.conn.now)
-        (Makes (with_spans_of entries.now)) }
-    ensures survives { LeavesStore (state S.Store tx.old.conn.now) (state S.Store tx.new.conn.now) }
+    ensures { Changes S.Store (Makes (with_spans_of entries.now)) tx.old tx.new result }
 {
     let mut cells = [ValueRef::Null; 40];
     fill_eight(&Spans, 0, entries, &mut cells)?;
@@ -206,10 +197,7 @@ fn put_spans<S: Alter>(tx: &mut Transaction<'_, S>, entries: &[Change]) -> Resul
 fn put_first_parts<S: Alter>(tx: &mut Transaction<'_, S>, entries: &[Change]) -> Result<(), Error>
     requires eight { length entries.now ≡ 8 }
     requires there { AllByRecursion IsNewAsset entries.now }
-    ensures same_reference { tx.new.conn.ghost_name ≡ tx.old.conn.ghost_name }
-    ensures does { OkDoes result (state S.Store tx.old.conn.now) (state S.Store tx.new.conn.now)
-        (Makes (with_firsts_of entries.now)) }
-    ensures survives { LeavesStore (state S.Store tx.old.conn.now) (state S.Store tx.new.conn.now) }
+    ensures { Changes S.Store (Makes (with_firsts_of entries.now)) tx.old tx.new result }
 {
     let mut cells = [ValueRef::Null; 48];
     fill_eight(&FirstParts, 0, entries, &mut cells)?;
@@ -224,10 +212,7 @@ fn put_first_parts<S: Alter>(tx: &mut Transaction<'_, S>, entries: &[Change]) ->
 fn put_second_parts<S: Alter>(tx: &mut Transaction<'_, S>, entries: &[Change]) -> Result<(), Error>
     requires eight { length entries.now ≡ 8 }
     requires there { AllByRecursion HasTwoParts entries.now }
-    ensures same_reference { tx.new.conn.ghost_name ≡ tx.old.conn.ghost_name }
-    ensures does { OkDoes result (state S.Store tx.old.conn.now) (state S.Store tx.new.conn.now)
-        (Makes (with_others_of entries.now)) }
-    ensures survives { LeavesStore (state S.Store tx.old.conn.now) (state S.Store tx.new.conn.now) }
+    ensures { Changes S.Store (Makes (with_others_of entries.now)) tx.old tx.new result }
 {
     let mut cells = [ValueRef::Null; 48];
     fill_eight(&SecondParts, 0, entries, &mut cells)?;
@@ -244,10 +229,7 @@ fn put_others_in_turn<S: Alter>(
     entries: &[Change],
 ) -> Result<(), Error>
     requires there { AllByRecursion IsNewAsset entries.now }
-    ensures same_reference { tx.new.conn.ghost_name ≡ tx.old.conn.ghost_name }
-    ensures does { OkDoes result (state S.Store tx.old.conn.now) (state S.Store tx.new.conn.now)
-        (Makes (with_others_of entries.now)) }
-    ensures survives { LeavesStore (state S.Store tx.old.conn.now) (state S.Store tx.new.conn.now) }
+    ensures { Changes S.Store (Makes (with_others_of entries.now)) tx.old tx.new result }
 {
     for i in 0..entries.len() {
         let parts = entries[i].difference.entered.as_slice();
@@ -260,10 +242,7 @@ fn put_others_in_turn<S: Alter>(
 fn put_other_parts<S: Alter>(tx: &mut Transaction<'_, S>, entries: &[Change]) -> Result<(), Error>
     requires eight { length entries.now ≡ 8 }
     requires there { AllByRecursion IsNewAsset entries.now }
-    ensures same_reference { tx.new.conn.ghost_name ≡ tx.old.conn.ghost_name }
-    ensures does { OkDoes result (state S.Store tx.old.conn.now) (state S.Store tx.new.conn.now)
-        (Makes (with_others_of entries.now)) }
-    ensures survives { LeavesStore (state S.Store tx.old.conn.now) (state S.Store tx.new.conn.now) }
+    ensures { Changes S.Store (Makes (with_others_of entries.now)) tx.old tx.new result }
 {
     if have_two_parts(entries) {
         put_second_parts(tx, entries)
@@ -276,10 +255,7 @@ fn put_other_parts<S: Alter>(tx: &mut Transaction<'_, S>, entries: &[Change]) ->
 fn put_parts<S: Alter>(tx: &mut Transaction<'_, S>, entries: &[Change]) -> Result<(), Error>
     requires eight { length entries.now ≡ 8 }
     requires there { AllByRecursion IsNewAsset entries.now }
-    ensures same_reference { tx.new.conn.ghost_name ≡ tx.old.conn.ghost_name }
-    ensures does { OkDoes result (state S.Store tx.old.conn.now) (state S.Store tx.new.conn.now)
-        (Makes (with_parts_of entries.now)) }
-    ensures survives { LeavesStore (state S.Store tx.old.conn.now) (state S.Store tx.new.conn.now) }
+    ensures { Changes S.Store (Makes (with_parts_of entries.now)) tx.old tx.new result }
 {
     put_first_parts(tx, entries)?;
     put_other_parts(tx, entries)?;
@@ -291,13 +267,10 @@ fn put_edits<S: Alter>(tx: &mut Transaction<'_, S>, n: u64, entries: &[Change]) 
     requires eight { length entries.now ≡ 8 }
     requires there { AllByRecursion IsNewAsset entries.now }
     requires fits { n + 8 < 2 ^ 64 }
-    ensures same_reference { tx.new.conn.ghost_name ≡ tx.old.conn.ghost_name }
-    ensures does { OkDoes result (state S.Store tx.old.conn.now) (state S.Store tx.new.conn.now)
-        (Makes (with_edits_of n entries.now)) }
+    ensures changes { Changes S.Store (Makes (with_edits_of n entries.now)) tx.old tx.new result }
     ensures is_open { HasCleanDisk (state S.Store tx.new.conn.now)
         → IsWriting (state S.Store tx.old.conn.now)
         → OnOk result (IsTrue (state S.Store tx.old.conn.now).is_open) }
-    ensures survives { LeavesStore (state S.Store tx.old.conn.now) (state S.Store tx.new.conn.now) }
 {
     let mut cells = [ValueRef::Null; 24];
     fill_eight(&Edits, n, entries, &mut cells)?;
@@ -318,13 +291,10 @@ pub fn insert_new_assets<S: Alter>(
     requires eight { length entries.now ≡ 8 }
     requires entries { AllByRecursion IsNewAsset entries.now }
     requires fits { n + 8 < 2 ^ 64 }
-    ensures same_reference { tx.new.conn.ghost_name ≡ tx.old.conn.ghost_name }
-    ensures does { OkDoes result (state S.Store tx.old.conn.now) (state S.Store tx.new.conn.now)
-        (Makes (with_new_assets n entries.now)) }
+    ensures changes { Changes S.Store (Makes (with_new_assets n entries.now)) tx.old tx.new result }
     ensures is_open { HasCleanDisk (state S.Store tx.new.conn.now)
         → IsWriting (state S.Store tx.old.conn.now)
         → OnOk result (IsTrue (state S.Store tx.old.conn.now).is_open) }
-    ensures survives { LeavesStore (state S.Store tx.old.conn.now) (state S.Store tx.new.conn.now) }
 {
     put_assets(tx, entries)?;
     put_origins(tx, entries)?;

@@ -1,8 +1,6 @@
 //! Inserted links, classes and assets.
 
-ghost use Rattle.std.specs.Prelude.{◌≡◌};
-ghost use Rattle.sqlite.specs.Held.{state};
-ghost use Rattle.lrs_store_tables.specs.StoredRows.{Makes, OkDoes, LeavesStore};
+ghost use Rattle.lrs_store_tables.specs.StoredRows.{Makes, Changes};
 ghost use Rattle.lrs_store_tables.specs.RowChanges.{with_link, with_class, with_asset};
 ghost use Rattle.lrs_store_tables.specs.Writes.{with_some, with_named};
 
@@ -14,10 +12,7 @@ use sqlite::{Alter, Error, Transaction};
 
 /// Puts the row of a new link.
 fn put_some_link<S: Alter>(tx: &mut Transaction<'_, S>, link: &Option<Link>) -> Result<(), Error>
-    ensures same_reference { tx.new.conn.ghost_name ≡ tx.old.conn.ghost_name }
-    ensures does { OkDoes result (state S.Store tx.old.conn.now) (state S.Store tx.new.conn.now)
-        (Makes (with_some with_link link.now)) }
-    ensures survives { LeavesStore (state S.Store tx.old.conn.now) (state S.Store tx.new.conn.now) }
+    ensures { Changes S.Store (Makes (with_some with_link link.now)) tx.old tx.new result }
 {
     match link {
         Some(link) => put_link(tx, link),
@@ -27,10 +22,7 @@ fn put_some_link<S: Alter>(tx: &mut Transaction<'_, S>, link: &Option<Link>) -> 
 
 /// Puts the row of a new class.
 fn put_some_class<S: Alter>(tx: &mut Transaction<'_, S>, class: &Option<Class>) -> Result<(), Error>
-    ensures same_reference { tx.new.conn.ghost_name ≡ tx.old.conn.ghost_name }
-    ensures does { OkDoes result (state S.Store tx.old.conn.now) (state S.Store tx.new.conn.now)
-        (Makes (with_some with_class class.now)) }
-    ensures survives { LeavesStore (state S.Store tx.old.conn.now) (state S.Store tx.new.conn.now) }
+    ensures { Changes S.Store (Makes (with_some with_class class.now)) tx.old tx.new result }
 {
     match class {
         Some(class) => put_class(tx, class),
@@ -40,10 +32,7 @@ fn put_some_class<S: Alter>(tx: &mut Transaction<'_, S>, class: &Option<Class>) 
 
 /// Puts the rows of an asset: itself, and the edit that entered it.
 fn put_entered_asset<S: Alter>(tx: &mut Transaction<'_, S>, asset: &Asset) -> Result<(), Error>
-    ensures same_reference { tx.new.conn.ghost_name ≡ tx.old.conn.ghost_name }
-    ensures does { OkDoes result (state S.Store tx.old.conn.now) (state S.Store tx.new.conn.now)
-        (Makes (with_asset asset.now)) }
-    ensures survives { LeavesStore (state S.Store tx.old.conn.now) (state S.Store tx.new.conn.now) }
+    ensures { Changes S.Store (Makes (with_asset asset.now)) tx.old tx.new result }
 {
     put_asset(tx, asset)?;
     put_origin(tx, asset)
@@ -51,10 +40,7 @@ fn put_entered_asset<S: Alter>(tx: &mut Transaction<'_, S>, asset: &Asset) -> Re
 
 /// Puts the rows of a new asset.
 fn put_some_asset<S: Alter>(tx: &mut Transaction<'_, S>, asset: &Option<Asset>) -> Result<(), Error>
-    ensures same_reference { tx.new.conn.ghost_name ≡ tx.old.conn.ghost_name }
-    ensures does { OkDoes result (state S.Store tx.old.conn.now) (state S.Store tx.new.conn.now)
-        (Makes (with_some with_asset asset.now)) }
-    ensures survives { LeavesStore (state S.Store tx.old.conn.now) (state S.Store tx.new.conn.now) }
+    ensures { Changes S.Store (Makes (with_some with_asset asset.now)) tx.old tx.new result }
 {
     match asset {
         Some(asset) => put_entered_asset(tx, asset),
@@ -67,10 +53,7 @@ pub fn put_named<S: Alter>(
     tx: &mut Transaction<'_, S>,
     difference: &Difference,
 ) -> Result<(), Error>
-    ensures same_reference { tx.new.conn.ghost_name ≡ tx.old.conn.ghost_name }
-    ensures does { OkDoes result (state S.Store tx.old.conn.now) (state S.Store tx.new.conn.now)
-        (Makes (with_named difference.now)) }
-    ensures survives { LeavesStore (state S.Store tx.old.conn.now) (state S.Store tx.new.conn.now) }
+    ensures { Changes S.Store (Makes (with_named difference.now)) tx.old tx.new result }
 {
     put_some_link(tx, &difference.link)?;
     put_some_class(tx, &difference.class)?;

@@ -1,8 +1,7 @@
 //! Lists of values whose rows come or go.
 
 ghost use Rattle.std.specs.Prelude.{◌≡◌, ℕ, List, [], ◌∷◌};
-ghost use Rattle.sqlite.specs.Held.{state};
-ghost use Rattle.lrs_store_tables.specs.StoredRows.{Makes, OkDoes, LeavesStore};
+ghost use Rattle.lrs_store_tables.specs.StoredRows.{Makes, Changes};
 
 use sqlite::{Alter, Error, Transaction};
 
@@ -17,10 +16,7 @@ pub trait Written<C> {
 
     /// Writes the row of the value, which has this number in its list.
     fn write<S: Alter>(&self, tx: &mut Transaction<'_, S>, of: &C, n: u64) -> Result<(), Error>
-        ensures same_reference { tx.new.conn.ghost_name ≡ tx.old.conn.ghost_name }
-        ensures does { OkDoes result (state S.Store tx.old.conn.now) (state S.Store tx.new.conn.now)
-            (Makes (all of.now n (self.now ∷ []))) }
-        ensures survives { LeavesStore (state S.Store tx.old.conn.now) (state S.Store tx.new.conn.now) };
+        ensures { Changes S.Store (Makes (all of.now n (self.now ∷ []))) tx.old tx.new result };
 
     // No value changes nothing, and one more value makes its change of what the others made.
     ghost none: { (c : C) (n : ℕ) (t : Tables) → AreSame (all c n [] t) t };
@@ -34,10 +30,7 @@ pub fn write_all<C, R: Written<C>, S: Alter>(
     of: &C,
     rows: &[R],
 ) -> Result<(), Error>
-    ensures same_reference { tx.new.conn.ghost_name ≡ tx.old.conn.ghost_name }
-    ensures does { OkDoes result (state S.Store tx.old.conn.now) (state S.Store tx.new.conn.now)
-        (Makes (R.all of.now 0 rows.now)) }
-    ensures survives { LeavesStore (state S.Store tx.old.conn.now) (state S.Store tx.new.conn.now) }
+    ensures { Changes S.Store (Makes (R.all of.now 0 rows.now)) tx.old tx.new result }
 {
     for i in 0..rows.len() {
         rows[i].write(tx, of, i as u64)?;

@@ -5,7 +5,7 @@ ghost use Rattle.sqlite.specs.State.{HasCleanDisk, Survives};
 ghost use Rattle.sqlite.specs.Held.{state};
 ghost use Rattle.lrs_store_tables.specs.Contents.Tables.{AreSame};
 ghost use Rattle.lrs_store_tables.specs.Contents.Laws.{brought_up};
-ghost use Rattle.lrs_store_tables.specs.StoredRows.{IsWriting, Makes, stored, OkDoes, LeavesStore};
+ghost use Rattle.lrs_store_tables.specs.StoredRows.{IsWriting, Makes, stored, Changes};
 ghost use Rattle.lrs_store_tables.specs.RowChanges.{with_origins, without_version, without_origins};
 ghost use Rattle.lrs_store_tables.specs.RowLaws.{same_refl, origins_more};
 ghost use Rattle.lrs_store_tables.specs.Connections.{IsReady};
@@ -39,13 +39,10 @@ impl Written<Origins> for Asset {
 
 /// All rows go that tell which edits entered assets.
 fn clear_origins<S: Alter>(tx: &mut Transaction<'_, S>) -> Result<(), Error>
-    ensures same_reference { tx.new.conn.ghost_name ≡ tx.old.conn.ghost_name }
-    ensures does { OkDoes result (state S.Store tx.old.conn.now) (state S.Store tx.new.conn.now)
-        (Makes without_origins) }
+    ensures changes { Changes S.Store (Makes without_origins) tx.old tx.new result }
     ensures is_open { HasCleanDisk (state S.Store tx.new.conn.now)
         → IsWriting (state S.Store tx.old.conn.now)
         → OnOk result (IsTrue (state S.Store tx.old.conn.now).is_open) }
-    ensures survives { LeavesStore (state S.Store tx.old.conn.now) (state S.Store tx.new.conn.now) }
 {
     tx.execute("DELETE FROM origin", &[])?;
     Ok(())
@@ -53,10 +50,7 @@ fn clear_origins<S: Alter>(tx: &mut Transaction<'_, S>) -> Result<(), Error>
 
 /// The row of the version goes.
 fn clear_version<S: Alter>(tx: &mut Transaction<'_, S>) -> Result<(), Error>
-    ensures same_reference { tx.new.conn.ghost_name ≡ tx.old.conn.ghost_name }
-    ensures does { OkDoes result (state S.Store tx.old.conn.now) (state S.Store tx.new.conn.now)
-        (Makes without_version) }
-    ensures survives { LeavesStore (state S.Store tx.old.conn.now) (state S.Store tx.new.conn.now) }
+    ensures { Changes S.Store (Makes without_version) tx.old tx.new result }
 {
     tx.execute("DELETE FROM version", &[])?;
     Ok(())
@@ -64,10 +58,7 @@ fn clear_version<S: Alter>(tx: &mut Transaction<'_, S>) -> Result<(), Error>
 
 /// Writes the rows of version 2 over those of version 1.
 fn write_second<S: Alter>(tx: &mut Transaction<'_, S>, assets: &[Asset]) -> Result<(), Error>
-    ensures same_reference { tx.new.conn.ghost_name ≡ tx.old.conn.ghost_name }
-    ensures does { OkDoes result (state S.Store tx.old.conn.now) (state S.Store tx.new.conn.now)
-        (BringsUp assets.now) }
-    ensures survives { LeavesStore (state S.Store tx.old.conn.now) (state S.Store tx.new.conn.now) }
+    ensures { Changes S.Store (BringsUp assets.now) tx.old tx.new result }
 {
     clear_origins(tx)?;
     write_all(tx, &Origins, assets)?;

@@ -1,8 +1,7 @@
 //! Routes that change, go and come.
 
-ghost use Rattle.std.specs.Prelude.{◌≡◌, Some};
-ghost use Rattle.sqlite.specs.Held.{state};
-ghost use Rattle.lrs_store_tables.specs.StoredRows.{Makes, OkDoes, LeavesStore};
+ghost use Rattle.std.specs.Prelude.{Some};
+ghost use Rattle.lrs_store_tables.specs.StoredRows.{Makes, Changes};
 ghost use Rattle.lrs_store_tables.specs.RowChanges.{without_route, renamed_route};
 ghost use Rattle.lrs_store_tables.specs.Writes.{MakesOf, with_some, new_pieces, new_marks, changed_refs, changed_spans, changed_line, changed_route, new_route};
 
@@ -22,10 +21,8 @@ fn put_new_pieces<S: Alter>(
     route: &RouteName,
     course: &Course,
 ) -> Result<(), Error>
-    ensures same_reference { tx.new.conn.ghost_name ≡ tx.old.conn.ghost_name }
-    ensures does { OkDoes result (state S.Store tx.old.conn.now) (state S.Store tx.new.conn.now)
-        (MakesOf (Some course.now) (with_some (new_pieces route.now))) }
-    ensures survives { LeavesStore (state S.Store tx.old.conn.now) (state S.Store tx.new.conn.now) }
+    ensures { Changes S.Store (MakesOf (Some course.now) (with_some (new_pieces route.now)))
+        tx.old tx.new result }
 {
     drop_pieces(tx, route)?;
     let coming = Coming { route: *route };
@@ -38,10 +35,7 @@ fn replace_pieces<S: Alter>(
     route: &RouteName,
     course: &Option<Course>,
 ) -> Result<(), Error>
-    ensures same_reference { tx.new.conn.ghost_name ≡ tx.old.conn.ghost_name }
-    ensures does { OkDoes result (state S.Store tx.old.conn.now) (state S.Store tx.new.conn.now)
-        (MakesOf course.now (with_some (new_pieces route.now))) }
-    ensures survives { LeavesStore (state S.Store tx.old.conn.now) (state S.Store tx.new.conn.now) }
+    ensures { Changes S.Store (MakesOf course.now (with_some (new_pieces route.now))) tx.old tx.new result }
 {
     match course {
         Some(course) => put_new_pieces(tx, route, course),
@@ -55,10 +49,7 @@ fn put_new_marks<S: Alter>(
     route: &RouteName,
     marks: &Marks,
 ) -> Result<(), Error>
-    ensures same_reference { tx.new.conn.ghost_name ≡ tx.old.conn.ghost_name }
-    ensures does { OkDoes result (state S.Store tx.old.conn.now) (state S.Store tx.new.conn.now)
-        (Makes (new_marks route.now marks.now)) }
-    ensures survives { LeavesStore (state S.Store tx.old.conn.now) (state S.Store tx.new.conn.now) }
+    ensures { Changes S.Store (Makes (new_marks route.now marks.now)) tx.old tx.new result }
 {
     drop_marks(tx, route)?;
     let coming = Coming { route: *route };
@@ -71,10 +62,7 @@ fn replace_marks<S: Alter>(
     route: &RouteName,
     marks: &Option<Marks>,
 ) -> Result<(), Error>
-    ensures same_reference { tx.new.conn.ghost_name ≡ tx.old.conn.ghost_name }
-    ensures does { OkDoes result (state S.Store tx.old.conn.now) (state S.Store tx.new.conn.now)
-        (Makes (with_some (new_marks route.now) marks.now)) }
-    ensures survives { LeavesStore (state S.Store tx.old.conn.now) (state S.Store tx.new.conn.now) }
+    ensures { Changes S.Store (Makes (with_some (new_marks route.now) marks.now)) tx.old tx.new result }
 {
     match marks {
         Some(marks) => put_new_marks(tx, route, marks),
@@ -88,10 +76,7 @@ fn change_refs<S: Alter>(
     route: &RouteName,
     refs: &ReferentChange,
 ) -> Result<(), Error>
-    ensures same_reference { tx.new.conn.ghost_name ≡ tx.old.conn.ghost_name }
-    ensures does { OkDoes result (state S.Store tx.old.conn.now) (state S.Store tx.new.conn.now)
-        (Makes (changed_refs route.now refs.now)) }
-    ensures survives { LeavesStore (state S.Store tx.old.conn.now) (state S.Store tx.new.conn.now) }
+    ensures { Changes S.Store (Makes (changed_refs route.now refs.now)) tx.old tx.new result }
 {
     let going = Going { route: *route };
     write_all(tx, &going, refs.gone.as_slice())?;
@@ -101,10 +86,7 @@ fn change_refs<S: Alter>(
 
 /// Deletes the removed spans and puts the inserted ones.
 fn change_spans<S: Alter>(tx: &mut Transaction<'_, S>, change: &RouteChange) -> Result<(), Error>
-    ensures same_reference { tx.new.conn.ghost_name ≡ tx.old.conn.ghost_name }
-    ensures does { OkDoes result (state S.Store tx.old.conn.now) (state S.Store tx.new.conn.now)
-        (Makes (changed_spans change.now)) }
-    ensures survives { LeavesStore (state S.Store tx.old.conn.now) (state S.Store tx.new.conn.now) }
+    ensures { Changes S.Store (Makes (changed_spans change.now)) tx.old tx.new result }
 {
     let going = Going {
         route: change.route,
@@ -123,10 +105,7 @@ fn rename_route<S: Alter>(
     name: &RouteName,
     keys: &RouteKeys,
 ) -> Result<(), Error>
-    ensures same_reference { tx.new.conn.ghost_name ≡ tx.old.conn.ghost_name }
-    ensures does { OkDoes result (state S.Store tx.old.conn.now) (state S.Store tx.new.conn.now)
-        (Makes (renamed_route route.now name.now keys.now)) }
-    ensures survives { LeavesStore (state S.Store tx.old.conn.now) (state S.Store tx.new.conn.now) }
+    ensures { Changes S.Store (Makes (renamed_route route.now name.now keys.now)) tx.old tx.new result }
 {
     rename_pieces(tx, route, name)?;
     rename_marks(tx, route, name)?;
@@ -145,10 +124,7 @@ fn rename_if_new<S: Alter>(
     name: &RouteName,
     keys: &RouteKeys,
 ) -> Result<(), Error>
-    ensures same_reference { tx.new.conn.ghost_name ≡ tx.old.conn.ghost_name }
-    ensures does { OkDoes result (state S.Store tx.old.conn.now) (state S.Store tx.new.conn.now)
-        (Makes (renamed_route route.now name.now keys.now)) }
-    ensures survives { LeavesStore (state S.Store tx.old.conn.now) (state S.Store tx.new.conn.now) }
+    ensures { Changes S.Store (Makes (renamed_route route.now name.now keys.now)) tx.old tx.new result }
 {
     if route == name {
         return Ok(());
@@ -158,10 +134,7 @@ fn rename_if_new<S: Alter>(
 
 /// Puts other pieces and marks of a route, where they change.
 fn change_line<S: Alter>(tx: &mut Transaction<'_, S>, change: &RouteChange) -> Result<(), Error>
-    ensures same_reference { tx.new.conn.ghost_name ≡ tx.old.conn.ghost_name }
-    ensures does { OkDoes result (state S.Store tx.old.conn.now) (state S.Store tx.new.conn.now)
-        (MakesOf change.now.course (changed_line change.now)) }
-    ensures survives { LeavesStore (state S.Store tx.old.conn.now) (state S.Store tx.new.conn.now) }
+    ensures { Changes S.Store (MakesOf change.now.course (changed_line change.now)) tx.old tx.new result }
 {
     replace_pieces(tx, &change.route, &change.course)?;
     replace_marks(tx, &change.route, &change.marks)
@@ -172,10 +145,7 @@ pub fn change_route<S: Alter>(
     tx: &mut Transaction<'_, S>,
     change: &RouteChange,
 ) -> Result<(), Error>
-    ensures same_reference { tx.new.conn.ghost_name ≡ tx.old.conn.ghost_name }
-    ensures does { OkDoes result (state S.Store tx.old.conn.now) (state S.Store tx.new.conn.now)
-        (MakesOf change.now.course (changed_route change.now)) }
-    ensures survives { LeavesStore (state S.Store tx.old.conn.now) (state S.Store tx.new.conn.now) }
+    ensures { Changes S.Store (MakesOf change.now.course (changed_route change.now)) tx.old tx.new result }
 {
     change_line(tx, change)?;
     change_refs(tx, &change.route, &change.refs)?;
@@ -189,10 +159,7 @@ pub fn drop_route<S: Alter>(
     route: &RouteName,
     keys: &RouteKeys,
 ) -> Result<(), Error>
-    ensures same_reference { tx.new.conn.ghost_name ≡ tx.old.conn.ghost_name }
-    ensures does { OkDoes result (state S.Store tx.old.conn.now) (state S.Store tx.new.conn.now)
-        (Makes (without_route route.now keys.now)) }
-    ensures survives { LeavesStore (state S.Store tx.old.conn.now) (state S.Store tx.new.conn.now) }
+    ensures { Changes S.Store (Makes (without_route route.now keys.now)) tx.old tx.new result }
 {
     drop_pieces(tx, route)?;
     drop_marks(tx, route)?;
@@ -203,10 +170,8 @@ pub fn drop_route<S: Alter>(
 
 /// A route comes, with what lies on it.
 pub fn put_route<S: Alter>(tx: &mut Transaction<'_, S>, route_row: &RouteRow) -> Result<(), Error>
-    ensures same_reference { tx.new.conn.ghost_name ≡ tx.old.conn.ghost_name }
-    ensures does { OkDoes result (state S.Store tx.old.conn.now) (state S.Store tx.new.conn.now)
-        (MakesOf (Some route_row.now.route.course) (new_route route_row.now)) }
-    ensures survives { LeavesStore (state S.Store tx.old.conn.now) (state S.Store tx.new.conn.now) }
+    ensures { Changes S.Store (MakesOf (Some route_row.now.route.course) (new_route route_row.now))
+        tx.old tx.new result }
 {
     let route = &route_row.route;
     let coming = Coming { route: route.name };

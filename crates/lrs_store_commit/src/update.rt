@@ -1,8 +1,6 @@
 //! Rows of a route that gets another name: all of it in a table, or some by their keys.
 
-ghost use Rattle.std.specs.Prelude.{◌≡◌};
-ghost use Rattle.sqlite.specs.Held.{state};
-ghost use Rattle.lrs_store_tables.specs.StoredRows.{Makes, OkDoes, LeavesStore};
+ghost use Rattle.lrs_store_tables.specs.StoredRows.{Makes, Changes};
 ghost use Rattle.lrs_store_tables.specs.RowChanges.{renamed_pieces, renamed_marks, renamed_refs, renamed_spans};
 ghost use Rattle.lrs_store_tables.specs.RowLaws.{no_renamed_refs, no_renamed_spans, renamed_refs_more, renamed_spans_more};
 
@@ -19,10 +17,7 @@ pub fn rename_pieces<S: Alter>(
     route: &RouteName,
     name: &RouteName,
 ) -> Result<(), Error>
-    ensures same_reference { tx.new.conn.ghost_name ≡ tx.old.conn.ghost_name }
-    ensures does { OkDoes result (state S.Store tx.old.conn.now) (state S.Store tx.new.conn.now)
-        (Makes (renamed_pieces route.now name.now)) }
-    ensures survives { LeavesStore (state S.Store tx.old.conn.now) (state S.Store tx.new.conn.now) }
+    ensures { Changes S.Store (Makes (renamed_pieces route.now name.now)) tx.old tx.new result }
 {
     let old = ValueRef::Text(route.bytes());
     let new = ValueRef::Text(name.bytes());
@@ -36,10 +31,7 @@ pub fn rename_marks<S: Alter>(
     route: &RouteName,
     name: &RouteName,
 ) -> Result<(), Error>
-    ensures same_reference { tx.new.conn.ghost_name ≡ tx.old.conn.ghost_name }
-    ensures does { OkDoes result (state S.Store tx.old.conn.now) (state S.Store tx.new.conn.now)
-        (Makes (renamed_marks route.now name.now)) }
-    ensures survives { LeavesStore (state S.Store tx.old.conn.now) (state S.Store tx.new.conn.now) }
+    ensures { Changes S.Store (Makes (renamed_marks route.now name.now)) tx.old tx.new result }
 {
     let old = ValueRef::Text(route.bytes());
     let new = ValueRef::Text(name.bytes());

@@ -16,4 +16,5 @@ pub mod FailLemmas
 pub mod CreateFails
 pub mod InsertFails
 pub mod RowLemmas
+pub mod TableReadLemmas
 pub mod Contents

@@ -26,6 +26,7 @@ use Rattle.lrs_store_tables.specs.Contents.Tables.{AreSame}
 use Rattle.lrs_store_tables.specs.Contents.Encoders.{link_row, class_row, asset_row, piece_row, mark_row, ref_row, span_row, entered_row, gone_row, edit_row, numbered}
 use Rattle.lrs_store_tables.specs.RowChanges as it
 use Rattle.lrs_store_tables.specs.RowChanges.{has_key_of}
+use Rattle.lrs_store_tables.proofs.Only.{same-version, same-link, same-class, same-asset, same-piece, same-mark, same-ref, same-span, same-entered, same-gone, same-edit, same-origin}
 use Rattle.lrs_store_tables.specs.Writes.{with_some, new_pieces, new_marks, changed_refs, changed_spans, changed_route, new_route, with_ledgers}
 
 -- what makes the same rows of the same rows
@@ -36,70 +37,70 @@ pub steady_both : (f g : Tables → Tables) → IsSteady f → IsSteady g → Is
 steady_both f g s r a b h = r (f a) (f b) (s a b h)
 
 pub steady-with_version : (v : ℕ) → IsSteady (it.with_version v)
-steady-with_version v a b h = record { version = IsPermutation-cons (pos v) _ _ h.version; link = h.link; class = h.class; asset = h.asset; piece = h.piece; mark = h.mark; ref = h.ref; span = h.span; entered = h.entered; gone = h.gone; edit = h.edit; origin = h.origin }
+steady-with_version v a b h = same-version h (IsPermutation-cons (pos v) _ _ h.version)
 
 pub steady-with_link : (l : Link) → IsSteady (it.with_link l)
-steady-with_link l a b h = record { version = h.version; link = IsPermutation-cons (link_row l) _ _ h.link; class = h.class; asset = h.asset; piece = h.piece; mark = h.mark; ref = h.ref; span = h.span; entered = h.entered; gone = h.gone; edit = h.edit; origin = h.origin }
+steady-with_link l a b h = same-link h (IsPermutation-cons (link_row l) _ _ h.link)
 
 pub steady-with_class : (c : Class) → IsSteady (it.with_class c)
-steady-with_class c a b h = record { version = h.version; link = h.link; class = IsPermutation-cons (class_row c) _ _ h.class; asset = h.asset; piece = h.piece; mark = h.mark; ref = h.ref; span = h.span; entered = h.entered; gone = h.gone; edit = h.edit; origin = h.origin }
+steady-with_class c a b h = same-class h (IsPermutation-cons (class_row c) _ _ h.class)
 
 pub steady-with_asset_row : (x : Asset) → IsSteady (it.with_asset_row x)
-steady-with_asset_row x a b h = record { version = h.version; link = h.link; class = h.class; asset = IsPermutation-cons (asset_row x) _ _ h.asset; piece = h.piece; mark = h.mark; ref = h.ref; span = h.span; entered = h.entered; gone = h.gone; edit = h.edit; origin = h.origin }
+steady-with_asset_row x a b h = same-asset h (IsPermutation-cons (asset_row x) _ _ h.asset)
 
 pub steady-with_origin : (x : Asset) → IsSteady (it.with_origin x)
-steady-with_origin x a b h = record { version = h.version; link = h.link; class = h.class; asset = h.asset; piece = h.piece; mark = h.mark; ref = h.ref; span = h.span; entered = h.entered; gone = h.gone; edit = h.edit; origin = IsPermutation-cons (origin_row x) _ _ h.origin }
+steady-with_origin x a b h = same-origin h (IsPermutation-cons (origin_row x) _ _ h.origin)
 
 pub steady-with_pieces : (route : Name) (n : ℕ) (ps : List Piece) → IsSteady (it.with_pieces route n ps)
-steady-with_pieces route n ps a b h = record { version = h.version; link = h.link; class = h.class; asset = h.asset; piece = IsPermutation-append_right (numbered (piece_row route) n ps) _ _ h.piece; mark = h.mark; ref = h.ref; span = h.span; entered = h.entered; gone = h.gone; edit = h.edit; origin = h.origin }
+steady-with_pieces route n ps a b h = same-piece h (IsPermutation-append_right (numbered (piece_row route) n ps) _ _ h.piece)
 
 pub steady-with_marks : (route : Name) (n : ℕ) (ms : List Mark) → IsSteady (it.with_marks route n ms)
-steady-with_marks route n ms a b h = record { version = h.version; link = h.link; class = h.class; asset = h.asset; piece = h.piece; mark = IsPermutation-append_right (numbered (mark_row route) n ms) _ _ h.mark; ref = h.ref; span = h.span; entered = h.entered; gone = h.gone; edit = h.edit; origin = h.origin }
+steady-with_marks route n ms a b h = same-mark h (IsPermutation-append_right (numbered (mark_row route) n ms) _ _ h.mark)
 
 pub steady-with_refs : (route : Name) (rs : List Referent) → IsSteady (it.with_refs route rs)
-steady-with_refs route rs a b h = record { version = h.version; link = h.link; class = h.class; asset = h.asset; piece = h.piece; mark = h.mark; ref = IsPermutation-append_right (map (ref_row route) rs) _ _ h.ref; span = h.span; entered = h.entered; gone = h.gone; edit = h.edit; origin = h.origin }
+steady-with_refs route rs a b h = same-ref h (IsPermutation-append_right (map (ref_row route) rs) _ _ h.ref)
 
 pub steady-with_spans : (route : Name) (ss : List Span) → IsSteady (it.with_spans route ss)
-steady-with_spans route ss a b h = record { version = h.version; link = h.link; class = h.class; asset = h.asset; piece = h.piece; mark = h.mark; ref = h.ref; span = IsPermutation-append_right (map (span_row route) ss) _ _ h.span; entered = h.entered; gone = h.gone; edit = h.edit; origin = h.origin }
+steady-with_spans route ss a b h = same-span h (IsPermutation-append_right (map (span_row route) ss) _ _ h.span)
 
 pub steady-with_entered : (ps : List Part) → IsSteady (it.with_entered ps)
-steady-with_entered ps a b h = record { version = h.version; link = h.link; class = h.class; asset = h.asset; piece = h.piece; mark = h.mark; ref = h.ref; span = h.span; entered = IsPermutation-append_right (map entered_row ps) _ _ h.entered; gone = h.gone; edit = h.edit; origin = h.origin }
+steady-with_entered ps a b h = same-entered h (IsPermutation-append_right (map entered_row ps) _ _ h.entered)
 
 pub steady-with_gone : (gs : List Gone) → IsSteady (it.with_gone gs)
-steady-with_gone gs a b h = record { version = h.version; link = h.link; class = h.class; asset = h.asset; piece = h.piece; mark = h.mark; ref = h.ref; span = h.span; entered = h.entered; gone = IsPermutation-append_right (map gone_row gs) _ _ h.gone; edit = h.edit; origin = h.origin }
+steady-with_gone gs a b h = same-gone h (IsPermutation-append_right (map gone_row gs) _ _ h.gone)
 
 pub steady-with_origins : (xs : List Asset) → IsSteady (it.with_origins xs)
-steady-with_origins xs a b h = record { version = h.version; link = h.link; class = h.class; asset = h.asset; piece = h.piece; mark = h.mark; ref = h.ref; span = h.span; entered = h.entered; gone = h.gone; edit = h.edit; origin = IsPermutation-append_right (map origin_row xs) _ _ h.origin }
+steady-with_origins xs a b h = same-origin h (IsPermutation-append_right (map origin_row xs) _ _ h.origin)
 
 pub steady-without_version : IsSteady it.without_version
-steady-without_version a b h = record { version = IsPermutation-refl []; link = h.link; class = h.class; asset = h.asset; piece = h.piece; mark = h.mark; ref = h.ref; span = h.span; entered = h.entered; gone = h.gone; edit = h.edit; origin = h.origin }
+steady-without_version a b h = same-version h (IsPermutation-refl [])
 
 pub steady-with_edit : (n : ℕ) (e : Edit) → IsSteady (it.with_edit n e)
-steady-with_edit n e a b h = record { version = h.version; link = h.link; class = h.class; asset = h.asset; piece = h.piece; mark = h.mark; ref = h.ref; span = h.span; entered = h.entered; gone = h.gone; edit = IsPermutation-cons (edit_row n e) _ _ h.edit; origin = h.origin }
+steady-with_edit n e a b h = same-edit h (IsPermutation-cons (edit_row n e) _ _ h.edit)
 
 pub steady-without_pieces : (route : Name) → IsSteady (it.without_pieces route)
-steady-without_pieces route a b h = record { version = h.version; link = h.link; class = h.class; asset = h.asset; piece = IsPermutation-filter (λ r. not (same_name r.route route)) _ _ h.piece; mark = h.mark; ref = h.ref; span = h.span; entered = h.entered; gone = h.gone; edit = h.edit; origin = h.origin }
+steady-without_pieces route a b h = same-piece h (IsPermutation-filter (λ r. not (same_name r.route route)) _ _ h.piece)
 
 pub steady-renamed_pieces : (old : Name) (new : Name) → IsSteady (it.renamed_pieces old new)
-steady-renamed_pieces old new a b h = record { version = h.version; link = h.link; class = h.class; asset = h.asset; piece = IsPermutation-map (it.renamed_piece old new) _ _ h.piece; mark = h.mark; ref = h.ref; span = h.span; entered = h.entered; gone = h.gone; edit = h.edit; origin = h.origin }
+steady-renamed_pieces old new a b h = same-piece h (IsPermutation-map (it.renamed_piece old new) _ _ h.piece)
 
 pub steady-without_marks : (route : Name) → IsSteady (it.without_marks route)
-steady-without_marks route a b h = record { version = h.version; link = h.link; class = h.class; asset = h.asset; piece = h.piece; mark = IsPermutation-filter (λ r. not (same_name r.route route)) _ _ h.mark; ref = h.ref; span = h.span; entered = h.entered; gone = h.gone; edit = h.edit; origin = h.origin }
+steady-without_marks route a b h = same-mark h (IsPermutation-filter (λ r. not (same_name r.route route)) _ _ h.mark)
 
 pub steady-renamed_marks : (old : Name) (new : Name) → IsSteady (it.renamed_marks old new)
-steady-renamed_marks old new a b h = record { version = h.version; link = h.link; class = h.class; asset = h.asset; piece = h.piece; mark = IsPermutation-map (it.renamed_mark old new) _ _ h.mark; ref = h.ref; span = h.span; entered = h.entered; gone = h.gone; edit = h.edit; origin = h.origin }
+steady-renamed_marks old new a b h = same-mark h (IsPermutation-map (it.renamed_mark old new) _ _ h.mark)
 
 pub steady-renamed_refs : (old : Name) (new : Name) (ns : List Name) → IsSteady (it.renamed_refs old new ns)
-steady-renamed_refs old new ns a b h = record { version = h.version; link = h.link; class = h.class; asset = h.asset; piece = h.piece; mark = h.mark; ref = IsPermutation-map (it.renamed_ref old new ns) _ _ h.ref; span = h.span; entered = h.entered; gone = h.gone; edit = h.edit; origin = h.origin }
+steady-renamed_refs old new ns a b h = same-ref h (IsPermutation-map (it.renamed_ref old new ns) _ _ h.ref)
 
 pub steady-renamed_spans : (old : Name) (new : Name) (ss : List Span) → IsSteady (it.renamed_spans old new ss)
-steady-renamed_spans old new ss a b h = record { version = h.version; link = h.link; class = h.class; asset = h.asset; piece = h.piece; mark = h.mark; ref = h.ref; span = IsPermutation-map (it.renamed_span old new ss) _ _ h.span; entered = h.entered; gone = h.gone; edit = h.edit; origin = h.origin }
+steady-renamed_spans old new ss a b h = same-span h (IsPermutation-map (it.renamed_span old new ss) _ _ h.span)
 
 pub steady-less_spans : (route : Name) (ss : List Span) → IsSteady (it.less_spans route ss)
-steady-less_spans route ss a b h = record { version = h.version; link = h.link; class = h.class; asset = h.asset; piece = h.piece; mark = h.mark; ref = h.ref; span = IsPermutation-filter (λ r. not (list_any (λ s. has_key_of route s r) ss)) _ _ h.span; entered = h.entered; gone = h.gone; edit = h.edit; origin = h.origin }
+steady-less_spans route ss a b h = same-span h (IsPermutation-filter (λ r. not (list_any (λ s. has_key_of route s r) ss)) _ _ h.span)
 
 pub steady-less_refs : (ns : List Name) → IsSteady (it.less_refs ns)
-steady-less_refs ns a b h = record { version = h.version; link = h.link; class = h.class; asset = h.asset; piece = h.piece; mark = h.mark; ref = IsPermutation-filter (λ r. not (list_any (same_name r.name) ns)) _ _ h.ref; span = h.span; entered = h.entered; gone = h.gone; edit = h.edit; origin = h.origin }
+steady-less_refs ns a b h = same-ref h (IsPermutation-filter (λ r. not (list_any (same_name r.name) ns)) _ _ h.ref)
 
 -- what is made of something, if there is one
 pub steady_some : {X : Type 0} (made : X → Tables → Tables) → ((x : X) → IsSteady (made x)) → (o : Option X) → IsSteady (with_some made o)

@@ -10,4 +10,5 @@ pub mod NewStores
 pub mod HeldRows
 pub mod Failures
 pub mod Rows
+pub mod TableReads
 pub mod Contents

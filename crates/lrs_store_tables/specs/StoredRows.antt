@@ -5,10 +5,14 @@ use Rattle.sqlite_value.specs.declared.value.Value.{Value}
 use Rattle.sqlite_value.specs.declared.value.Value.TheVariants.{Null, Int, Real, Text, Blob}
 use Rattle.sqlite_value.specs.Order.{Row, column}
 use Rattle.sqlite_trees.specs.Tree.{Trees, IsTable, rowid}
+use Rattle.sqlite_trees.specs.declared.store.Store.{Ghosts}
 use Rattle.sqlite_schema.specs.declared.schema.Table.{Table}
 use Rattle.sqlite_schema.specs.declared.schema.Constraint.TheVariants.{Datatype, NotNull}
 use Rattle.sqlite_schema.specs.Rules.{Keeps}
 use Rattle.sqlite_rules.specs.Edit.{id_in}
+use Rattle.sqlite.specs.declared.error.Error.{Error}
+use Rattle.sqlite.specs.declared.transaction.Transaction.{Transaction}
+use Rattle.sqlite.specs.Held.{state}
 use Rattle.sqlite.specs.State.{State, HasCleanDisk, Survives}
 use Rattle.lrs_measure.specs.Texts.{Name}
 use Rattle.lrs_store_tables.specs.Contents.Tables.{Tables, AreSame, LinkRow, ClassRow, AssetRow, PieceRow, MarkRow, RefRow, SpanRow, EnteredRow, GoneRow, EditRow, OriginRow}
@@ -165,3 +169,9 @@ OkDoes result old new done = HasCleanDisk new → IsWriting old → OnOk result 
 -- a crash leaves what it would have left before the call
 abbrev pub LeavesStore : State → State → Type 0
 LeavesStore old new = Survives old new (λ _. ⊥)
+
+-- a call inside a transaction does this where it answers Ok, and a crash leaves what it would have left before the call
+pub record Changes {A S : Type 0} (g : Ghosts S) (done : State → State → Type 0) (old new : Transaction S) (result : Result A Error) : Type 0 where
+  pub same_reference : new.conn.ghost_name ≡ old.conn.ghost_name
+  pub does : OkDoes result (state g old.conn.now) (state g new.conn.now) done
+  pub survives : LeavesStore (state g old.conn.now) (state g new.conn.now)

@@ -1,12 +1,8 @@
 //! All rows of a store, read table by table.
 
-ghost use Rattle.std.specs.Prelude.{◌≡◌, IfOk};
-ghost use Rattle.sqlite.specs.State.{HasCleanDisk};
-ghost use Rattle.sqlite.specs.Held.{state};
 ghost use Rattle.lrs_store_tables.specs.Contents.Tables.{AreSame};
-ghost use Rattle.lrs_store_tables.specs.StoredRows.{IsWriting, LeavesStore};
-ghost use Rattle.lrs_store_tables.specs.Failures.{ErrInsideHasReason};
-ghost use Rattle.lrs_store_tables.specs.Rows.{HasRead, AreNamed, AreOfRoutes, AreOfLedgers, tables_of};
+ghost use Rattle.lrs_store_tables.specs.Rows.{AreNamed, AreOfRoutes, AreOfLedgers, tables_of};
+ghost use Rattle.lrs_store_tables.specs.TableReads.{Reads};
 
 use crate::select::{
     read_assets, read_classes, read_edits, read_entered, read_gone, read_links, read_marks,
@@ -17,14 +13,7 @@ use sqlite::{Alter, Error, Transaction};
 
 /// The rows of links, classes and assets, and of the version.
 fn read_named<S: Alter>(tx: &mut Transaction<'_, S>) -> Result<NamedRows, Error>
-    ensures same_reference { tx.new.conn.ghost_name ≡ tx.old.conn.ghost_name }
-    ensures read { HasCleanDisk (state S.Store tx.new.conn.now)
-        → IsWriting (state S.Store tx.old.conn.now)
-        → IfOk result (λ r. HasRead (AreNamed r) (state S.Store tx.old.conn.now)
-        (state S.Store tx.new.conn.now)) }
-    ensures cause { ErrInsideHasReason result (state S.Store tx.old.conn.now)
-        (state S.Store tx.new.conn.now) }
-    ensures survives { LeavesStore (state S.Store tx.old.conn.now) (state S.Store tx.new.conn.now) }
+    ensures { Reads S.Store AreNamed tx.old tx.new result }
 {
     let version = read_versions(tx)?;
     let link = read_links(tx)?;
@@ -40,14 +29,7 @@ fn read_named<S: Alter>(tx: &mut Transaction<'_, S>) -> Result<NamedRows, Error>
 
 /// The rows of routes.
 fn read_routes<S: Alter>(tx: &mut Transaction<'_, S>) -> Result<RouteRows, Error>
-    ensures same_reference { tx.new.conn.ghost_name ≡ tx.old.conn.ghost_name }
-    ensures read { HasCleanDisk (state S.Store tx.new.conn.now)
-        → IsWriting (state S.Store tx.old.conn.now)
-        → IfOk result (λ r. HasRead (AreOfRoutes r) (state S.Store tx.old.conn.now)
-        (state S.Store tx.new.conn.now)) }
-    ensures cause { ErrInsideHasReason result (state S.Store tx.old.conn.now)
-        (state S.Store tx.new.conn.now) }
-    ensures survives { LeavesStore (state S.Store tx.old.conn.now) (state S.Store tx.new.conn.now) }
+    ensures { Reads S.Store AreOfRoutes tx.old tx.new result }
 {
     let piece = read_pieces(tx)?;
     let mark = read_marks(tx)?;
@@ -63,14 +45,7 @@ fn read_routes<S: Alter>(tx: &mut Transaction<'_, S>) -> Result<RouteRows, Error
 
 /// The rows of the ledgers, and of edits and origins.
 fn read_ledgers<S: Alter>(tx: &mut Transaction<'_, S>) -> Result<LedgerRows, Error>
-    ensures same_reference { tx.new.conn.ghost_name ≡ tx.old.conn.ghost_name }
-    ensures read { HasCleanDisk (state S.Store tx.new.conn.now)
-        → IsWriting (state S.Store tx.old.conn.now)
-        → IfOk result (λ r. HasRead (AreOfLedgers r) (state S.Store tx.old.conn.now)
-        (state S.Store tx.new.conn.now)) }
-    ensures cause { ErrInsideHasReason result (state S.Store tx.old.conn.now)
-        (state S.Store tx.new.conn.now) }
-    ensures survives { LeavesStore (state S.Store tx.old.conn.now) (state S.Store tx.new.conn.now) }
+    ensures { Reads S.Store AreOfLedgers tx.old tx.new result }
 {
     let entered = read_entered(tx)?;
     let gone = read_gone(tx)?;
@@ -86,14 +61,7 @@ fn read_ledgers<S: Alter>(tx: &mut Transaction<'_, S>) -> Result<LedgerRows, Err
 
 /// The rows of all tables, each read by one statement.
 pub fn read_rows<S: Alter>(tx: &mut Transaction<'_, S>) -> Result<StoredRows, Error>
-    ensures same_reference { tx.new.conn.ghost_name ≡ tx.old.conn.ghost_name }
-    ensures read { HasCleanDisk (state S.Store tx.new.conn.now)
-        → IsWriting (state S.Store tx.old.conn.now)
-        → IfOk result (λ r. HasRead (λ t. AreSame t (tables_of r)) (state S.Store tx.old.conn.now)
-        (state S.Store tx.new.conn.now)) }
-    ensures cause { ErrInsideHasReason result (state S.Store tx.old.conn.now)
-        (state S.Store tx.new.conn.now) }
-    ensures survives { LeavesStore (state S.Store tx.old.conn.now) (state S.Store tx.new.conn.now) }
+    ensures { Reads S.Store (λ r t. AreSame t (tables_of r)) tx.old tx.new result }
 {
     let named = read_named(tx)?;
     let routes = read_routes(tx)?;

@@ -6,8 +6,7 @@ use Rattle.sqlite_trees.specs.declared.store.Store.{Ghosts}
 use Rattle.sqlite_trees.specs.Tree.{Trees}
 use Rattle.sqlite.specs.Effect.{Database}
 use Rattle.sqlite.specs.Held.{Held, state}
-use Rattle.sqlite.specs.State.{State, HasCleanDisk, IsUnchanged, Survives}
-use Rattle.sqlite.specs.declared.error.Error.{Error}
+use Rattle.sqlite.specs.State.{State, HasCleanDisk, Survives}
 use Rattle.sqlite.proofs.StateLemmas.{survives_weaker}
 use Rattle.lrs_events.specs.declared.class.Asset.{Asset}
 use Rattle.lrs_machine.specs.declared.image.Image.{Image}
@@ -18,9 +17,8 @@ use Rattle.lrs_store_tables.specs.Contents.Tables.{Tables, AreSame}
 use Rattle.lrs_store_tables.specs.Contents.Content.{content_of}
 use Rattle.lrs_store_tables.specs.Contents.Laws.{brought_up}
 use Rattle.lrs_store_tables.proofs.Contents.Stored.{content_is_of_rows}
-use Rattle.lrs_store_tables.specs.StoredRows.{stored, version_in, IsWriting, OkDoes, LeavesStore}
+use Rattle.lrs_store_tables.specs.StoredRows.{stored, version_in, LeavesStore}
 use Rattle.lrs_store_tables.specs.Connections.{IsReady}
-use Rattle.lrs_store_tables.specs.Rows.{HasRead}
 use Rattle.lrs_store_tables.specs.HeldRows.{MayHold}
 use Rattle.lrs_store_tables.specs.Rows.{Tells}
 use Rattle.lrs_store.specs.TableKeeper.Openings.{HoldsImage, IsSecond, IsNotSecond, HasVersions}
@@ -42,12 +40,6 @@ pub holds_again : (a b : State) (i : Image) → HoldsImage a i → ((c : Result 
 holds_again a b i held content clean db left =
     let was = content (content_of (stored db)) (clean, (db, left, refl)) in
     sym was.1.2 ∙ held was.0 was.1.0 was.1.1
-
--- the rows of the version were read, and nothing changed
-pub versions_read : {A : Type 0} (items : A → List Row) (a b : State) (r : Result A Error) → (HasCleanDisk b → IsWriting a → IfOk r (λ rows. HasVersions (items rows) (stored a.now.trees))) → OkDoes r a b IsUnchanged
-    → HasCleanDisk b → IsWriting a → IfOk r (λ rows. HasRead (HasVersions (items rows)) a b)
-versions_read items a b (Ok rows) read same clean writing = record { rows = read clean writing; same = same clean writing }
-versions_read items a b (Err e) read same clean writing = tt
 
 -- the rows of the version that were read are those that may be left
 pub second_read : (s : State) (rows : List Row) → map version_in rows ≡ pos 2 ∷ [] → (HasCleanDisk s → (db : Trees) → s.may_leave db → HasVersions rows (stored db)) → IsSecond s

@@ -71,7 +71,7 @@ module _ {X : Type 0} where
   none_there None h = refl
   none_there (Some xs) h = absurd (true≢false h)
 
-  not_counted : (k : ℕ) (rs : List (Numbered X)) → each_two number_before rs ≡ false → counted k rs ≡ None
+  pub not_counted : (k : ℕ) (rs : List (Numbered X)) → each_two number_before rs ≡ false → counted k rs ≡ None
   not_counted k rs f = none_there (counted k rs) (false_from_ne_true (is_some (counted k rs)) (λ t. both_ways (each_two number_before rs) f (counted_rise k rs t)))
 
   pub counted_alike : (k : ℕ) (xs ys : List (Numbered X)) → IsPermutation xs ys → counted k (sorted number_before xs) ≡ counted k (sorted number_before ys)

@@ -1,23 +1,20 @@
 use Rattle.std.proofs.Common.{rules}
 use Rattle.sqlite.specs.Held.{state}
 use Rattle.lrs_store.specs.TableKeeper.Openings.{HasVersions}
-use Rattle.lrs_store.proofs.TableKeeper.OpeningLemmas.{versions_read}
 use Rattle.lrs_store.proofs.TableKeeper.ReadLemmas.{told_if, rests_if}
 use Rattle.lrs_store.proofs.TableKeeper.FailedLemmas.{fails_alone}
 use Rattle.lrs_store.proofs.migration.read_versions_alone.Goals as goal
 
 pub returns-clause-ready : goal.returns-clause-ready
 returns-clause-ready g c =
-    let reads = versions_read (λ rows. rows.items) (state g.S.Store c.transaction-tx.result.conn.now) (state g.S.Store c.read_versions-rows.new.tx.conn.now) c.read_versions-rows.result c.read_versions-rows.ensures.rows c.read_versions-rows.ensures.same in
     let h = rests_if g.S.Store c.args.conn.now c.transaction-tx.result.conn.now c.read_versions-rows.new.tx.conn.now (state g.S.Store c.rollback.new.self.0) (λ rows t. HasVersions rows.items t) c.read_versions-rows.result
-    c.transaction-tx.ensures.begun c.requires.ready c.read_versions-rows.ensures.survives reads c.rollback.ensures.survives c.rollback.ensures.undone in
+    c.transaction-tx.ensures.begun c.requires.ready c.read_versions-rows.ensures.survives c.read_versions-rows.ensures.read c.rollback.ensures.survives c.rollback.ensures.undone in
     search rules
 
 pub returns-clause-rows : goal.returns-clause-rows
 returns-clause-rows g c =
-    let reads = versions_read (λ rows. rows.items) (state g.S.Store c.transaction-tx.result.conn.now) (state g.S.Store c.read_versions-rows.new.tx.conn.now) c.read_versions-rows.result c.read_versions-rows.ensures.rows c.read_versions-rows.ensures.same in
     let h = told_if g.S.Store g.met.S.Store.settled c.args.conn.now c.transaction-tx.result.conn.now c.read_versions-rows.new.tx.conn.now (state g.S.Store c.rollback.new.self.0) (λ rows t. HasVersions rows.items t) c.read_versions-rows.result
-    c.transaction-tx.ensures.begun c.requires.ready c.read_versions-rows.ensures.survives reads c.rollback.ensures.survives in
+    c.transaction-tx.ensures.begun c.requires.ready c.read_versions-rows.ensures.survives c.read_versions-rows.ensures.read c.rollback.ensures.survives in
     search rules
 
 pub returns-clause-cause : goal.returns-clause-cause

@@ -1,5 +1,5 @@
-use Rattle.std.proofs.Common.{◌≡◌, ◌∙◌, ◌+◌, ◌<◌, ◌≤◌, ◌-◌, length, take, drop, sym, subst, arith}
-use Rattle.std.proofs.lemmas.List.{length-take-le, length-drop, take_rest}
+use Rattle.std.proofs.Common.{rules, ◌≡◌, ◌∙◌, ◌+◌, ◌<◌, ◌≤◌, ◌-◌, length, take, drop, sym, subst, arith}
+use Rattle.std.proofs.lemmas.List.{take_all, length-take-le, length-drop, take_rest}
 use Rattle.std.proofs.Math.Seq.{take-add}
 use Rattle.sqlite.specs.Held.{state}
 use Rattle.sqlite.proofs.StateLemmas.{survives_then}
@@ -32,11 +32,16 @@ loop-done-preserved g c =
       survives = survives_then start mid last _ _ (λ _. ⊥) (λ _ db none. none) (λ _ db none. none) c.loop-done.invariant.survives c.write_next.ensures.survives;
     }
 
-pub returns-in_err-done-clause-survives : goal.returns-in_err-done-clause-survives
-returns-in_err-done-clause-survives g c = leaves_then c.loop-done.invariant.survives c.write_next.ensures.survives
+pub returns-in_err-done : goal.returns-in_err-done
+returns-in_err-done g c = record {
+  same_reference = c.write_next.ensures.same_reference ∙ c.loop-done.invariant.same;
+  does = search rules;
+  survives = leaves_then c.loop-done.invariant.survives c.write_next.ensures.survives;
+}
 
-pub returns-in_err-done-clause-same_reference : goal.returns-in_err-done-clause-same_reference
-returns-in_err-done-clause-same_reference g c = c.write_next.ensures.same_reference ∙ c.loop-done.invariant.same
-
-pub returns-clause-survives : goal.returns-clause-survives
-returns-clause-survives g c = c.loop-done.invariant.survives
+pub returns : goal.returns
+returns g c = record {
+  same_reference = c.loop-done.invariant.same;
+  does = λ clean writing. subst (λ changes. WritesEach c.args.n changes (state g.S.Store c.args.tx.now.conn.now) (state g.S.Store c.loop-done.tx.conn.now)) (take_all c.loop-done.done c.args.changes.now c.loop-done-test.false) (c.loop-done.invariant.does clean writing);
+  survives = c.loop-done.invariant.survives;
+}

@@ -1,5 +1,5 @@
-use Rattle.std.proofs.Common.{◌≡◌, ◌∙◌, ◌+◌, ◌<◌, ◌++◌, ◌∷◌, [], length, take, sym, ap, subst, arith}
-use Rattle.std.proofs.lemmas.List.{take_more}
+use Rattle.std.proofs.Common.{rules, ◌≡◌, ◌∙◌, ◌+◌, ◌<◌, ◌++◌, ◌∷◌, [], length, take, sym, ap, subst, arith}
+use Rattle.std.proofs.lemmas.List.{take_all, take_more}
 use Rattle.sqlite.specs.Held.{state}
 use Rattle.sqlite.proofs.StateLemmas.{survives_then}
 use Rattle.lrs_image.specs.declared.change.Change.{Change}
@@ -30,11 +30,16 @@ loop-i-preserved g c =
       survives = survives_then start mid last _ _ (λ _. ⊥) (λ _ db none. none) (λ _ db none. none) c.loop-i.invariant.survives c.write_all.ensures.survives;
     }
 
-pub returns-in_err-write_all-clause-survives : goal.returns-in_err-write_all-clause-survives
-returns-in_err-write_all-clause-survives g c = leaves_then c.loop-i.invariant.survives c.write_all.ensures.survives
+pub returns-in_err-write_all : goal.returns-in_err-write_all
+returns-in_err-write_all g c = record {
+  same_reference = c.write_all.ensures.same_reference ∙ c.loop-i.invariant.same;
+  does = search rules;
+  survives = leaves_then c.loop-i.invariant.survives c.write_all.ensures.survives;
+}
 
-pub returns-in_err-write_all-clause-same_reference : goal.returns-in_err-write_all-clause-same_reference
-returns-in_err-write_all-clause-same_reference g c = c.write_all.ensures.same_reference ∙ c.loop-i.invariant.same
-
-pub returns-clause-survives : goal.returns-clause-survives
-returns-clause-survives g c = c.loop-i.invariant.survives
+pub returns : goal.returns
+returns g c = record {
+  same_reference = c.loop-i.invariant.same;
+  does = λ clean writing. subst (λ entries. Makes (with_others_of entries) (state g.S.Store c.args.tx.now.conn.now) (state g.S.Store c.loop-i.tx.conn.now)) (take_all c.loop-i.i c.args.entries.now c.loop-i-test.false) (c.loop-i.invariant.does clean writing);
+  survives = c.loop-i.invariant.survives;
+}

@@ -12,13 +12,17 @@ use Rattle.lrs_store_commit.proofs.EntryRows.{many_seconds}
 use Rattle.lrs_store_commit.proofs.InsertedEight.{entered_added}
 use Rattle.lrs_store_commit.proofs.insert_assets.put_second_parts.Goals as goal
 
-pub returns-clause-does : goal.returns-clause-does
-returns-clause-does g c clean writing =
-    let entries = c.args.entries.now in
-    let old = state g.S.Store c.args.tx.now.conn.now in
-    let new = state g.S.Store c.execute.new.self.conn.now in
-    let rows = flat_map other_rows entries in
-    let given : bound c.fill_eight.new.cells ≡ flat_map entered_cells rows = c.in_ok-fill_eight.ensures.filled ∙ cells_of_all entered_cells other_rows 0 entries in
-    let eight : length rows ≡ 8 = many_seconds entries c.requires.there ∙ c.requires.eight in
-    entered_added rows old new c.in_ok-execute.field-0 eight writing
-    (subst (λ (params : Row). ExecutesInside 0 insert_eight_entered params old new (Ok c.in_ok-execute.field-0)) given (c.in_ok-execute.ensures.runs clean writing.begun))
+pub returns : goal.returns
+returns g c = record {
+  same_reference = c.execute.ensures.same_reference;
+  does = λ clean writing.
+      let entries = c.args.entries.now in
+      let old = state g.S.Store c.args.tx.now.conn.now in
+      let new = state g.S.Store c.execute.new.self.conn.now in
+      let rows = flat_map other_rows entries in
+      let given : bound c.fill_eight.new.cells ≡ flat_map entered_cells rows = c.in_ok-fill_eight.ensures.filled ∙ cells_of_all entered_cells other_rows 0 entries in
+      let eight : length rows ≡ 8 = many_seconds entries c.requires.there ∙ c.requires.eight in
+      entered_added rows old new c.in_ok-execute.field-0 eight writing
+      (subst (λ (params : Row). ExecutesInside 0 insert_eight_entered params old new (Ok c.in_ok-execute.field-0)) given (c.in_ok-execute.ensures.runs clean writing.begun));
+  survives = c.execute.ensures.survives;
+}

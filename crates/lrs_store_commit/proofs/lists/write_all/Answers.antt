@@ -1,5 +1,5 @@
-use Rattle.std.proofs.Common.{◌≡◌, ◌∙◌, ◌+◌, ◌<◌, ◌++◌, ◌∷◌, [], length, take, sym, ap, subst, arith}
-use Rattle.std.proofs.lemmas.List.{take_more, length-take-le}
+use Rattle.std.proofs.Common.{rules, ◌≡◌, ◌∙◌, ◌+◌, ◌<◌, ◌++◌, ◌∷◌, [], length, take, sym, ap, subst, arith}
+use Rattle.std.proofs.lemmas.List.{take_all, take_more, length-take-le}
 use Rattle.sqlite.specs.Held.{state}
 use Rattle.sqlite.proofs.StateLemmas.{survives_then}
 use Rattle.lrs_store_tables.specs.StoredRows.{Makes}
@@ -31,11 +31,16 @@ loop-i-preserved g c =
       survives = survives_then start mid last _ _ (λ _. ⊥) (λ _ db none. none) (λ _ db none. none) c.loop-i.invariant.survives c.write.ensures.survives;
     }
 
-pub returns-in_err-write-clause-survives : goal.returns-in_err-write-clause-survives
-returns-in_err-write-clause-survives g c = leaves_then c.loop-i.invariant.survives c.write.ensures.survives
+pub returns-in_err-write : goal.returns-in_err-write
+returns-in_err-write g c = record {
+  same_reference = c.write.ensures.same_reference ∙ c.loop-i.invariant.same;
+  does = search rules;
+  survives = leaves_then c.loop-i.invariant.survives c.write.ensures.survives;
+}
 
-pub returns-in_err-write-clause-same_reference : goal.returns-in_err-write-clause-same_reference
-returns-in_err-write-clause-same_reference g c = c.write.ensures.same_reference ∙ c.loop-i.invariant.same
-
-pub returns-clause-survives : goal.returns-clause-survives
-returns-clause-survives g c = c.loop-i.invariant.survives
+pub returns : goal.returns
+returns g c = record {
+  same_reference = c.loop-i.invariant.same;
+  does = λ clean writing. subst (λ rows. Makes (g.R.Written.all c.args.of.now 0 rows) (state g.S.Store c.args.tx.now.conn.now) (state g.S.Store c.loop-i.tx.conn.now)) (take_all c.loop-i.i c.args.rows.now c.loop-i-test.false) (c.loop-i.invariant.does clean writing);
+  survives = c.loop-i.invariant.survives;
+}

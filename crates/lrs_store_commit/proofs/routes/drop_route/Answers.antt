@@ -1,37 +1,18 @@
-use Rattle.std.proofs.Common.{arith}
-use Rattle.sqlite.specs.State.{HasCleanDisk}
-use Rattle.sqlite.specs.Held.{state}
 use Rattle.lrs_store_tables.specs.RowChanges.{without_pieces, without_marks, less_refs, less_spans}
 use Rattle.lrs_store_tables.proofs.Steady.{steady-without_marks, steady-less_refs, steady-less_spans}
-use Rattle.lrs_store_tables.specs.Contents.Tables.{Tables}
-use Rattle.lrs_store_commit.proofs.Then.{makes_on}
-use Rattle.lrs_store_commit.proofs.Last.{makes_last}
-use Rattle.lrs_store_commit.proofs.Leaves.{leaves_then}
+use Rattle.lrs_store_commit.proofs.Last.{then_makes, fails_behind, handed_on}
 use Rattle.lrs_store_commit.proofs.routes.drop_route.Goals as goal
 
-pub returns-clause-does : goal.returns-clause-does
-returns-clause-does g c clean writing =
-    let s0 = state g.S.Store c.args.tx.now.conn.now in
-    let s1 = state g.S.Store c.drop_pieces.new.tx.conn.now in
-    let s2 = state g.S.Store c.drop_marks.new.tx.conn.now in
-    let s3 = state g.S.Store c.write_all.new.tx.conn.now in
-    let s4 = state g.S.Store c.write_all-2.new.tx.conn.now in
-    let m3 : HasCleanDisk s3 = omega (arith, c.write_all-2.ensures.survives.clean) in
-    let m2 : HasCleanDisk s2 = omega (arith, m3, c.write_all.ensures.survives.clean) in
-    let m1 : HasCleanDisk s1 = omega (arith, m2, c.drop_marks.ensures.survives.clean) in
+pub returns : goal.returns
+returns g c =
     let route = c.args.route.now in
     let keys = c.args.keys.now in
-    let a1 = c.in_ok-drop_pieces.ensures.does m1 writing in
-    let a2 = makes_on (without_pieces route) (without_marks route) s0 s1 s2 (steady-without_marks route) a1 (c.in_ok-drop_marks.ensures.does m2 a1.writing) in
-    let a3 = makes_on (λ (t : Tables). without_marks route (without_pieces route t)) (less_refs keys.refs) s0 s2 s3 (steady-less_refs keys.refs) a2 (rw (c.as_slice.ensures) at (c.in_ok-write_all.ensures.does m3 a2.writing)) in
-    makes_last c.write_all-2.result (λ (t : Tables). less_refs keys.refs (without_marks route (without_pieces route t))) (less_spans route keys.spans) s0 s3 s4 (steady-less_spans route keys.spans) a3
-    (rw (c.as_slice-2.ensures) at (c.write_all-2.ensures.does clean a3.writing))
+    let two = then_makes (without_pieces route) (without_marks route) (steady-without_marks route) c.in_ok-drop_pieces.ensures c.in_ok-drop_marks.ensures in
+    let three = then_makes (λ t. without_marks route (without_pieces route t)) (less_refs keys.refs) (steady-less_refs keys.refs) two (rw (c.as_slice.ensures) at c.in_ok-write_all.ensures) in
+    then_makes (λ t. less_refs keys.refs (without_marks route (without_pieces route t))) (less_spans route keys.spans) (steady-less_spans route keys.spans) three (rw (c.as_slice-2.ensures) at c.write_all-2.ensures)
 
-pub returns-in_err-drop_marks-clause-survives : goal.returns-in_err-drop_marks-clause-survives
-returns-in_err-drop_marks-clause-survives g c = leaves_then c.drop_pieces.ensures.survives c.drop_marks.ensures.survives
+pub returns-in_err-drop_marks : goal.returns-in_err-drop_marks
+returns-in_err-drop_marks g c = handed_on c.from_residual-in_err-drop_marks.result c.from_residual-in_err-drop_marks.ensures.1 (fails_behind c.in_ok-drop_pieces.ensures c.in_err-drop_marks.ensures)
 
-pub returns-in_err-write_all-clause-survives : goal.returns-in_err-write_all-clause-survives
-returns-in_err-write_all-clause-survives g c = leaves_then (leaves_then c.drop_pieces.ensures.survives c.drop_marks.ensures.survives) c.write_all.ensures.survives
-
-pub returns-clause-survives : goal.returns-clause-survives
-returns-clause-survives g c = leaves_then (leaves_then (leaves_then c.drop_pieces.ensures.survives c.drop_marks.ensures.survives) c.write_all.ensures.survives) c.write_all-2.ensures.survives
+pub returns-in_err-write_all : goal.returns-in_err-write_all
+returns-in_err-write_all g c = handed_on c.from_residual-in_err-write_all.result c.from_residual-in_err-write_all.ensures.1 (fails_behind c.in_ok-drop_pieces.ensures (fails_behind c.in_ok-drop_marks.ensures c.in_err-write_all.ensures))

@@ -3,7 +3,11 @@ use Rattle.lrs_store_tables.specs.Contents.Encoders.{link_row}
 use Rattle.lrs_store_tables.proofs.Inserted.{link_added}
 use Rattle.lrs_store_tables.proofs.insert.put_link.Goals as goal
 
-pub returns-clause-does : goal.returns-clause-does
-returns-clause-does g c clean writing =
-    link_added (link_row c.args.link.now) (state g.S.Store c.args.tx.now.conn.now) (state g.S.Store c.execute.new.self.conn.now) c.in_ok-execute.field-0 writing
-    (rw (c.in_ok-own.ensures, c.in_ok-length.ensures) at (c.in_ok-execute.ensures.runs clean writing.begun))
+pub returns : goal.returns
+returns g c = record {
+  same_reference = c.execute.ensures.same_reference;
+  does = λ clean writing.
+      link_added (link_row c.args.link.now) (state g.S.Store c.args.tx.now.conn.now) (state g.S.Store c.execute.new.self.conn.now) c.in_ok-execute.field-0 writing
+      (rw (c.in_ok-own.ensures, c.in_ok-length.ensures) at (c.in_ok-execute.ensures.runs clean writing.begun));
+  survives = c.execute.ensures.survives;
+}

@@ -7,10 +7,14 @@ use Rattle.lrs_store_tables.proofs.Inserted.{version_added}
 use Rattle.lrs_store_tables.proofs.InsertFails.{version_fails}
 use Rattle.lrs_store_tables.proofs.insert.put_version.Goals as goal
 
-pub returns-clause-does : goal.returns-clause-does
-returns-clause-does g c clean writing =
-    version_added (pos c.args.version) (state g.S.Store c.args.tx.now.conn.now) (state g.S.Store c.execute.new.self.conn.now) c.in_ok-execute.field-0 writing
-    (rw (c.in_ok-version.ensures) at (c.in_ok-execute.ensures.runs clean writing.begun))
+pub returns-clause-changes : goal.returns-clause-changes
+returns-clause-changes g c = record {
+  same_reference = c.execute.ensures.same_reference;
+  does = λ clean writing.
+      version_added (pos c.args.version) (state g.S.Store c.args.tx.now.conn.now) (state g.S.Store c.execute.new.self.conn.now) c.in_ok-execute.field-0 writing
+      (rw (c.in_ok-version.ensures) at (c.in_ok-execute.ensures.runs clean writing.begun));
+  survives = c.execute.ensures.survives;
+}
 
 pub returns-clause-is_open : goal.returns-clause-is_open
 returns-clause-is_open g c clean writing = (c.in_ok-execute.ensures.runs clean writing.begun).1.was_open
