@@ -1,6 +1,6 @@
 -- Each record says a command or has a first malformed field.
-use Rattle.std.proofs.Common.{◌≡◌, ◌⊎◌, ℕ, zero, suc, List, [], ◌∷◌, Option, Some, None, true, refl, sym, subst, arith, inl, inr}
-use Rattle.std.specs.Prelude.{Contains, codes, map, nat_le, if◌then◌else◌}
+use Rattle.std.proofs.Common.{◌∙◌, ◌≡◌, ◌⊎◌, ℕ, List, [], ◌∷◌, Option, Some, None, true, refl, inl, inr}
+use Rattle.std.specs.Prelude.{Contains, map, nat_le, if◌then◌else◌}
 use Rattle.std.specs.Str.Parse.{digits_value}
 use Rattle.std.proofs.lemmas.Bool.{and_from}
 use Rattle.lrs_measure.specs.Lists.{is_from_to, is_nothing}
@@ -16,15 +16,18 @@ use Rattle.lrs_machine.specs.declared.answer.Field.{Field}
 use Rattle.lrs_machine.specs.declared.answer.Field.TheVariants as field
 use Rattle.lrs_machine.specs.declared.command.NewAsset.{NewAsset}
 use Rattle.lrs_machine.specs.declared.command.Command.{Command}
-use Rattle.lrs_machine.specs.declared.command.Command.TheVariants as verb
+use Rattle.lrs_machine.specs.declared.command.Command.TheVariants as command
 use Rattle.lrs_sheet_records.proofs.Deciding.{argument_in, at-most, expression_in, mark_in, piece_in}
 use Rattle.lrs_sheet_records.proofs.Judging.{arguments_in, fitting-say, is_among, among, malformed_in, malformed-from, misfit_in, none-malformed, says-from}
+use Rattle.lrs_sheet_records.proofs.Misfits.{verb-named}
 use Rattle.lrs_sheet_records.proofs.OneArgument.{kind_from, method_from, side_from}
 use Rattle.lrs_sheet_records.proofs.OneCommand.{one-command, one-place, well-formed}
 use Rattle.lrs_sheet_records.specs.Laws.{RecordsAreJudged}
 use Rattle.lrs_sheet_records.specs.Records.{FirstMalformedAmong, SayAll, SaysAmong, text_at, texts_of}
 use Rattle.lrs_sheet_records.specs.Shapes.{Number, Word, SideOf, MethodOf, At, PiecesOf, MarksOf, OrNothing, Pieces, PositionBy}
-use Rattle.lrs_sheet_records.specs.Verbs.{all_verbs, arguments_of, new_asset_arguments, new_asset_shapes, method_of, or_nothing, shapes_of, verb_of}
+use Rattle.lrs_sheet_records.specs.Verbs.{all_verbs, arguments_of, new_asset_arguments, new_asset_shapes, method_of, or_nothing, row_of, shapes_of, verb_of}
+use Rattle.lrs_sheet_records.specs.declared.verb.Verb.{Verb}
+use Rattle.lrs_sheet_records.specs.declared.verb.Verb.TheVariants as verb
 use Rattle.lrs_sheet_records.specs.Words.{SaysNumber, words_of}
 
 -- what is read by a method is of the method
@@ -84,41 +87,40 @@ abbrev IsRead : List Text → Text → Type 0
 IsRead row name = (command : Command) × (name ≡ verb_of command) × (arguments_in row 2 (shapes_of (verb_of command)) ≡ arguments_of command)
 
 -- each verb has a command of what its fields say
-read-verb : (row : List Text) (name : Text) → Contains all_verbs name → SayAll row 2 (shapes_of name) (arguments_in row 2 (shapes_of name)) → IsRead row name
-read-verb row name (zero, below, is) h =
-    let said : SayAll row 2 (shapes_of (codes "link")) (arguments_in row 2 (shapes_of (codes "link"))) = subst (λ (n : Text). SayAll row 2 (shapes_of n) (arguments_in row 2 (shapes_of n))) (sym is) h in
+read-verb : (row : List Text) (v : Verb) → SayAll row 2 (shapes_of (row_of v).name) (arguments_in row 2 (shapes_of (row_of v).name)) → IsRead row (row_of v).name
+read-verb row verb.Link h =
     let n = digits_value 10 (text_at row 2) in
     let l = digits_value 10 (text_at row 3) in
-    (verb.Link (record { number = n; length = l; limits = link-limits n l (text_at row 2) (text_at row 3) said.0 said.1.0 }), sym is, refl)
-read-verb row name (suc zero, below, is) h = (verb.Class (record { name = text_at row 2; kind = kind_from (text_at row 3) }), sym is, refl)
-read-verb row name (suc (suc zero), below, is) h = (verb.Route (text_at row 2) (map piece_in (words_of (text_at row 3))) (map mark_in (words_of (text_at row 4))), sym is, refl)
-read-verb row name (suc (suc (suc zero)), below, is) h =
+    (command.Link (record { number = n; length = l; limits = link-limits n l (text_at row 2) (text_at row 3) h.0 h.1.0 }), refl, refl)
+read-verb row verb.Class h = (command.Class (record { name = text_at row 2; kind = kind_from (text_at row 3) }), refl, refl)
+read-verb row verb.Route h = (command.Route (text_at row 2) (map piece_in (words_of (text_at row 3))) (map mark_in (words_of (text_at row 4))), refl, refl)
+read-verb row verb.Ref h =
     let by = read-method (method_from (text_at row 4)) (text_at row 5) in
-    (verb.Ref (text_at row 2) (text_at row 3) (expression_in (method_from (text_at row 4)) (text_at row 5)), sym is, λ i. Word (text_at row 2) ∷ Word (text_at row 3) ∷ MethodOf (by i) ∷ At (expression_in (method_from (text_at row 4)) (text_at row 5)) ∷ [])
-read-verb row name (suc (suc (suc (suc zero))), below, is) h = (verb.Unref (text_at row 2), sym is, refl)
-read-verb row name (suc (suc (suc (suc (suc zero)))), below, is) h = (verb.Enter (entry_in row), sym is, entry-read row)
-read-verb row name (suc (suc (suc (suc (suc (suc zero))))), below, is) h =
+    (command.Ref (text_at row 2) (text_at row 3) (expression_in (method_from (text_at row 4)) (text_at row 5)), refl, λ i. Word (text_at row 2) ∷ Word (text_at row 3) ∷ MethodOf (by i) ∷ At (expression_in (method_from (text_at row 4)) (text_at row 5)) ∷ [])
+read-verb row verb.Unref h = (command.Unref (text_at row 2), refl, refl)
+read-verb row verb.Enter h = (command.Enter (entry_in row), refl, entry-read row)
+read-verb row verb.Retire h =
     let by = read-method (method_from (text_at row 4)) (text_at row 5) in
     let end = end-read (texts_of row) field.C (text_at row 6) in
-    (verb.Retire (digits_value 10 (text_at row 2)) (text_at row 3) (location_in (text_at row 4) (text_at row 5) (text_at row 6)), sym is, λ i. Number (digits_value 10 (text_at row 2)) ∷ Word (text_at row 3) ∷ MethodOf (by i) ∷ At (expression_in (method_from (text_at row 4)) (text_at row 5)) ∷ end i ∷ [])
-read-verb row name (suc (suc (suc (suc (suc (suc (suc zero)))))), below, is) h = (verb.Split (text_at row 2) (digits_value 10 (text_at row 3)) (text_at row 4), sym is, refl)
-read-verb row name (suc (suc (suc (suc (suc (suc (suc (suc zero))))))), below, is) h = (verb.Join (text_at row 2) (text_at row 3), sym is, refl)
-read-verb row name (suc (suc (suc (suc (suc (suc (suc (suc (suc zero)))))))), below, is) h = (verb.Renumber (text_at row 2) (text_at row 3), sym is, refl)
-read-verb row name (suc (suc (suc (suc (suc (suc (suc (suc (suc (suc zero))))))))), below, is) h = (verb.Recalibrate (text_at row 2) (map mark_in (words_of (text_at row 3))), sym is, refl)
-read-verb row name (suc (suc (suc (suc (suc (suc (suc (suc (suc (suc (suc zero)))))))))), below, is) h =
+    (command.Retire (digits_value 10 (text_at row 2)) (text_at row 3) (location_in (text_at row 4) (text_at row 5) (text_at row 6)), refl, λ i. Number (digits_value 10 (text_at row 2)) ∷ Word (text_at row 3) ∷ MethodOf (by i) ∷ At (expression_in (method_from (text_at row 4)) (text_at row 5)) ∷ end i ∷ [])
+read-verb row verb.Split h = (command.Split (text_at row 2) (digits_value 10 (text_at row 3)) (text_at row 4), refl, refl)
+read-verb row verb.Join h = (command.Join (text_at row 2) (text_at row 3), refl, refl)
+read-verb row verb.Renumber h = (command.Renumber (text_at row 2) (text_at row 3), refl, refl)
+read-verb row verb.Recalibrate h = (command.Recalibrate (text_at row 2) (map mark_in (words_of (text_at row 3))), refl, refl)
+read-verb row verb.Realign h =
     let course = pieces-read (texts_of row) (text_at row 5) in
-    (verb.Realign (text_at row 2) (digits_value 10 (text_at row 3)) (digits_value 10 (text_at row 4)) (some_pieces_in (text_at row 5)) (map mark_in (words_of (text_at row 6))), sym is, λ i. Word (text_at row 2) ∷ Number (digits_value 10 (text_at row 3)) ∷ Number (digits_value 10 (text_at row 4)) ∷ course i ∷ MarksOf (map mark_in (words_of (text_at row 6))) ∷ [])
-read-verb row name (suc (suc (suc (suc (suc (suc (suc (suc (suc (suc (suc (suc zero))))))))))), below, is) h = (verb.Close (text_at row 2), sym is, refl)
-read-verb row name (suc (suc (suc (suc (suc (suc (suc (suc (suc (suc (suc (suc (suc zero)))))))))))), below, is) h = (verb.Supersede (entry_in row), sym is, entry-read row)
-read-verb row name (suc (suc (suc (suc (suc (suc (suc (suc (suc (suc (suc (suc (suc (suc zero))))))))))))), below, is) h = (verb.Turn (text_at row 2), sym is, refl)
-read-verb row name (suc (suc (suc (suc (suc (suc (suc (suc (suc (suc (suc (suc (suc (suc (suc k)))))))))))))), below, is) h = absurd (omega (arith, below))
+    (command.Realign (text_at row 2) (digits_value 10 (text_at row 3)) (digits_value 10 (text_at row 4)) (some_pieces_in (text_at row 5)) (map mark_in (words_of (text_at row 6))), refl, λ i. Word (text_at row 2) ∷ Number (digits_value 10 (text_at row 3)) ∷ Number (digits_value 10 (text_at row 4)) ∷ course i ∷ MarksOf (map mark_in (words_of (text_at row 6))) ∷ [])
+read-verb row verb.Close h = (command.Close (text_at row 2), refl, refl)
+read-verb row verb.Supersede h = (command.Supersede (entry_in row), refl, entry-read row)
+read-verb row verb.Turn h = (command.Turn (text_at row 2), refl, refl)
 
 -- what is judged, where no field before the arguments is malformed
 judged : (names row : List Text) → ((name : Text) → Contains names name → Contains all_verbs name) → is_key (text_at row 0) ≡ true → is_among names (text_at row 1) ≡ true
     → misfit_in row 2 (shapes_of (text_at row 1)) ≡ None → (key : Text) × (command : Command) × SaysAmong names row key command
 judged names row known key verb fit =
-    let (command, is, said) = read-verb row (text_at row 1) (known (text_at row 1) (among names (text_at row 1) verb)) (fitting-say row 2 (shapes_of (text_at row 1)) fit) in
-    (text_at row 0, command, says-from names row (text_at row 0) command key refl verb is (rw is at fit) said)
+    let (v, named) = verb-named (text_at row 1) (known (text_at row 1) (among names (text_at row 1) verb)) in
+    let (command, is, said) = read-verb row v (fitting-say row 2 (shapes_of (row_of v).name) (rw named at fit)) in
+    (text_at row 0, command, says-from names row (text_at row 0) command key refl verb (named ∙ is) (rw (named ∙ is) at fit) said)
 
 -- a record is judged by its key, its verb and its arguments
 each-judged : (names row : List Text) → ((name : Text) → Contains names name → Contains all_verbs name)

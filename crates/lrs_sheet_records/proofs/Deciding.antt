@@ -333,34 +333,13 @@ argument_in texts (OrNothing shape) text = if is_nothing text then Nothing else 
 
 -- a shape says nothing only by an empty text
 said-nothing : (texts : Field → Text) (shape : Shape) (text : Text) → Says texts shape text Nothing → text ≡ []
-said-nothing texts (Whole low high) text h = absurd h
-said-nothing texts ClassName text h = absurd h
-said-nothing texts RouteName text h = absurd h
-said-nothing texts ReferentName text h = absurd h
-said-nothing texts AssetValue text h = absurd h
-said-nothing texts ClassKind text h = absurd h
-said-nothing texts RouteSide text h = absurd h
-said-nothing texts MethodName text h = absurd h
-said-nothing texts (PositionBy field) text h = absurd h
-said-nothing texts Pieces text h = absurd h
-said-nothing texts Marks text h = absurd h
-said-nothing texts ClassNames text h = absurd h
-said-nothing texts DestinationName text h = absurd h
 said-nothing texts (OrNothing shape) text h = h
+said-nothing texts shape text h = absurd h
 
 -- what a shape says may be there
 said-there : (texts : Field → Text) (shape : Shape) (text : Text) (a : Argument) → Says texts shape text a → Says texts (OrNothing shape) text a
 said-there texts shape text Nothing h = said-nothing texts shape text h
-said-there texts shape text (Number n) h = h
-said-there texts shape text (Word word) h = h
-said-there texts shape text (KindOf kind) h = h
-said-there texts shape text (SideOf side) h = h
-said-there texts shape text (MethodOf method) h = h
-said-there texts shape text (At e) h = h
-said-there texts shape text (PiecesOf pieces) h = h
-said-there texts shape text (MarksOf marks) h = h
-said-there texts shape text (ClassesOf names) h = h
-said-there texts shape text (DestinationOf to) h = h
+said-there texts shape text a h = h
 
 -- a text of a shape says what stands in it
 pub fits-says : (texts : Field → Text) (shape : Shape) (text : Text) → fits texts shape text ≡ true → Says texts shape text (argument_in texts shape text)

@@ -1,10 +1,9 @@
 -- The first malformed field of a record, and what its fields say, as they are computed.
-use Rattle.std.proofs.Common.{◌≡◌, ℕ, zero, suc, ◌+◌, ◌<◌, ◌-◌, Bool, true, false, List, [], ◌∷◌, Option, Some, None, drop, refl, sym, ap, subst, ◌∙◌, arith, inl, inr}
-use Rattle.std.specs.Prelude.{Contains, ◌||◌, ◌⊎◌, ◌++◌, if◌then◌else◌}
-use Rattle.std.specs.List.{list_any, list_all}
+use Rattle.std.proofs.Common.{◌≡◌, ℕ, zero, suc, ◌+◌, ◌<◌, ◌-◌, Bool, true, false, List, [], ◌∷◌, Option, Some, None, drop, refl, sym, ap, ◌∙◌, arith, inl, inr}
+use Rattle.std.specs.Prelude.{Contains, ◌||◌, if◌then◌else◌}
+use Rattle.std.specs.List.{list_any}
 use Rattle.std.specs.Str.{bytes_eq}
-use Rattle.std.proofs.lemmas.Bool.{false≢true, and_parts, or_left, or_right, or_cases}
-use Rattle.std.proofs.lemmas.List.Folds.{list_any-append}
+use Rattle.std.proofs.lemmas.Bool.{false≢true}
 use Rattle.std.proofs.lemmas.Slice.Eq.{bytes_eq-Decides}
 use Rattle.csv.specs.Records.{field_at}
 use Rattle.lrs_machine.specs.Keys.{is_key}
@@ -15,7 +14,7 @@ use Rattle.lrs_sheet_records.proofs.Misfits.{misfit-malformed, unknown-malformed
 use Rattle.lrs_sheet_records.specs.Fields.{FirstMisfit}
 use Rattle.lrs_sheet_records.specs.Records.{FirstMalformedAmong, FirstMalformedBy, SayAll, SaysAmong, text_at, texts_of}
 use Rattle.lrs_sheet_records.specs.Shapes.{Argument, Shape}
-use Rattle.lrs_sheet_records.specs.Verbs.{IsVerb, all_verbs, arguments_of, laying_verbs, shapes_of, verb_of, working_verbs}
+use Rattle.lrs_sheet_records.specs.Verbs.{arguments_of, shapes_of, verb_of}
 
 -- the place of the first of some fields that is not empty
 abbrev pub first_full : ℕ → List Text → Option ℕ
@@ -166,28 +165,3 @@ says-from names fields key command is same known verb fit said = record {
   same_verb = verb;
   arguments = rw said at (fitting-say fields 2 (shapes_of (verb_of command)) fit);
 }
-
--- A name is among the one or the other names just where it is among both together.
-pub either-among : (names others : List Text) (name : Text) → Contains names name ⊎ Contains others name → Contains (names ++ others) name
-either-among names others name (inl a) = among (names ++ others) name (list_any-append (bytes_eq name) names others ∙ or_left (is_among names name) (is_among others name) (among-is names name a))
-either-among names others name (inr b) = among (names ++ others) name (list_any-append (bytes_eq name) names others ∙ or_right (is_among names name) (is_among others name) (among-is others name b))
-
-pub among-either : (names others : List Text) (name : Text) → Contains (names ++ others) name → Contains names name ⊎ Contains others name
-among-either names others name both = by (or_cases (is_among names name) (is_among others name) (sym (list_any-append (bytes_eq name) names others) ∙ among-is (names ++ others) name both))
-  where
-    by : (is_among names name ≡ true) ⊎ (is_among others name ≡ true) → Contains names name ⊎ Contains others name
-    by (inl a) = inl (among names name a)
-    by (inr b) = inr (among others name b)
-
--- A name among some, each of which is among others, is among these.
-within : (names others : List Text) → list_all (is_among others) names ≡ true → (name : Text) → Contains names name → Contains others name
-within [] others h name (k, below, is) = absurd (omega (arith, below))
-within (other ∷ names) others h name (zero, below, is) = subst (Contains others) is (among others other (and_parts (is_among others other) (list_all (is_among others) names) h).0)
-within (other ∷ names) others h name (suc k, below, is) = within names others (and_parts (is_among others other) (list_all (is_among others) names) h).1 name (k, omega (arith, below), is)
-
--- The verbs are those of their families.
-pub known-verb : (name : Text) → Contains (laying_verbs ++ working_verbs) name → IsVerb name
-known-verb = within (laying_verbs ++ working_verbs) all_verbs refl
-
-pub verb-known : (name : Text) → IsVerb name → Contains (laying_verbs ++ working_verbs) name
-verb-known = within all_verbs (laying_verbs ++ working_verbs) refl

@@ -1,16 +1,18 @@
 -- The fields of a record by their places.
-use Rattle.std.proofs.Common.{Ok, Err, Result, ◌∙◌, Option, ◌-◌, sym, subst, ◌≡◌, ℕ, zero, suc, ◌≤◌, ◌<◌, ◌+◌, List, [], ◌∷◌, length, arith, refl, inl, inr, Some, None}
-use Rattle.std.specs.Prelude.{slice_get, Contains, IsTrue}
+use Rattle.std.proofs.Common.{Ok, Err, Result, ◌∙◌, Option, ◌-◌, sym, subst, ◌≡◌, ℕ, zero, suc, ◌≤◌, ◌<◌, ◌+◌, List, [], ◌∷◌, length, lit<, arith, refl, inl, inr, Some, None}
+use Rattle.std.specs.Prelude.{slice_get, map, Contains, IsTrue}
 use Rattle.std.specs.List.{AllByRecursion}
 use Rattle.csv.specs.Records.{field_at}
 use Rattle.lrs_sheet_records.specs.Records.{FirstMalformedBy, IsWellFormedBy, Refuses, place_of, text_at, texts_of}
 use Rattle.lrs_sheet_records.specs.Shapes.{Fits, Shape}
-use Rattle.lrs_sheet_records.specs.Verbs.{IsVerb, all_verbs, shapes_of}
+use Rattle.lrs_sheet_records.specs.Verbs.{IsVerb, Row, all_verbs, every_verb, row_of, shapes_of}
 use Rattle.lrs_sheet_records.specs.Fields.{FirstMisfit, ReadsArguments, ReadsCommand}
 use Rattle.lrs_machine.specs.declared.command.Command.{Command}
 use Rattle.lrs_sheet_records.specs.declared.fault.ReadFault.{ReadFault}
 use Rattle.lrs_sheet_records.specs.declared.fault.ReadFault.TheVariants as fault
 use Rattle.lrs_machine.specs.Keys.{is_key}
+use Rattle.lrs_sheet_records.specs.declared.verb.Verb.{Verb}
+use Rattle.lrs_sheet_records.specs.declared.verb.Verb.TheVariants as verb
 
 -- there is nothing past the end
 pub text_at-past : (fields : List (List ℕ)) (i : ℕ) → length fields ≤ i → text_at fields i ≡ []
@@ -86,6 +88,33 @@ pub refuses : (fields : List (List ℕ)) (e : ReadFault) → IsTrue (is_key (tex
 refuses fields fault.Memory key reads = tt
 refuses fields (fault.Field at) key (inl (is, unknown)) = rw is (unknown-malformed all_verbs shapes_of fields key unknown)
 refuses fields (fault.Field at) key (inr (known, misfit)) = misfit-malformed all_verbs shapes_of fields (place_of at) key known misfit
+
+-- each verb is one of the table
+pub is-verb : (v : Verb) → IsVerb (row_of v).name
+is-verb verb.Link = (0, lit< tt, refl)
+is-verb verb.Class = (1, lit< tt, refl)
+is-verb verb.Route = (2, lit< tt, refl)
+is-verb verb.Ref = (3, lit< tt, refl)
+is-verb verb.Unref = (4, lit< tt, refl)
+is-verb verb.Enter = (5, lit< tt, refl)
+is-verb verb.Retire = (6, lit< tt, refl)
+is-verb verb.Split = (7, lit< tt, refl)
+is-verb verb.Join = (8, lit< tt, refl)
+is-verb verb.Renumber = (9, lit< tt, refl)
+is-verb verb.Recalibrate = (10, lit< tt, refl)
+is-verb verb.Realign = (11, lit< tt, refl)
+is-verb verb.Close = (12, lit< tt, refl)
+is-verb verb.Supersede = (13, lit< tt, refl)
+is-verb verb.Turn = (14, lit< tt, refl)
+
+-- and each name of the table is of a verb
+named-in : (vs : List Verb) (name : List ℕ) → Contains (map (λ (row : Row). row.name) (map row_of vs)) name → (v : Verb) × (name ≡ (row_of v).name)
+named-in [] name (k, below, is) = absurd (omega arith)
+named-in (v ∷ vs) name (zero, below, is) = (v, sym is)
+named-in (v ∷ vs) name (suc k, below, is) = named-in vs name (k, omega arith, is)
+
+pub verb-named : (name : List ℕ) → IsVerb name → (v : Verb) × (name ≡ (row_of v).name)
+verb-named = named-in every_verb
 
 -- the fields of a verb that there is
 pub reads-verb : (fields : List (List ℕ)) (verb : List ℕ) (result : Result Command ReadFault) → IsVerb verb → text_at fields 1 ≡ verb → ReadsArguments fields verb result → ReadsCommand fields result

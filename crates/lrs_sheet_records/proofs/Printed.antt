@@ -1,6 +1,6 @@
 -- The record that a command is printed as says that command.
-use Rattle.std.proofs.Common.{◌≡◌, ℕ, suc, ◌+◌, ◌≤◌, lit<, List, [], ◌∷◌, Option, Some, None, refl, sym, ap, ◌∙◌, ◌-◌, arith}
-use Rattle.std.specs.Prelude.{map, ⊤, true, IsTrue, Contains}
+use Rattle.std.proofs.Common.{◌≡◌, ℕ, suc, ◌+◌, ◌≤◌, List, [], ◌∷◌, Option, Some, None, refl, sym, ap, ◌∙◌, ◌-◌, arith}
+use Rattle.std.specs.Prelude.{map, ⊤, true, IsTrue}
 use Rattle.std.specs.Fmt.{decimal}
 use Rattle.std.specs.List.{AllByRecursion}
 use Rattle.std.proofs.lemmas.Bool.{and_parts, false≢true}
@@ -20,13 +20,14 @@ use Rattle.lrs_machine.specs.declared.answer.Field.TheVariants as field
 use Rattle.lrs_machine.specs.declared.command.NewAsset.{NewAsset}
 use Rattle.lrs_machine.specs.declared.command.Command.{Command}
 use Rattle.lrs_machine.specs.declared.command.Command.TheVariants as verb
+use Rattle.lrs_sheet_records.proofs.Misfits.{is-verb}
 use Rattle.lrs_sheet_records.proofs.PrintedTexts.{below, decimal-says, from-to, marks-say, pieces-say, position-stated}
 use Rattle.lrs_sheet_records.specs.CanonicalRecords.{IsInLowestTerms, argument_text, record_of}
 use Rattle.lrs_sheet_records.specs.Laws.{PrintedRecordsSay}
 use Rattle.lrs_sheet_records.specs.Records.{SayAll, text_at, texts_of}
 use Rattle.lrs_sheet_records.specs.Shapes.{Argument, At, OrNothing, Pieces, PiecesOf, PositionBy, Says, Shape, StatesBy}
 use Rattle.lrs_sheet_records.specs.Words.{SaysNumber}
-use Rattle.lrs_sheet_records.specs.Verbs.{all_verbs, arguments_of, new_asset_arguments, new_asset_shapes, method_of, or_nothing, shapes_of, verb_of}
+use Rattle.lrs_sheet_records.specs.Verbs.{arguments_of, new_asset_arguments, new_asset_shapes, method_of, or_nothing, shapes_of, verb_in, verb_of}
 
 -- each argument is said by its text
 abbrev ArePrinted : (Field → Text) → List Shape → List Argument → Type 0
@@ -114,24 +115,6 @@ arguments-printed key (verb.Close route) h kept = ((h, refl), tt)
 arguments-printed key (verb.Supersede e) h kept = entry-printed (texts_of (record_of key (verb.Supersede e))) e refl h kept
 arguments-printed key (verb.Turn route) h kept = ((h, refl), tt)
 
--- the verb of a command is in the table
-pub known-verb : (command : Command) → Contains all_verbs (verb_of command)
-known-verb (verb.Link l) = (0, lit< tt, refl)
-known-verb (verb.Class c) = (1, lit< tt, refl)
-known-verb (verb.Route name pieces marks) = (2, lit< tt, refl)
-known-verb (verb.Ref name route at) = (3, lit< tt, refl)
-known-verb (verb.Unref name) = (4, lit< tt, refl)
-known-verb (verb.Enter e) = (5, lit< tt, refl)
-known-verb (verb.Retire asset route location) = (6, lit< tt, refl)
-known-verb (verb.Split route at name) = (7, lit< tt, refl)
-known-verb (verb.Join first second) = (8, lit< tt, refl)
-known-verb (verb.Renumber route name) = (9, lit< tt, refl)
-known-verb (verb.Recalibrate route marks) = (10, lit< tt, refl)
-known-verb (verb.Realign route first end pieces marks) = (11, lit< tt, refl)
-known-verb (verb.Close route) = (12, lit< tt, refl)
-known-verb (verb.Supersede e) = (13, lit< tt, refl)
-known-verb (verb.Turn route) = (14, lit< tt, refl)
-
 -- the fields behind the key and the verb
 behind : (key name : Text) (others : List Text) (i : ℕ) → text_at (key ∷ name ∷ others) (2 + i) ≡ text_at others i
 unfolding field_at
@@ -143,7 +126,7 @@ unfolding field_at
 printed_records_say key command is formed kept = record {
   is_key = is;
   same_key = refl;
-  is_verb = known-verb command;
+  is_verb = is-verb (verb_in command);
   same_verb = refl;
   arguments = printed-say (record_of key command) 2 (shapes_of (verb_of command)) (arguments_of command) (behind key (verb_of command) (map argument_text (arguments_of command))) (arguments-printed key command formed kept);
 }

@@ -20,196 +20,70 @@ use Rattle.lrs_sheet_records.specs.Words.{AreSaid, IsClassWord, IsMarkText, IsPi
 
 -- a number
 pub number-said : (texts : Field → Text) (low high : ℕ) (text : Text) (a : Argument) → Says texts (Whole low high) text a → (n : ℕ) × (a ≡ Number n) × SaysNumber low high text n
-number-said texts low high text Nothing h = absurd h
 number-said texts low high text (Number n) h = (n, refl, h)
-number-said texts low high text (Word word) h = absurd h
-number-said texts low high text (KindOf kind) h = absurd h
-number-said texts low high text (SideOf side) h = absurd h
-number-said texts low high text (MethodOf method) h = absurd h
-number-said texts low high text (At e) h = absurd h
-number-said texts low high text (PiecesOf pieces) h = absurd h
-number-said texts low high text (MarksOf marks) h = absurd h
-number-said texts low high text (ClassesOf names) h = absurd h
-number-said texts low high text (DestinationOf to) h = absurd h
+number-said texts low high text a h = absurd h
 
 -- the name of a class
 pub class-said : (texts : Field → Text) (text : Text) (a : Argument) → Says texts ClassName text a → (word : Text) × (a ≡ Word word) × IsTrue (is_class_name text) × (word ≡ text)
-class-said texts text Nothing h = absurd h
-class-said texts text (Number n) h = absurd h
 class-said texts text (Word word) h = (word, refl, h.0, h.1)
-class-said texts text (KindOf kind) h = absurd h
-class-said texts text (SideOf side) h = absurd h
-class-said texts text (MethodOf method) h = absurd h
-class-said texts text (At e) h = absurd h
-class-said texts text (PiecesOf pieces) h = absurd h
-class-said texts text (MarksOf marks) h = absurd h
-class-said texts text (ClassesOf names) h = absurd h
-class-said texts text (DestinationOf to) h = absurd h
+class-said texts text a h = absurd h
 
 -- the name of a route
 pub route-said : (texts : Field → Text) (text : Text) (a : Argument) → Says texts RouteName text a → (word : Text) × (a ≡ Word word) × IsTrue (is_route_name text) × (word ≡ text)
-route-said texts text Nothing h = absurd h
-route-said texts text (Number n) h = absurd h
 route-said texts text (Word word) h = (word, refl, h.0, h.1)
-route-said texts text (KindOf kind) h = absurd h
-route-said texts text (SideOf side) h = absurd h
-route-said texts text (MethodOf method) h = absurd h
-route-said texts text (At e) h = absurd h
-route-said texts text (PiecesOf pieces) h = absurd h
-route-said texts text (MarksOf marks) h = absurd h
-route-said texts text (ClassesOf names) h = absurd h
-route-said texts text (DestinationOf to) h = absurd h
+route-said texts text a h = absurd h
 
 -- the name of a referent
 pub referent-said : (texts : Field → Text) (text : Text) (a : Argument) → Says texts ReferentName text a → (word : Text) × (a ≡ Word word) × IsTrue (is_referent_name text) × (word ≡ text)
-referent-said texts text Nothing h = absurd h
-referent-said texts text (Number n) h = absurd h
 referent-said texts text (Word word) h = (word, refl, h.0, h.1)
-referent-said texts text (KindOf kind) h = absurd h
-referent-said texts text (SideOf side) h = absurd h
-referent-said texts text (MethodOf method) h = absurd h
-referent-said texts text (At e) h = absurd h
-referent-said texts text (PiecesOf pieces) h = absurd h
-referent-said texts text (MarksOf marks) h = absurd h
-referent-said texts text (ClassesOf names) h = absurd h
-referent-said texts text (DestinationOf to) h = absurd h
+referent-said texts text a h = absurd h
 
 -- a value
 pub value-said : (texts : Field → Text) (text : Text) (a : Argument) → Says texts AssetValue text a → (word : Text) × (a ≡ Word word) × IsTrue (is_value text) × (word ≡ text)
-value-said texts text Nothing h = absurd h
-value-said texts text (Number n) h = absurd h
 value-said texts text (Word word) h = (word, refl, h.0, h.1)
-value-said texts text (KindOf kind) h = absurd h
-value-said texts text (SideOf side) h = absurd h
-value-said texts text (MethodOf method) h = absurd h
-value-said texts text (At e) h = absurd h
-value-said texts text (PiecesOf pieces) h = absurd h
-value-said texts text (MarksOf marks) h = absurd h
-value-said texts text (ClassesOf names) h = absurd h
-value-said texts text (DestinationOf to) h = absurd h
+value-said texts text a h = absurd h
 
 -- a kind
 pub kind-said : (texts : Field → Text) (text : Text) (a : Argument) → Says texts ClassKind text a → (kind : Kind) × (a ≡ KindOf kind) × text ≡ kind_text kind
-kind-said texts text Nothing h = absurd h
-kind-said texts text (Number n) h = absurd h
-kind-said texts text (Word word) h = absurd h
 kind-said texts text (KindOf kind) h = (kind, refl, h)
-kind-said texts text (SideOf side) h = absurd h
-kind-said texts text (MethodOf method) h = absurd h
-kind-said texts text (At e) h = absurd h
-kind-said texts text (PiecesOf pieces) h = absurd h
-kind-said texts text (MarksOf marks) h = absurd h
-kind-said texts text (ClassesOf names) h = absurd h
-kind-said texts text (DestinationOf to) h = absurd h
+kind-said texts text a h = absurd h
 
 -- a side
 pub side-said : (texts : Field → Text) (text : Text) (a : Argument) → Says texts RouteSide text a → (side : Side) × (a ≡ SideOf side) × text ≡ side_text side
-side-said texts text Nothing h = absurd h
-side-said texts text (Number n) h = absurd h
-side-said texts text (Word word) h = absurd h
-side-said texts text (KindOf kind) h = absurd h
 side-said texts text (SideOf side) h = (side, refl, h)
-side-said texts text (MethodOf method) h = absurd h
-side-said texts text (At e) h = absurd h
-side-said texts text (PiecesOf pieces) h = absurd h
-side-said texts text (MarksOf marks) h = absurd h
-side-said texts text (ClassesOf names) h = absurd h
-side-said texts text (DestinationOf to) h = absurd h
+side-said texts text a h = absurd h
 
 -- a method
 pub method-said : (texts : Field → Text) (text : Text) (a : Argument) → Says texts MethodName text a → (method : Method) × (a ≡ MethodOf method) × text ≡ method_text method
-method-said texts text Nothing h = absurd h
-method-said texts text (Number n) h = absurd h
-method-said texts text (Word word) h = absurd h
-method-said texts text (KindOf kind) h = absurd h
-method-said texts text (SideOf side) h = absurd h
 method-said texts text (MethodOf method) h = (method, refl, h)
-method-said texts text (At e) h = absurd h
-method-said texts text (PiecesOf pieces) h = absurd h
-method-said texts text (MarksOf marks) h = absurd h
-method-said texts text (ClassesOf names) h = absurd h
-method-said texts text (DestinationOf to) h = absurd h
+method-said texts text a h = absurd h
 
 -- a position
 pub position-said : (texts : Field → Text) (field : Field) (text : Text) (a : Argument) → Says texts (PositionBy field) text a → (e : Expr) × (a ≡ At e) × StatesBy (texts field) text e
-position-said texts field text Nothing h = absurd h
-position-said texts field text (Number n) h = absurd h
-position-said texts field text (Word word) h = absurd h
-position-said texts field text (KindOf kind) h = absurd h
-position-said texts field text (SideOf side) h = absurd h
-position-said texts field text (MethodOf method) h = absurd h
 position-said texts field text (At e) h = (e, refl, h)
-position-said texts field text (PiecesOf pieces) h = absurd h
-position-said texts field text (MarksOf marks) h = absurd h
-position-said texts field text (ClassesOf names) h = absurd h
-position-said texts field text (DestinationOf to) h = absurd h
+position-said texts field text a h = absurd h
 
 -- pieces
 pub pieces-said : (texts : Field → Text) (text : Text) (a : Argument) → Says texts Pieces text a → (pieces : List Piece) × (a ≡ PiecesOf pieces) × AreSaid IsPieceText (words_of text) pieces × IsTrue (are_entered_pieces pieces)
-pieces-said texts text Nothing h = absurd h
-pieces-said texts text (Number n) h = absurd h
-pieces-said texts text (Word word) h = absurd h
-pieces-said texts text (KindOf kind) h = absurd h
-pieces-said texts text (SideOf side) h = absurd h
-pieces-said texts text (MethodOf method) h = absurd h
-pieces-said texts text (At e) h = absurd h
 pieces-said texts text (PiecesOf pieces) h = (pieces, refl, h.0, h.1)
-pieces-said texts text (MarksOf marks) h = absurd h
-pieces-said texts text (ClassesOf names) h = absurd h
-pieces-said texts text (DestinationOf to) h = absurd h
+pieces-said texts text a h = absurd h
 
 -- marks
 pub marks-said : (texts : Field → Text) (text : Text) (a : Argument) → Says texts Marks text a → (marks : List Mark) × (a ≡ MarksOf marks) × AreSaid IsMarkText (words_of text) marks × IsTrue (are_entered_marks marks)
-marks-said texts text Nothing h = absurd h
-marks-said texts text (Number n) h = absurd h
-marks-said texts text (Word word) h = absurd h
-marks-said texts text (KindOf kind) h = absurd h
-marks-said texts text (SideOf side) h = absurd h
-marks-said texts text (MethodOf method) h = absurd h
-marks-said texts text (At e) h = absurd h
-marks-said texts text (PiecesOf pieces) h = absurd h
 marks-said texts text (MarksOf marks) h = (marks, refl, h.0, h.1)
-marks-said texts text (ClassesOf names) h = absurd h
-marks-said texts text (DestinationOf to) h = absurd h
+marks-said texts text a h = absurd h
 
 -- names of classes
 pub classes-said : (texts : Field → Text) (text : Text) (a : Argument) → Says texts ClassNames text a → (names : List Name) × (a ≡ ClassesOf names) × AreSaid IsClassWord (words_of text) names × (length names ≤ most_words)
-classes-said texts text Nothing h = absurd h
-classes-said texts text (Number n) h = absurd h
-classes-said texts text (Word word) h = absurd h
-classes-said texts text (KindOf kind) h = absurd h
-classes-said texts text (SideOf side) h = absurd h
-classes-said texts text (MethodOf method) h = absurd h
-classes-said texts text (At e) h = absurd h
-classes-said texts text (PiecesOf pieces) h = absurd h
-classes-said texts text (MarksOf marks) h = absurd h
 classes-said texts text (ClassesOf names) h = (names, refl, h.0, h.1)
-classes-said texts text (DestinationOf to) h = absurd h
+classes-said texts text a h = absurd h
 
 -- how a position is to be told
 pub destination-said : (texts : Field → Text) (text : Text) (a : Argument) → Says texts DestinationName text a → (to : Destination) × (a ≡ DestinationOf to) × (text ≡ destination_text to) × IsReachable to
-destination-said texts text Nothing h = absurd h
-destination-said texts text (Number n) h = absurd h
-destination-said texts text (Word word) h = absurd h
-destination-said texts text (KindOf kind) h = absurd h
-destination-said texts text (SideOf side) h = absurd h
-destination-said texts text (MethodOf method) h = absurd h
-destination-said texts text (At e) h = absurd h
-destination-said texts text (PiecesOf pieces) h = absurd h
-destination-said texts text (MarksOf marks) h = absurd h
-destination-said texts text (ClassesOf names) h = absurd h
 destination-said texts text (DestinationOf to) h = (to, refl, h.0, h.1)
+destination-said texts text a h = absurd h
 
 -- nothing, or what the shape says
 pub nothing-or-said : (texts : Field → Text) (shape : Shape) (text : Text) (a : Argument) → Says texts (OrNothing shape) text a → ((a ≡ Nothing) × (text ≡ [])) ⊎ Says texts shape text a
 nothing-or-said texts shape text Nothing h = inl (refl, h)
-nothing-or-said texts shape text (Number n) h = inr h
-nothing-or-said texts shape text (Word word) h = inr h
-nothing-or-said texts shape text (KindOf kind) h = inr h
-nothing-or-said texts shape text (SideOf side) h = inr h
-nothing-or-said texts shape text (MethodOf method) h = inr h
-nothing-or-said texts shape text (At e) h = inr h
-nothing-or-said texts shape text (PiecesOf pieces) h = inr h
-nothing-or-said texts shape text (MarksOf marks) h = inr h
-nothing-or-said texts shape text (ClassesOf names) h = inr h
-nothing-or-said texts shape text (DestinationOf to) h = inr h
+nothing-or-said texts shape text a h = inr h

@@ -5,7 +5,7 @@ use Rattle.csv.specs.Records.{field_at}
 use Rattle.lrs_machine.specs.Keys.{is_key}
 use Rattle.lrs_machine.specs.declared.command.NewAsset.{NewAsset}
 use Rattle.lrs_sheet_records.proofs.Misfits.{misfit-malformed}
-use Rattle.lrs_sheet_records.specs.Fields.{ReadsNewAsset}
+use Rattle.lrs_sheet_records.specs.Fields.{ReadsAll}
 use Rattle.lrs_sheet_records.specs.Records.{SayAll, place_of, text_at}
 use Rattle.lrs_sheet_records.specs.Surveys.{RefusesNewAsset, SaysNewAsset, as_edit}
 use Rattle.lrs_sheet_records.specs.Verbs.{all_verbs, new_asset_arguments, new_asset_shapes, shapes_of}
@@ -29,7 +29,7 @@ says-new_asset [] key entry is same say = absurd (no-key is)
 says-new_asset (first ∷ others) key entry is same say = record { is_key = is; same_key = same; is_verb = enter-known; same_verb = refl; arguments = say }
 
 -- the first of them that does not fit
-pub refuses-new_asset : (fields : List (List ℕ)) (e : ReadFault) → IsTrue (is_key (text_at (as_edit fields) 0)) → ReadsNewAsset (as_edit fields) (Err e) → RefusesNewAsset fields e
+pub refuses-new_asset : (fields : List (List ℕ)) (e : ReadFault) → IsTrue (is_key (text_at (as_edit fields) 0)) → ReadsAll new_asset_shapes new_asset_arguments (as_edit fields) (Err e) → RefusesNewAsset fields e
 unfolding field_at
 refuses-new_asset fields fault.Memory key reads = absurd reads
 refuses-new_asset [] (fault.Field at) key misfit = absurd (no-key key)

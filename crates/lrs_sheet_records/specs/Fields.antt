@@ -3,7 +3,6 @@ use Rattle.std.specs.Prelude.{◌≡◌, ◌⊎◌, ℕ, ◌+◌, ◌<◌, ◌�
 use Rattle.lrs_machine.specs.Lines.{Text}
 use Rattle.lrs_machine.specs.declared.answer.Field.{Field}
 use Rattle.lrs_machine.specs.declared.answer.Field.TheVariants as field
-use Rattle.lrs_machine.specs.declared.command.NewAsset.{NewAsset}
 use Rattle.lrs_machine.specs.declared.command.Command.{Command}
 use Rattle.lrs_machine.specs.declared.question.Question.{Question}
 use Rattle.lrs_sheet_records.specs.declared.fault.ReadFault.{ReadFault}
@@ -11,7 +10,7 @@ use Rattle.lrs_sheet_records.specs.declared.fault.ReadFault.TheVariants as fault
 use Rattle.lrs_sheet_records.specs.Questions.{all_questions, asked_by, question_of, question_shapes}
 use Rattle.lrs_sheet_records.specs.Records.{SayAll, place_of, text_at, texts_of}
 use Rattle.lrs_sheet_records.specs.Shapes.{Argument, Fits, Says, Shape}
-use Rattle.lrs_sheet_records.specs.Verbs.{IsVerb, arguments_of, new_asset_arguments, new_asset_shapes, shapes_of, verb_of}
+use Rattle.lrs_sheet_records.specs.Verbs.{IsVerb, arguments_of, shapes_of, verb_of}
 
 -- the first field, from a place on, that does not fit the shapes that begin there
 abbrev pub FirstMisfit : List Text → ℕ → List Shape → ℕ → Type 0
@@ -51,11 +50,11 @@ ReadsCommand fields (Err (fault.Field at)) =
     ((at ≡ field.Verb) × (IsVerb (text_at fields 1) → ⊥)) ⊎ (IsVerb (text_at fields 1) × FirstMisfit fields 2 (shapes_of (text_at fields 1)) (place_of at))
 ReadsCommand fields (Err fault.Memory) = ⊤
 
--- the nine fields of an entry
-abbrev pub ReadsNewAsset : List Text → Result NewAsset ReadFault → Type 0
-ReadsNewAsset fields (Ok entry) = SayAll fields 2 new_asset_shapes (new_asset_arguments entry)
-ReadsNewAsset fields (Err (fault.Field field)) = FirstMisfit fields 2 new_asset_shapes (place_of field)
-ReadsNewAsset fields (Err fault.Memory) = ⊥
+-- all fields behind the verb: what they say together, or the first that does not fit its shape
+abbrev pub ReadsAll : {X : Type 0} → List Shape → (X → List Argument) → List Text → Result X ReadFault → Type 0
+ReadsAll shapes said fields (Ok x) = SayAll fields 2 shapes (said x)
+ReadsAll shapes said fields (Err (fault.Field field)) = FirstMisfit fields 2 shapes (place_of field)
+ReadsAll shapes said fields (Err fault.Memory) = ⊥
 
 -- the fields of one question: the question, or the first field that does not fit
 abbrev pub ReadsAsked : List Text → Text → Result Question ReadFault → Type 0

@@ -11,7 +11,7 @@ use Rattle.lrs_sheet_records.specs.declared.fault.ReadFault.TheVariants as fault
 use Rattle.lrs_sheet_records.specs.Kinds.{without_mark}
 use Rattle.lrs_sheet_records.specs.Records.{FirstMalformedBy, SayAll, place_of, text_at}
 use Rattle.lrs_sheet_records.specs.Shapes.{Argument, Number, Word, SideOf, MethodOf, At, ClassesOf, DestinationOf, Shape, RouteName, RouteSide, MethodName, PositionBy, ClassNames, DestinationName}
-use Rattle.lrs_sheet_records.specs.Verbs.{Verb, asset_number, method_of, shapes_in}
+use Rattle.lrs_sheet_records.specs.Verbs.{Row, asset_number, method_of, shapes_in}
 
 -- the header of a sheet of questions
 abbrev pub question_header : List Text
@@ -32,7 +32,7 @@ column_text field.D = codes "d"
 column_text _ = []
 
 -- The questions that there are, and what the fields a, b, .. of each say.
-abbrev pub questions : List Verb
+abbrev pub questions : List Row
 questions =
     record { name = codes "at"; shapes = RouteName ∷ MethodName ∷ PositionBy field.B ∷ [] }
     ∷ record { name = codes "translate"; shapes = RouteName ∷ MethodName ∷ PositionBy field.B ∷ DestinationName ∷ [] }
@@ -41,7 +41,7 @@ questions =
     ∷ []
 
 abbrev pub all_questions : List Text
-all_questions = map (λ asked. asked.name) questions
+all_questions = map (λ row. row.name) questions
 
 abbrev pub question_shapes : Text → List Shape
 question_shapes name = shapes_in questions name

@@ -11,11 +11,13 @@ use Rattle.lrs_machine.specs.Lines.{Text}
 use Rattle.lrs_machine.specs.declared.answer.Field.TheVariants as field
 use Rattle.lrs_machine.specs.declared.command.NewAsset.{NewAsset}
 use Rattle.lrs_machine.specs.declared.command.Command.{Command}
-use Rattle.lrs_machine.specs.declared.command.Command.TheVariants as verb
+use Rattle.lrs_machine.specs.declared.command.Command.TheVariants as command
+use Rattle.lrs_sheet_records.specs.declared.verb.Verb.{Verb}
+use Rattle.lrs_sheet_records.specs.declared.verb.Verb.TheVariants as verb
 use Rattle.lrs_sheet_records.specs.Shapes.{Argument, Nothing, Number, Word, KindOf, SideOf, MethodOf, At, PiecesOf, MarksOf, Shape, Whole, ClassName, RouteName, ReferentName, AssetValue, ClassKind, RouteSide, MethodName, PositionBy, Pieces, Marks, OrNothing}
 
--- a verb, and what its fields a, b, .. say
-pub record Verb : Type 0 where
+-- a row of a table: the name of a verb or of a question, and what its fields a, b, .. say
+pub record Row : Type 0 where
   pub name : Text
   pub shapes : List Shape
 
@@ -49,79 +51,66 @@ new_asset_columns =
 abbrev pub new_asset_shapes : List Shape
 new_asset_shapes = map (λ column. column.shape) new_asset_columns
 
+-- The table of verbs: the row of each verb.
+abbrev pub row_of : Verb → Row
+row_of verb.Link = record { name = codes "link"; shapes = Whole 1 greatest_link ∷ Whole 1 longest_link ∷ [] }
+row_of verb.Class = record { name = codes "class"; shapes = ClassName ∷ ClassKind ∷ [] }
+row_of verb.Route = record { name = codes "route"; shapes = RouteName ∷ Pieces ∷ Marks ∷ [] }
+row_of verb.Ref = record { name = codes "ref"; shapes = ReferentName ∷ RouteName ∷ MethodName ∷ PositionBy field.C ∷ [] }
+row_of verb.Unref = record { name = codes "unref"; shapes = ReferentName ∷ [] }
+row_of verb.Enter = record { name = codes "enter"; shapes = new_asset_shapes }
+row_of verb.Retire = record { name = codes "retire"; shapes = asset_number ∷ RouteName ∷ MethodName ∷ PositionBy field.C ∷ OrNothing (PositionBy field.C) ∷ [] }
+row_of verb.Split = record { name = codes "split"; shapes = RouteName ∷ chainage ∷ RouteName ∷ [] }
+row_of verb.Join = record { name = codes "join"; shapes = RouteName ∷ RouteName ∷ [] }
+row_of verb.Renumber = record { name = codes "renumber"; shapes = RouteName ∷ RouteName ∷ [] }
+row_of verb.Recalibrate = record { name = codes "recalibrate"; shapes = RouteName ∷ Marks ∷ [] }
+row_of verb.Realign = record { name = codes "realign"; shapes = RouteName ∷ chainage ∷ chainage ∷ OrNothing Pieces ∷ Marks ∷ [] }
+row_of verb.Close = record { name = codes "close"; shapes = RouteName ∷ [] }
+row_of verb.Supersede = record { name = codes "supersede"; shapes = new_asset_shapes }
+row_of verb.Turn = record { name = codes "turn"; shapes = RouteName ∷ [] }
+
 -- The verbs that there are.
-abbrev pub verbs : List Verb
-verbs =
-    record { name = codes "link"; shapes = Whole 1 greatest_link ∷ Whole 1 longest_link ∷ [] }
-    ∷ record { name = codes "class"; shapes = ClassName ∷ ClassKind ∷ [] }
-    ∷ record { name = codes "route"; shapes = RouteName ∷ Pieces ∷ Marks ∷ [] }
-    ∷ record { name = codes "ref"; shapes = ReferentName ∷ RouteName ∷ MethodName ∷ PositionBy field.C ∷ [] }
-    ∷ record { name = codes "unref"; shapes = ReferentName ∷ [] }
-    ∷ record { name = codes "enter"; shapes = new_asset_shapes }
-    ∷ record { name = codes "retire"; shapes = asset_number ∷ RouteName ∷ MethodName ∷ PositionBy field.C ∷ OrNothing (PositionBy field.C) ∷ [] }
-    ∷ record { name = codes "split"; shapes = RouteName ∷ chainage ∷ RouteName ∷ [] }
-    ∷ record { name = codes "join"; shapes = RouteName ∷ RouteName ∷ [] }
-    ∷ record { name = codes "renumber"; shapes = RouteName ∷ RouteName ∷ [] }
-    ∷ record { name = codes "recalibrate"; shapes = RouteName ∷ Marks ∷ [] }
-    ∷ record { name = codes "realign"; shapes = RouteName ∷ chainage ∷ chainage ∷ OrNothing Pieces ∷ Marks ∷ [] }
-    ∷ record { name = codes "close"; shapes = RouteName ∷ [] }
-    ∷ record { name = codes "supersede"; shapes = new_asset_shapes }
-    ∷ record { name = codes "turn"; shapes = RouteName ∷ [] }
-    ∷ []
+abbrev pub every_verb : List Verb
+every_verb = verb.Link ∷ verb.Class ∷ verb.Route ∷ verb.Ref ∷ verb.Unref ∷ verb.Enter ∷ verb.Retire ∷ verb.Split ∷ verb.Join ∷ verb.Renumber ∷ verb.Recalibrate ∷ verb.Realign ∷ verb.Close ∷ verb.Supersede ∷ verb.Turn ∷ []
+
+abbrev pub verbs : List Row
+verbs = map row_of every_verb
 
 abbrev pub all_verbs : List Text
-all_verbs = map (λ verb. verb.name) verbs
+all_verbs = map (λ row. row.name) verbs
 
 abbrev pub IsVerb : Text → Type 0
 IsVerb name = Contains all_verbs name
 
--- The same verbs by families: those that lay out links, classes, routes and referents,
-abbrev pub laying_verbs : List Text
-laying_verbs = codes "link" ∷ codes "class" ∷ codes "route" ∷ codes "ref" ∷ codes "unref" ∷ []
-
--- those of assets,
-abbrev pub asset_verbs : List Text
-asset_verbs = codes "enter" ∷ codes "retire" ∷ codes "supersede" ∷ []
-
--- those that edit routes and leave their ground,
-abbrev pub routing_verbs : List Text
-routing_verbs = codes "split" ∷ codes "join" ∷ codes "renumber" ∷ codes "recalibrate" ∷ codes "turn" ∷ []
-
--- and those that change it.
-abbrev pub ground_verbs : List Text
-ground_verbs = codes "realign" ∷ codes "close" ∷ []
-
-abbrev pub editing_verbs : List Text
-editing_verbs = routing_verbs ++ ground_verbs
-
-abbrev pub working_verbs : List Text
-working_verbs = asset_verbs ++ editing_verbs
-
--- the shapes of a verb's fields
-abbrev pub shapes_in : List Verb → Text → List Shape
+-- the shapes of the fields under a name
+abbrev pub shapes_in : List Row → Text → List Shape
 shapes_in [] name = []
-shapes_in (verb ∷ others) name = if bytes_eq verb.name name then verb.shapes else shapes_in others name
+shapes_in (row ∷ others) name = if bytes_eq row.name name then row.shapes else shapes_in others name
 
 abbrev pub shapes_of : Text → List Shape
 shapes_of name = shapes_in verbs name
 
 -- the verb of a command
+abbrev pub verb_in : Command → Verb
+verb_in (command.Link l) = verb.Link
+verb_in (command.Class c) = verb.Class
+verb_in (command.Route name pieces marks) = verb.Route
+verb_in (command.Ref name route at) = verb.Ref
+verb_in (command.Unref name) = verb.Unref
+verb_in (command.Enter e) = verb.Enter
+verb_in (command.Retire asset route location) = verb.Retire
+verb_in (command.Split route at name) = verb.Split
+verb_in (command.Join first second) = verb.Join
+verb_in (command.Renumber route name) = verb.Renumber
+verb_in (command.Recalibrate route marks) = verb.Recalibrate
+verb_in (command.Realign route first end pieces marks) = verb.Realign
+verb_in (command.Close route) = verb.Close
+verb_in (command.Supersede e) = verb.Supersede
+verb_in (command.Turn route) = verb.Turn
+
+-- and its name
 abbrev pub verb_of : Command → Text
-verb_of (verb.Link l) = codes "link"
-verb_of (verb.Class c) = codes "class"
-verb_of (verb.Route name pieces marks) = codes "route"
-verb_of (verb.Ref name route at) = codes "ref"
-verb_of (verb.Unref name) = codes "unref"
-verb_of (verb.Enter e) = codes "enter"
-verb_of (verb.Retire asset route location) = codes "retire"
-verb_of (verb.Split route at name) = codes "split"
-verb_of (verb.Join first second) = codes "join"
-verb_of (verb.Renumber route name) = codes "renumber"
-verb_of (verb.Recalibrate route marks) = codes "recalibrate"
-verb_of (verb.Realign route first end pieces marks) = codes "realign"
-verb_of (verb.Close route) = codes "close"
-verb_of (verb.Supersede e) = codes "supersede"
-verb_of (verb.Turn route) = codes "turn"
+verb_of command = (row_of (verb_in command)).name
 
 -- the method of an expression
 abbrev pub method_of : Expr → Method
@@ -143,18 +132,18 @@ new_asset_arguments e = Number e.asset ∷ Word e.class ∷ Word e.route ∷ Sid
 
 -- the arguments of a command, in the order of the fields a, b, ..
 abbrev pub arguments_of : Command → List Argument
-arguments_of (verb.Link l) = Number l.number ∷ Number l.length ∷ []
-arguments_of (verb.Class c) = Word c.name ∷ KindOf c.kind ∷ []
-arguments_of (verb.Route name pieces marks) = Word name ∷ PiecesOf pieces ∷ MarksOf marks ∷ []
-arguments_of (verb.Ref name route at) = Word name ∷ Word route ∷ MethodOf (method_of at) ∷ At at ∷ []
-arguments_of (verb.Unref name) = Word name ∷ []
-arguments_of (verb.Enter e) = new_asset_arguments e
-arguments_of (verb.Retire asset route location) = Number asset ∷ Word route ∷ location_arguments location
-arguments_of (verb.Split route at name) = Word route ∷ Number at ∷ Word name ∷ []
-arguments_of (verb.Join first second) = Word first ∷ Word second ∷ []
-arguments_of (verb.Renumber route name) = Word route ∷ Word name ∷ []
-arguments_of (verb.Recalibrate route marks) = Word route ∷ MarksOf marks ∷ []
-arguments_of (verb.Realign route first end pieces marks) = Word route ∷ Number first ∷ Number end ∷ or_nothing PiecesOf pieces ∷ MarksOf marks ∷ []
-arguments_of (verb.Close route) = Word route ∷ []
-arguments_of (verb.Supersede e) = new_asset_arguments e
-arguments_of (verb.Turn route) = Word route ∷ []
+arguments_of (command.Link l) = Number l.number ∷ Number l.length ∷ []
+arguments_of (command.Class c) = Word c.name ∷ KindOf c.kind ∷ []
+arguments_of (command.Route name pieces marks) = Word name ∷ PiecesOf pieces ∷ MarksOf marks ∷ []
+arguments_of (command.Ref name route at) = Word name ∷ Word route ∷ MethodOf (method_of at) ∷ At at ∷ []
+arguments_of (command.Unref name) = Word name ∷ []
+arguments_of (command.Enter e) = new_asset_arguments e
+arguments_of (command.Retire asset route location) = Number asset ∷ Word route ∷ location_arguments location
+arguments_of (command.Split route at name) = Word route ∷ Number at ∷ Word name ∷ []
+arguments_of (command.Join first second) = Word first ∷ Word second ∷ []
+arguments_of (command.Renumber route name) = Word route ∷ Word name ∷ []
+arguments_of (command.Recalibrate route marks) = Word route ∷ MarksOf marks ∷ []
+arguments_of (command.Realign route first end pieces marks) = Word route ∷ Number first ∷ Number end ∷ or_nothing PiecesOf pieces ∷ MarksOf marks ∷ []
+arguments_of (command.Close route) = Word route ∷ []
+arguments_of (command.Supersede e) = new_asset_arguments e
+arguments_of (command.Turn route) = Word route ∷ []

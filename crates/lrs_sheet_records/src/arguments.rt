@@ -1,9 +1,12 @@
 //! The fields of each verb.
 
-ghost use Rattle.std.specs.Prelude.{◌≡◌, ◌≤◌, length, codes};
+ghost use Rattle.std.specs.Prelude.{◌≡◌, ◌≤◌, ◌∷◌, [], length, codes};
 ghost use Rattle.lrs_sheet_records.specs.Kinds.{edit_fields};
 ghost use Rattle.lrs_sheet_records.specs.Records as spec;
-ghost use Rattle.lrs_sheet_records.specs.Fields.{NothingFrom, ReadsArguments, ReadsNewAsset};
+ghost use Rattle.lrs_sheet_records.specs.Fields.{NothingFrom, ReadsAll, ReadsArguments};
+ghost use Rattle.lrs_sheet_records.specs.Shapes;
+ghost use Rattle.lrs_sheet_records.specs.Shapes.{Word};
+ghost use Rattle.lrs_sheet_records.specs.Verbs.{new_asset_arguments, new_asset_shapes};
 
 use crate::fault::ReadFault;
 use crate::place::{
@@ -18,6 +21,7 @@ use lrs_element::Link;
 use lrs_events::Class;
 use lrs_machine::{Command, Field, NewAsset};
 use lrs_measure::limits::{GREATEST_LINK, LONGEST_LINK};
+use lrs_position::RouteName;
 use std::alloc::Global;
 
 /// The field at a place after those of the key and the verb.
@@ -112,7 +116,7 @@ pub(crate) fn unref_of(row: &SheetRecord<'_>) -> Result<Command, ReadFault>
 /// The fields of a new asset.
 pub(crate) fn new_asset_of(row: &SheetRecord<'_>) -> Result<NewAsset, ReadFault>
     requires { length (edit_fields row.now) ≤ 11 }
-    ensures { ReadsNewAsset (edit_fields row.now) result }
+    ensures { ReadsAll new_asset_shapes new_asset_arguments (edit_fields row.now) result }
 {
     let asset = asset_at(row, Field::A)?;
     let class = class_name_at(row, Field::B)?;
@@ -132,26 +136,6 @@ pub(crate) fn new_asset_of(row: &SheetRecord<'_>) -> Result<NewAsset, ReadFault>
         value,
         offset,
     })
-}
-
-pub(crate) fn enter_of(row: &SheetRecord<'_>) -> Result<Command, ReadFault>
-    requires { length (edit_fields row.now) ≤ 11 }
-    ensures { ReadsArguments (edit_fields row.now) (codes "enter") result }
-{
-    match new_asset_of(row) {
-        Ok(asked) => Ok(Command::Enter(asked)),
-        Err(fault) => Err(fault),
-    }
-}
-
-pub(crate) fn supersede_of(row: &SheetRecord<'_>) -> Result<Command, ReadFault>
-    requires { length (edit_fields row.now) ≤ 11 }
-    ensures { ReadsArguments (edit_fields row.now) (codes "supersede") result }
-{
-    match new_asset_of(row) {
-        Ok(asked) => Ok(Command::Supersede(asked)),
-        Err(fault) => Err(fault),
-    }
 }
 
 pub(crate) fn retire_of(row: &SheetRecord<'_>) -> Result<Command, ReadFault>
@@ -180,26 +164,6 @@ pub(crate) fn split_of(row: &SheetRecord<'_>) -> Result<Command, ReadFault>
     let name = route_name_at(row, Field::C)?;
     nothing_from(row, Field::D)?;
     Ok(Command::Split { route, at, name })
-}
-
-pub(crate) fn join_of(row: &SheetRecord<'_>) -> Result<Command, ReadFault>
-    requires { length (edit_fields row.now) ≤ 11 }
-    ensures { ReadsArguments (edit_fields row.now) (codes "join") result }
-{
-    let first = route_name_at(row, Field::A)?;
-    let second = route_name_at(row, Field::B)?;
-    nothing_from(row, Field::C)?;
-    Ok(Command::Join { first, second })
-}
-
-pub(crate) fn renumber_of(row: &SheetRecord<'_>) -> Result<Command, ReadFault>
-    requires { length (edit_fields row.now) ≤ 11 }
-    ensures { ReadsArguments (edit_fields row.now) (codes "renumber") result }
-{
-    let route = route_name_at(row, Field::A)?;
-    let name = route_name_at(row, Field::B)?;
-    nothing_from(row, Field::C)?;
-    Ok(Command::Renumber { route, name })
 }
 
 pub(crate) fn recalibrate_of(alloc: Global, row: &SheetRecord<'_>) -> Result<Command, ReadFault>
@@ -231,20 +195,25 @@ pub(crate) fn realign_of(alloc: Global, row: &SheetRecord<'_>) -> Result<Command
     })
 }
 
-pub(crate) fn close_of(row: &SheetRecord<'_>) -> Result<Command, ReadFault>
+/// The one route of a verb that has no other field.
+pub(crate) fn one_route(row: &SheetRecord<'_>) -> Result<RouteName, ReadFault>
     requires { length (edit_fields row.now) ≤ 11 }
-    ensures { ReadsArguments (edit_fields row.now) (codes "close") result }
+    ensures { ReadsAll (Shapes.RouteName ∷ []) (λ route. Word route ∷ [])
+        (edit_fields row.now) result }
 {
     let route = route_name_at(row, Field::A)?;
     nothing_from(row, Field::B)?;
-    Ok(Command::Close { route })
+    Ok(route)
 }
 
-pub(crate) fn turn_of(row: &SheetRecord<'_>) -> Result<Command, ReadFault>
+/// The two routes of a verb that has no other fields.
+pub(crate) fn two_routes(row: &SheetRecord<'_>) -> Result<(RouteName, RouteName), ReadFault>
     requires { length (edit_fields row.now) ≤ 11 }
-    ensures { ReadsArguments (edit_fields row.now) (codes "turn") result }
+    ensures { ReadsAll (Shapes.RouteName ∷ Shapes.RouteName ∷ [])
+        (λ routes. Word routes.0 ∷ Word routes.1 ∷ []) (edit_fields row.now) result }
 {
-    let route = route_name_at(row, Field::A)?;
-    nothing_from(row, Field::B)?;
-    Ok(Command::Turn { route })
+    let first = route_name_at(row, Field::A)?;
+    let second = route_name_at(row, Field::B)?;
+    nothing_from(row, Field::C)?;
+    Ok((first, second))
 }

@@ -67,8 +67,8 @@ fn survey_column(place: usize) -> &'static [u8]
     }
 }
 
-/// The name of a field of a sheet.
-fn column(sheet: Sheet, place: usize) -> &'static [u8]
+/// The name of a column of a sheet, from 0, as the header has it.
+pub fn column(sheet: Sheet, place: usize) -> &'static [u8]
     requires { place < width_of sheet }
     ensures { result.now ≡ spec.text_at (header_of sheet) place }
 {

@@ -17,7 +17,10 @@ mod sheet;
 mod verb;
 
 pub use fault::{ReadFault, SheetFault};
-pub use header::{is_header, is_question_header};
+pub use header::{column, is_header, is_question_header};
+pub use list::{cut_at, read_mark, read_piece};
 pub use question::{column_name, question_in};
 pub use record::{command_in, command_of, survey_of};
+pub use shape::place_of;
 pub use sheet::{Sheet, SheetRecord, text_at};
+pub use verb::{Verb, read_verb};

@@ -1,6 +1,6 @@
 //! Lists in one field: pieces, marks and classes, as words between spaces.
 
-ghost use Rattle.std.specs.Prelude.{◌≡◌, ◌≢◌, ◌==◌, ℕ, Bool, List, ◌≤◌, [], ◌∷◌, length, IfSome, IfNone, IfOk};
+ghost use Rattle.std.specs.Prelude.{◌≡◌, ◌≢◌, ◌==◌, ℕ, Bool, List, ◌<◌, ◌≤◌, [], ◌∷◌, length, IfSome, IfNone, IfOk};
 ghost use Rattle.std.specs.List.{position};
 ghost use Rattle.lrs_element.specs.declared.link.Piece.{Piece as DeclaredPiece};
 ghost use Rattle.lrs_element.specs.declared.marks.Mark.{Mark as DeclaredMark};
@@ -48,10 +48,11 @@ fn place_of_byte(text: &[u8], byte: u8) -> Option<usize>
 }
 
 /// A text up to the first `byte`, and what stands behind it if it is there.
-fn cut_at(text: &[u8], byte: u8) -> (&[u8], Option<&[u8]>)
+pub fn cut_at(text: &[u8], byte: u8) -> (&[u8], Option<&[u8]>)
     ensures last { IfNone result.1 (parts_of byte text.now ≡ result.0.now ∷ []) }
     ensures more { IfSome result.1 (λ rest. parts_of byte text.now ≡ result.0.now
         ∷ parts_of byte rest.now) }
+    ensures shorter { IfSome result.1 (λ rest. length rest.now < length text.now) }
 {
     match place_of_byte(text, byte) {
         Some(place) => (&text[..place], Some(&text[place + 1..])),
@@ -103,7 +104,8 @@ fn four_parts(word: &[u8]) -> Option<(&[u8], &[u8], &[u8], &[u8])>
     }
 }
 
-fn read_piece(word: &[u8]) -> Option<Piece>
+/// The piece of a word, `LINK:FROM:TO:+` or `LINK:FROM:TO:-`.
+pub fn read_piece(word: &[u8]) -> Option<Piece>
     ensures some { IfSome result (λ piece. IsPieceText word.now piece) }
     ensures none { IfNone result ((piece : DeclaredPiece) → IsPieceText word.now piece → ⊥) }
 {
@@ -130,7 +132,8 @@ fn read_piece(word: &[u8]) -> Option<Piece>
     })
 }
 
-fn read_mark(word: &[u8]) -> Option<Mark>
+/// The mark of a word, `CHAINAGE:MEASURE`.
+pub fn read_mark(word: &[u8]) -> Option<Mark>
     ensures some { IfSome result (λ mark. IsMarkText word.now mark) }
     ensures none { IfNone result ((mark : DeclaredMark) → IsMarkText word.now mark → ⊥) }
 {

@@ -15,8 +15,8 @@ use lrs_machine::{Field, MarkList, PieceList};
 use lrs_position::RouteName;
 use std::alloc::Global;
 
-/// Where a field stands in a record.
-pub(crate) fn place_of(field: Field) -> usize
+/// Where a field stands in a record of an edit sheet.
+pub fn place_of(field: Field) -> usize
     ensures { result ≡ spec.place_of field }
 {
     match field {

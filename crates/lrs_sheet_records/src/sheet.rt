@@ -19,7 +19,7 @@ pub enum Sheet {
 
 impl Sheet {
     /// How many fields each record has.
-    pub(crate) fn width(self) -> usize
+    pub fn width(self) -> usize
         ensures { result ≡ width_of self }
     {
         match self {

@@ -1,114 +1,95 @@
-//! Which verb a record has.
+//! The verbs of edit sheets, and which one a record has.
 
-ghost use Rattle.std.specs.Prelude.{◌≤◌, ◌↔◌, Contains, IsTrue, length};
+ghost use Rattle.std.specs.Prelude.{◌≡◌, ◌≤◌, IfNone, IfSome, length};
 ghost use Rattle.lrs_sheet_records.specs.Kinds.{edit_fields};
 ghost use Rattle.lrs_sheet_records.specs.Fields.{ReadsArguments, ReadsCommand};
-ghost use Rattle.lrs_sheet_records.specs.Verbs.{IsVerb, asset_verbs, editing_verbs, ground_verbs, laying_verbs, routing_verbs, working_verbs};
+ghost use Rattle.lrs_sheet_records.specs.Verbs.{IsVerb, row_of};
 
 use crate::arguments::{
-    class_of, close_of, enter_of, join_of, link_of, realign_of, recalibrate_of, ref_of,
-    renumber_of, retire_of, route_of, split_of, supersede_of, turn_of, unref_of,
+    class_of, link_of, new_asset_of, one_route, realign_of, recalibrate_of, ref_of, retire_of,
+    route_of, split_of, two_routes, unref_of,
 };
 use crate::fault::ReadFault;
 use crate::sheet::{SheetRecord, text_at};
 use lrs_machine::{Command, Field};
 use std::alloc::Global;
 
-/// Whether the verb lays out the network: links, classes, routes and referents.
-fn lays_out(verb: &[u8]) -> bool
-    ensures { IsTrue result ↔ Contains laying_verbs verb.now }
-{
-    verb == b"link".as_slice()
-        || verb == b"class".as_slice()
-        || verb == b"route".as_slice()
-        || verb == b"ref".as_slice()
-        || verb == b"unref".as_slice()
+/// What a record of an edit sheet does. A record of a survey enters an asset.
+#[derive(Clone, Copy, PartialEq, Eq)]
+pub enum Verb {
+    Link,
+    Class,
+    Route,
+    Ref,
+    Unref,
+    Enter,
+    Retire,
+    Split,
+    Join,
+    Renumber,
+    Recalibrate,
+    Realign,
+    Close,
+    Supersede,
+    Turn,
 }
 
-/// Whether the verb is one of assets.
-fn is_of_assets(verb: &[u8]) -> bool
-    ensures { IsTrue result ↔ Contains asset_verbs verb.now }
+/// The verb of this name.
+pub fn read_verb(text: &[u8]) -> Option<Verb>
+    ensures known { IfSome result (λ verb. text.now ≡ (row_of verb).name) }
+    ensures unknown { IfNone result (IsVerb text.now → ⊥) }
 {
-    verb == b"enter".as_slice() || verb == b"retire".as_slice() || verb == b"supersede".as_slice()
-}
-
-/// Whether the verb edits routes and leaves their ground.
-fn edits_route(verb: &[u8]) -> bool
-    ensures { IsTrue result ↔ Contains routing_verbs verb.now }
-{
-    verb == b"split".as_slice()
-        || verb == b"join".as_slice()
-        || verb == b"renumber".as_slice()
-        || verb == b"recalibrate".as_slice()
-        || verb == b"turn".as_slice()
-}
-
-/// Whether the verb changes the ground of a route.
-fn changes_ground(verb: &[u8]) -> bool
-    ensures { IsTrue result ↔ Contains ground_verbs verb.now }
-{
-    verb == b"realign".as_slice() || verb == b"close".as_slice()
-}
-
-/// Whether the verb edits routes.
-fn edits(verb: &[u8]) -> bool
-    ensures { IsTrue result ↔ Contains editing_verbs verb.now }
-{
-    edits_route(verb) || changes_ground(verb)
-}
-
-/// Whether the verb works on the network that is laid out.
-fn works_on(verb: &[u8]) -> bool
-    ensures { IsTrue result ↔ Contains working_verbs verb.now }
-{
-    is_of_assets(verb) || edits(verb)
-}
-
-/// Whether there is a verb of this name.
-fn is_verb(verb: &[u8]) -> bool
-    ensures { IsTrue result ↔ IsVerb verb.now }
-{
-    lays_out(verb) || works_on(verb)
+    match text {
+        b"link" => Some(Verb::Link),
+        b"class" => Some(Verb::Class),
+        b"route" => Some(Verb::Route),
+        b"ref" => Some(Verb::Ref),
+        b"unref" => Some(Verb::Unref),
+        b"enter" => Some(Verb::Enter),
+        b"retire" => Some(Verb::Retire),
+        b"split" => Some(Verb::Split),
+        b"join" => Some(Verb::Join),
+        b"renumber" => Some(Verb::Renumber),
+        b"recalibrate" => Some(Verb::Recalibrate),
+        b"realign" => Some(Verb::Realign),
+        b"close" => Some(Verb::Close),
+        b"supersede" => Some(Verb::Supersede),
+        b"turn" => Some(Verb::Turn),
+        _ => None,
+    }
 }
 
 /// The command that the fields of a verb say.
-fn command_of_verb(alloc: Global, row: &SheetRecord<'_>, verb: &[u8]) -> Result<Command, ReadFault>
-    requires eleven { length (edit_fields row.now) ≤ 11 }
-    requires known { IsVerb verb.now }
-    ensures { ReadsArguments (edit_fields row.now) verb.now result }
+fn command_of_verb(alloc: Global, row: &SheetRecord<'_>, verb: Verb) -> Result<Command, ReadFault>
+    requires { length (edit_fields row.now) ≤ 11 }
+    ensures { ReadsArguments (edit_fields row.now) (row_of verb).name result }
 {
-    if verb == b"link".as_slice() {
-        link_of(row)
-    } else if verb == b"class".as_slice() {
-        class_of(row)
-    } else if verb == b"route".as_slice() {
-        route_of(alloc, row)
-    } else if verb == b"ref".as_slice() {
-        ref_of(row)
-    } else if verb == b"unref".as_slice() {
-        unref_of(row)
-    } else if verb == b"enter".as_slice() {
-        enter_of(row)
-    } else if verb == b"retire".as_slice() {
-        retire_of(row)
-    } else if verb == b"split".as_slice() {
-        split_of(row)
-    } else if verb == b"join".as_slice() {
-        join_of(row)
-    } else if verb == b"renumber".as_slice() {
-        renumber_of(row)
-    } else if verb == b"recalibrate".as_slice() {
-        recalibrate_of(alloc, row)
-    } else if verb == b"realign".as_slice() {
-        realign_of(alloc, row)
-    } else if verb == b"close".as_slice() {
-        close_of(row)
-    } else if verb == b"supersede".as_slice() {
-        supersede_of(row)
-    } else if verb == b"turn".as_slice() {
-        turn_of(row)
-    } else {
-        unreachable!()
+    match verb {
+        Verb::Link => link_of(row),
+        Verb::Class => class_of(row),
+        Verb::Route => route_of(alloc, row),
+        Verb::Ref => ref_of(row),
+        Verb::Unref => unref_of(row),
+        Verb::Enter => Ok(Command::Enter(new_asset_of(row)?)),
+        Verb::Retire => retire_of(row),
+        Verb::Split => split_of(row),
+        Verb::Join => {
+            let (first, second) = two_routes(row)?;
+            Ok(Command::Join { first, second })
+        }
+        Verb::Renumber => {
+            let (route, name) = two_routes(row)?;
+            Ok(Command::Renumber { route, name })
+        }
+        Verb::Recalibrate => recalibrate_of(alloc, row),
+        Verb::Realign => realign_of(alloc, row),
+        Verb::Close => Ok(Command::Close {
+            route: one_route(row)?,
+        }),
+        Verb::Supersede => Ok(Command::Supersede(new_asset_of(row)?)),
+        Verb::Turn => Ok(Command::Turn {
+            route: one_route(row)?,
+        }),
     }
 }
 
@@ -117,10 +98,8 @@ pub(crate) fn command_by_verb(alloc: Global, row: &SheetRecord<'_>) -> Result<Co
     requires { length (edit_fields row.now) ≤ 11 }
     ensures { ReadsCommand (edit_fields row.now) result }
 {
-    let verb = text_at(row, 1);
-    if is_verb(verb) {
-        command_of_verb(alloc, row, verb)
-    } else {
-        Err(ReadFault::Field(Field::Verb))
+    match read_verb(text_at(row, 1)) {
+        Some(verb) => command_of_verb(alloc, row, verb),
+        None => Err(ReadFault::Field(Field::Verb)),
     }
 }
