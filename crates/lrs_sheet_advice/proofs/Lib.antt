@@ -1,1 +1,2 @@
 pub mod WrittenLines
+pub mod SlotRows

@@ -2,8 +2,8 @@
 use Rattle.std.specs.Prelude.{ℕ, ◌+◌, ◌-◌, ◌==◌, take, count_by}
 use Rattle.lrs_machine.specs.Lines.{Text}
 use Rattle.lrs_machine.specs.declared.answer.Field.{Field}
+use Rattle.lrs_sheet_records.specs.Kinds.{header_of}
 use Rattle.lrs_sheet_records.specs.Records.{place_of, text_at}
-use Rattle.lrs_sheet_records.specs.Surveys.{survey_header}
 use Rattle.lrs_sheet_records.specs.declared.sheet.Sheet.{Sheet}
 use Rattle.lrs_sheet_records.specs.declared.sheet.Sheet.TheVariants.{Edits, Survey}
 
@@ -16,9 +16,9 @@ column_of Survey field = place_of field - 1
 abbrev pub letter_of : Sheet → Field → ℕ
 letter_of sheet field = 65 + column_of sheet field
 
--- the name that the header of a survey gives a field
-abbrev pub survey_name : Field → Text
-survey_name field = text_at survey_header (column_of Survey field)
+-- the name of that column in the header
+abbrev pub column_name : Sheet → Field → Text
+column_name sheet field = text_at (header_of sheet) (column_of sheet field)
 
 -- the line in which a byte of a sheet stands: one more than the line feeds before it
 abbrev pub line_at : Text → ℕ → ℕ

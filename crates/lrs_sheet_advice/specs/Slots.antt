@@ -1,34 +1,14 @@
 -- What each field of a record is for, and that this is what the table of verbs wants there.
-use Rattle.std.specs.Prelude.{◌≡◌, ◌-◌, ◌≤◌, Option, Some, None, codes, slice_get}
+use Rattle.std.specs.Prelude.{◌≡◌, ◌-◌, ◌≤◌, List, [], Option, Some, None, slice_get}
 use Rattle.lrs_measure.specs.Limits.{longest_link, greatest_link, greatest_lateral}
-use Rattle.lrs_machine.specs.Lines.{Text}
 use Rattle.lrs_machine.specs.declared.answer.Field.{Field}
 use Rattle.lrs_sheet_records.specs.Records.{place_of}
 use Rattle.lrs_sheet_records.specs.Shapes.{Shape, Whole, AssetValue, PositionBy, OrNothing}
 use Rattle.lrs_sheet_records.specs.Shapes as shapes
-use Rattle.lrs_sheet_records.specs.Verbs.{asset_number, chainage, shapes_of}
+use Rattle.lrs_sheet_records.specs.Verbs.{asset_number, chainage, row_of}
+use Rattle.lrs_sheet_records.specs.declared.verb.Verb.{Verb}
 use Rattle.lrs_sheet_advice.specs.declared.slot.Slot.{Slot}
 use Rattle.lrs_sheet_advice.specs.declared.slot.Slot.TheVariants as slot
-use Rattle.lrs_sheet_advice.specs.declared.verb.Verb.{Verb}
-use Rattle.lrs_sheet_advice.specs.declared.verb.Verb.TheVariants as verb
-
--- the name of a verb
-abbrev pub verb_text : Verb → Text
-verb_text verb.Link = codes "link"
-verb_text verb.Class = codes "class"
-verb_text verb.Route = codes "route"
-verb_text verb.Ref = codes "ref"
-verb_text verb.Unref = codes "unref"
-verb_text verb.Enter = codes "enter"
-verb_text verb.Retire = codes "retire"
-verb_text verb.Split = codes "split"
-verb_text verb.Join = codes "join"
-verb_text verb.Renumber = codes "renumber"
-verb_text verb.Recalibrate = codes "recalibrate"
-verb_text verb.Realign = codes "realign"
-verb_text verb.Close = codes "close"
-verb_text verb.Supersede = codes "supersede"
-verb_text verb.Turn = codes "turn"
 
 -- what a text in such a field may say; nothing in a field that the verb does not use
 abbrev pub shape_of : Slot → Option Shape
@@ -58,6 +38,11 @@ shape_of slot.ChainageStart = Some chainage
 shape_of slot.ChainageEnd = Some chainage
 shape_of slot.Unused = None
 
+-- what the fields behind a verb say; there are none behind a verb that is not known
+abbrev pub shapes_behind : Option Verb → List Shape
+shapes_behind None = []
+shapes_behind (Some verb) = (row_of verb).shapes
+
 -- what the table of verbs wants in a field behind the verb is what the field is for
-abbrev pub IsSlotOf : Text → Field → Slot → Type 0
-IsSlotOf name field found = 2 ≤ place_of field → shape_of found ≡ slice_get (shapes_of name) (place_of field - 2)
+abbrev pub IsSlotOf : Option Verb → Field → Slot → Type 0
+IsSlotOf verb field found = 2 ≤ place_of field → shape_of found ≡ slice_get (shapes_behind verb) (place_of field - 2)

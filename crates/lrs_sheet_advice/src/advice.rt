@@ -8,8 +8,8 @@ use crate::fault::AdviceFault;
 use crate::line::{AdviceLine, write_line};
 use crate::records::Records;
 use crate::refused::{say_head, say_refused};
-use crate::reply::{cut_at, is_refusal, key_text};
-use lrs_sheet_records::Sheet;
+use crate::reply::{is_refusal, key_text};
+use lrs_sheet_records::{Sheet, cut_at};
 use std::alloc::Global;
 use std::io::Write;
 

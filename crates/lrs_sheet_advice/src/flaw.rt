@@ -31,10 +31,15 @@ pub(crate) enum Flaw {
 #[derive(Clone, Copy, PartialEq, Eq)]
 enum Sort {
     Number,
-    /// A name of at most so many bytes.
-    Name(usize),
+    Key,
+    Value,
+    RouteName,
+    /// Capitals and digits, at most so many.
+    Code(usize),
     Pieces,
     Marks,
+    Side,
+    /// One of some words in small letters.
     Word,
     Position,
     Nothing,
@@ -42,11 +47,11 @@ enum Sort {
 
 fn sort_of(slot: Slot) -> Sort {
     match slot {
-        Slot::Key => Sort::Name(40),
-        Slot::ClassName => Sort::Name(8),
-        Slot::Route | Slot::NewName | Slot::SecondRoute | Slot::Referent | Slot::Value => {
-            Sort::Name(12)
-        }
+        Slot::Key => Sort::Key,
+        Slot::Value => Sort::Value,
+        Slot::Route | Slot::NewName | Slot::SecondRoute => Sort::RouteName,
+        Slot::ClassName => Sort::Code(8),
+        Slot::Referent => Sort::Code(12),
         Slot::LinkNumber
         | Slot::LinkLength
         | Slot::Asset
@@ -56,27 +61,10 @@ fn sort_of(slot: Slot) -> Sort {
         | Slot::ChainageEnd => Sort::Number,
         Slot::Pieces | Slot::SomePieces => Sort::Pieces,
         Slot::Marks => Sort::Marks,
-        Slot::VerbName | Slot::ClassKind | Slot::RouteSide | Slot::MethodName => Sort::Word,
+        Slot::RouteSide => Sort::Side,
+        Slot::VerbName | Slot::ClassKind | Slot::MethodName => Sort::Word,
         Slot::At(_) | Slot::From(_) | Slot::To(_) => Sort::Position,
         Slot::Unused => Sort::Nothing,
-    }
-}
-
-fn is_space(byte: u8) -> bool {
-    byte == b' ' || byte == b'\t'
-}
-
-fn begins_with_space(text: &[u8]) -> bool {
-    match text {
-        [] => false,
-        [first, ..] => is_space(*first),
-    }
-}
-
-fn ends_with_space(text: &[u8]) -> bool {
-    match text {
-        [] => false,
-        [.., last] => is_space(*last),
     }
 }
 
@@ -102,97 +90,59 @@ fn are_digits(text: &[u8]) -> bool {
 
 /// What stands before the first sign of a position.
 fn before_sign(text: &[u8]) -> &[u8] {
-    for place in 0..text.len() {
-        if text[place] == b'+' || text[place] == b'-' {
-            return &text[..place];
-        }
+    match text.iter().position(|byte| *byte == b'+' || *byte == b'-') {
+        Some(place) => &text[..place],
+        None => text,
     }
-    text
 }
 
 /// Whether there are small letters where none is wanted. In a position they are looked for in the referent's name.
-fn has_wrong_small_letter(slot: Slot, text: &[u8], method: Option<Method>) -> bool {
-    match slot {
-        Slot::ClassName
-        | Slot::Route
-        | Slot::NewName
-        | Slot::SecondRoute
-        | Slot::Referent
-        | Slot::RouteSide => has_small_letter(text),
-        Slot::At(_) | Slot::From(_) | Slot::To(_) => {
-            method == Some(Method::Rel) && has_small_letter(before_sign(text))
-        }
+fn has_wrong_small_letter(sort: Sort, text: &[u8], method: Option<Method>) -> bool {
+    match sort {
+        Sort::RouteName | Sort::Code(_) | Sort::Side => has_small_letter(text),
+        Sort::Position => method == Some(Method::Rel) && has_small_letter(before_sign(text)),
         _ => false,
     }
 }
 
-/// Whether no capital is wanted in a field.
-fn wants_small_letters(slot: Slot) -> bool {
-    matches!(slot, Slot::VerbName | Slot::ClassKind | Slot::MethodName)
-}
-
-/// Whether a text ends in a unit of metres.
-fn ends_in_metres(text: &[u8]) -> bool {
-    match text {
-        [] => false,
-        [.., last] => *last == b'm' || *last == b'M',
-    }
-}
-
-/// Whether a text looks like metres, or like a decimal number.
-fn is_decimal(text: &[u8]) -> bool {
-    has_digit(text) && (has_byte(text, b'.') || has_byte(text, b',') || ends_in_metres(text))
-}
-
-/// Whether a field has whole numbers.
-fn has_numbers(slot: Slot, method: Option<Method>) -> bool {
-    match sort_of(slot) {
+/// Whether a text looks like metres, or like a decimal number, in a field that has whole numbers.
+fn is_decimal(sort: Sort, text: &[u8], method: Option<Method>) -> bool {
+    let has_numbers = match sort {
         Sort::Number | Sort::Pieces | Sort::Marks => true,
         Sort::Position => method != Some(Method::Int),
         _ => false,
-    }
+    };
+    has_numbers
+        && has_digit(text)
+        && (has_byte(text, b'.') || has_byte(text, b',') || matches!(text, [.., b'm' | b'M']))
 }
 
 /// Whether a byte is one of the alphabet of a field.
-fn is_of_alphabet(slot: Slot, byte: u8) -> bool {
-    match slot {
-        Slot::Key => byte.is_ascii_alphanumeric() || matches!(byte, b'.' | b':' | b'_' | b'-'),
-        Slot::Value => byte.is_ascii_alphanumeric() || matches!(byte, b'.' | b'_' | b'-'),
-        Slot::Route | Slot::NewName | Slot::SecondRoute => {
-            byte.is_ascii_uppercase() || byte.is_ascii_digit() || byte == b'-'
-        }
-        Slot::ClassName | Slot::Referent => byte.is_ascii_uppercase() || byte.is_ascii_digit(),
+fn is_of_alphabet(sort: Sort, byte: u8) -> bool {
+    match sort {
+        Sort::Key => byte.is_ascii_alphanumeric() || matches!(byte, b'.' | b':' | b'_' | b'-'),
+        Sort::Value => byte.is_ascii_alphanumeric() || matches!(byte, b'.' | b'_' | b'-'),
+        Sort::RouteName => byte.is_ascii_uppercase() || byte.is_ascii_digit() || byte == b'-',
+        Sort::Code(_) => byte.is_ascii_uppercase() || byte.is_ascii_digit(),
         _ => byte.is_ascii_digit(),
     }
 }
 
 /// The first byte of a text that the alphabet of its field does not have.
-fn strange_byte(slot: Slot, text: &[u8]) -> Option<u8> {
+fn byte_flaw(sort: Sort, text: &[u8]) -> Flaw {
     for byte in text {
-        if !is_of_alphabet(slot, *byte) {
-            return Some(*byte);
+        if !is_of_alphabet(sort, *byte) {
+            return Flaw::Byte(*byte);
         }
     }
-    None
+    Flaw::Other
 }
 
-fn name_flaw(slot: Slot, text: &[u8], most: usize) -> Flaw {
+fn name_flaw(sort: Sort, text: &[u8], most: usize) -> Flaw {
     if text.len() > most {
-        return Flaw::TooLong;
-    }
-    match strange_byte(slot, text) {
-        Some(byte) => Flaw::Byte(byte),
-        None => Flaw::Other,
-    }
-}
-
-fn number_flaw(slot: Slot, text: &[u8]) -> Flaw {
-    if are_digits(text) {
-        return Flaw::TooGreat;
-    }
-    match strange_byte(slot, text) {
-        Some(byte) => Flaw::Byte(byte),
-        None => Flaw::Other,
+        Flaw::TooLong
+    } else {
+        byte_flaw(sort, text)
     }
 }
 
@@ -217,60 +167,51 @@ fn method_like(text: &[u8]) -> Option<Method> {
 }
 
 fn position_flaw(text: &[u8], method: Option<Method>) -> Flaw {
-    let like = method_like(text);
-    if like == method {
-        return if are_digits(text) {
-            Flaw::TooGreat
-        } else {
-            Flaw::Other
-        };
-    }
-    match like {
-        Some(other) => Flaw::Method(other),
-        None => Flaw::Other,
+    match method_like(text) {
+        Some(like) if method != Some(like) => Flaw::Method(like),
+        Some(Method::Abs) => Flaw::TooGreat,
+        _ => Flaw::Other,
     }
 }
 
 /// What is seen in a text that is not empty and has no flaw of letters or spaces.
-fn sort_flaw(slot: Slot, text: &[u8], method: Option<Method>) -> Flaw {
-    match sort_of(slot) {
-        Sort::Number => number_flaw(slot, text),
-        Sort::Name(most) => name_flaw(slot, text, most),
+fn sort_flaw(sort: Sort, text: &[u8], method: Option<Method>) -> Flaw {
+    match sort {
+        Sort::Number if are_digits(text) => Flaw::TooGreat,
+        Sort::Number => byte_flaw(sort, text),
+        Sort::Key => name_flaw(sort, text, 40),
+        Sort::Value | Sort::RouteName => name_flaw(sort, text, 12),
+        Sort::Code(most) => name_flaw(sort, text, most),
         Sort::Pieces => list_flaw(text, true),
         Sort::Marks => list_flaw(text, false),
         Sort::Position => position_flaw(text, method),
-        Sort::Word => Flaw::Other,
+        Sort::Side | Sort::Word => Flaw::Other,
         Sort::Nothing => Flaw::Unused,
-    }
-}
-
-/// What a decimal number is in a field: a measure has the unit of the marks, and all else is in millimetres.
-fn decimal_flaw(slot: Slot, method: Option<Method>) -> Flaw {
-    if sort_of(slot) == Sort::Position && method == Some(Method::Abs) {
-        Flaw::DecimalMeasure
-    } else {
-        Flaw::Decimal
     }
 }
 
 /// What is wrong with a malformed text: the first that is seen, in this order.
 pub(crate) fn flaw_of(slot: Slot, text: &[u8], method: Option<Method>) -> Flaw {
-    if slot == Slot::Unused {
+    let sort = sort_of(slot);
+    if sort == Sort::Nothing {
         Flaw::Unused
-    } else if begins_with_space(text) {
+    } else if matches!(text, [b' ' | b'\t', ..]) {
         Flaw::SpaceFirst
-    } else if ends_with_space(text) {
+    } else if matches!(text, [.., b' ' | b'\t']) {
         Flaw::SpaceLast
-    } else if has_wrong_small_letter(slot, text, method) {
+    } else if has_wrong_small_letter(sort, text, method) {
         Flaw::SmallLetters
-    } else if wants_small_letters(slot) && has_capital(text) {
+    } else if sort == Sort::Word && has_capital(text) {
         Flaw::Capitals
-    } else if has_numbers(slot, method) && is_decimal(text) {
-        decimal_flaw(slot, method)
+    } else if is_decimal(sort, text, method) {
+        match method {
+            Some(Method::Abs) => Flaw::DecimalMeasure,
+            _ => Flaw::Decimal,
+        }
     } else if text.is_empty() {
         Flaw::Empty
     } else {
-        sort_flaw(slot, text, method)
+        sort_flaw(sort, text, method)
     }
 }
 

@@ -19,7 +19,6 @@ mod reply;
 mod sentence;
 mod slot;
 mod summary;
-mod verb;
 mod wanted;
 mod whole;
 

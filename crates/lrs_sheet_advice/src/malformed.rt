@@ -5,7 +5,7 @@ use crate::item::word_at;
 use crate::line::AdviceLine;
 use crate::records::Records;
 use crate::slot::Slot;
-use crate::wanted::wanted;
+use crate::wanted::say_wanted;
 use lrs_machine::Field;
 use lrs_position::Method;
 use std::alloc::{AllocError, Global};
@@ -78,5 +78,5 @@ pub(crate) fn say_malformed(
     let method = method_of(records, slot);
     say_flaw(alloc, line, slot, text, flaw_of(slot, text, method))?;
     line.say("; ")?;
-    line.say(wanted(slot, method))
+    say_wanted(line, slot, method)
 }

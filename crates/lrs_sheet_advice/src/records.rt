@@ -2,11 +2,10 @@
 
 use crate::fault::AdviceFault;
 use crate::place::Place;
-use crate::verb::{Verb, read_verb};
 use csv::{ByteRecord, ErrorKind, Reader, ReaderBuilder};
 use lrs_machine::Field;
 use lrs_position::{Method, read_method};
-use lrs_sheet_records::{Sheet, SheetRecord, text_at};
+use lrs_sheet_records::{Sheet, SheetRecord, Verb, place_of, read_verb, text_at};
 use std::alloc::Global;
 
 /// A reader of the records of a sheet.
@@ -66,6 +65,11 @@ impl<'a> Records<'a> {
         self.kind
     }
 
+    /// The record as the sheet has it.
+    pub(crate) fn row(&self) -> &ByteRecord {
+        &self.row
+    }
+
     /// The line on which the record starts, where there is a record.
     pub(crate) fn line(&mut self) -> Option<usize> {
         if !self.is_found {
@@ -79,8 +83,8 @@ impl<'a> Records<'a> {
         Some(self.place.line)
     }
 
-    /// The text at a place of the record, as an edit sheet has it.
-    fn text(&self, place: usize) -> &[u8] {
+    /// The text of a field, as an edit sheet has it.
+    pub(crate) fn text_of(&self, field: Field) -> &[u8] {
         if !self.is_found {
             return b"";
         }
@@ -88,31 +92,14 @@ impl<'a> Records<'a> {
             fields: &self.row,
             sheet: self.kind,
         };
-        text_at(&record, place)
-    }
-
-    /// The text of a field.
-    pub(crate) fn text_of(&self, field: Field) -> &[u8] {
-        match field {
-            Field::Key => self.text(0),
-            Field::Verb => self.text(1),
-            Field::A => self.text(2),
-            Field::B => self.text(3),
-            Field::C => self.text(4),
-            Field::D => self.text(5),
-            Field::E => self.text(6),
-            Field::F => self.text(7),
-            Field::G => self.text(8),
-            Field::H => self.text(9),
-            Field::I => self.text(10),
-        }
+        text_at(&record, place_of(field))
     }
 
     /// The verb of the record. A record of a survey enters an asset.
     pub(crate) fn verb(&self) -> Option<Verb> {
         match self.kind {
             Sheet::Survey => Some(Verb::Enter),
-            Sheet::Edits => read_verb(self.text(1)),
+            Sheet::Edits => read_verb(self.text_of(Field::Verb)),
         }
     }
 

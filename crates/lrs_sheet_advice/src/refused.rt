@@ -10,22 +10,9 @@ use crate::malformed::{say_item, say_malformed};
 use crate::records::Records;
 use crate::reply::cause_text;
 use crate::sentence::sentence;
-use crate::slot::{Slot, slot_of};
-use crate::verb::Verb;
-use lrs_machine::{Cause, Field};
+use crate::slot::slot_of;
+use lrs_machine::Cause;
 use std::alloc::{AllocError, Global};
-
-/// What a field is for, also where the verb is not known.
-fn slot_in(verb: Option<Verb>, field: Field) -> Slot {
-    match verb {
-        Some(verb) => slot_of(verb, field),
-        None => match field {
-            Field::Key => Slot::Key,
-            Field::Verb => Slot::VerbName,
-            _ => Slot::Unused,
-        },
-    }
-}
 
 /// Says on which line a record starts.
 fn say_start(alloc: Global, head: &mut AdviceLine, start: Option<usize>) -> Result<(), AllocError>
@@ -92,25 +79,6 @@ fn say_named(
     }
 }
 
-/// Says what is wrong in a field, or with the record.
-fn say_wrong(
-    alloc: Global,
-    line: &mut AdviceLine,
-    records: &Records<'_>,
-    verb: Option<Verb>,
-    cause: Cause,
-) -> Result<(), AllocError> {
-    let has_end = match verb {
-        Some(Verb::Retire) => !records.text_of(Field::E).is_empty(),
-        _ => !records.text_of(Field::G).is_empty(),
-    };
-    match field_of(cause, verb) {
-        Some(field) => say_named(alloc, line, cause, records.text_of(field))?,
-        None => say_named(alloc, line, cause, b"")?,
-    }
-    line.say(sentence(cause, verb, has_end))
-}
-
 /// Says why the record is refused, and what to do about it.
 fn say_cause(
     alloc: Global,
@@ -119,14 +87,17 @@ fn say_cause(
     cause: Cause,
 ) -> Result<(), AllocError> {
     let verb = records.verb();
+    let mut text: &[u8] = b"";
     if let Some(field) = field_of(cause, verb) {
-        let slot = slot_in(verb, field);
+        let slot = slot_of(verb, field);
         say_column(line, records.kind(), field, slot)?;
         if let Cause::Malformed(_) = cause {
             return say_malformed(alloc, line, records, field, slot);
         }
+        text = records.text_of(field);
     }
-    say_wrong(alloc, line, records, verb, cause)
+    say_named(alloc, line, cause, text)?;
+    line.say(sentence(cause, verb, !text.is_empty()))
 }
 
 /// Says what is wrong with the record of a refusal, and what to do about it.

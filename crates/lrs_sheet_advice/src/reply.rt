@@ -1,11 +1,11 @@
 //! Reply lines, part by part.
 
-ghost use Rattle.std.specs.Prelude.{◌≡◌, ◌==◌, ◌<◌, ◌∷◌, [], length, IfSome, IfNone};
+ghost use Rattle.std.specs.Prelude.{◌≡◌, ◌==◌};
 ghost use Rattle.std.specs.List.{position};
-ghost use Rattle.lrs_sheet_records.specs.Words.{parts_of};
 ghost use Rattle.lrs_sheet_advice.specs.Refusals as spec;
 
 use lrs_measure::alphabet::is_lone_dash;
+use lrs_sheet_records::cut_at;
 
 /// What follows the key of a refusal.
 const REFUSED: &[u8] = b",refused,";
@@ -15,19 +15,6 @@ fn place_of_byte(text: &[u8], byte: u8) -> Option<usize>
     ensures { result ≡ position (λ other. other == byte) text.now }
 {
     text.iter().position(|other| *other == byte)
-}
-
-/// A text up to the first `byte`, and what stands behind it if it is there.
-pub(crate) fn cut_at(text: &[u8], byte: u8) -> (&[u8], Option<&[u8]>)
-    ensures last { IfNone result.1 (parts_of byte text.now ≡ result.0.now ∷ []) }
-    ensures more { IfSome result.1 (λ rest. parts_of byte text.now ≡ result.0.now
-        ∷ parts_of byte rest.now) }
-    ensures shorter { IfSome result.1 (λ rest. length rest.now < length text.now) }
-{
-    match place_of_byte(text, byte) {
-        Some(place) => (&text[..place], Some(&text[place + 1..])),
-        None => (text, None),
-    }
 }
 
 /// What stands from the first comma of a reply on.

@@ -1,10 +1,10 @@
 //! What each field of a record is for: the table of verbs, as advice needs it.
 
-ghost use Rattle.std.specs.Prelude.{codes};
-ghost use Rattle.lrs_sheet_advice.specs.Slots.{IsSlotOf, verb_text};
+ghost use Rattle.std.specs.Prelude.{◌≡◌, map, Some};
+ghost use Rattle.lrs_sheet_advice.specs.Slots.{IsSlotOf, shape_of, shapes_behind};
 
-use crate::verb::Verb;
 use lrs_machine::Field;
+use lrs_sheet_records::{Verb, place_of};
 
 /// What a field is for. A position has the field of its method.
 #[derive(Clone, Copy, PartialEq, Eq)]
@@ -36,186 +36,66 @@ pub(crate) enum Slot {
     Unused,
 }
 
-fn link_slot(field: Field) -> Slot
-    ensures { IsSlotOf (codes "link") field result }
-{
-    match field {
-        Field::A => Slot::LinkNumber,
-        Field::B => Slot::LinkLength,
-        _ => Slot::Unused,
-    }
-}
-
-fn class_slot(field: Field) -> Slot
-    ensures { IsSlotOf (codes "class") field result }
-{
-    match field {
-        Field::A => Slot::ClassName,
-        Field::B => Slot::ClassKind,
-        _ => Slot::Unused,
-    }
-}
-
-fn route_slot(field: Field) -> Slot
-    ensures { IsSlotOf (codes "route") field result }
-{
-    match field {
-        Field::A => Slot::Route,
-        Field::B => Slot::Pieces,
-        Field::C => Slot::Marks,
-        _ => Slot::Unused,
-    }
-}
-
-fn ref_slot(field: Field) -> Slot
-    ensures { IsSlotOf (codes "ref") field result }
-{
-    match field {
-        Field::A => Slot::Referent,
-        Field::B => Slot::Route,
-        Field::C => Slot::MethodName,
-        Field::D => Slot::At(Field::C),
-        _ => Slot::Unused,
-    }
-}
-
-fn unref_slot(field: Field) -> Slot
-    ensures { IsSlotOf (codes "unref") field result }
-{
-    match field {
-        Field::A => Slot::Referent,
-        _ => Slot::Unused,
-    }
-}
-
-/// The fields of a new asset, of `enter` and `supersede`.
-fn asset_slot(field: Field) -> Slot
-    ensures enter { IsSlotOf (codes "enter") field result }
-    ensures supersede { IsSlotOf (codes "supersede") field result }
-{
-    match field {
-        Field::A => Slot::Asset,
-        Field::B => Slot::ClassName,
-        Field::C => Slot::Route,
-        Field::D => Slot::RouteSide,
-        Field::E => Slot::MethodName,
-        Field::F => Slot::From(Field::E),
-        Field::G => Slot::To(Field::E),
-        Field::H => Slot::Value,
-        Field::I => Slot::Offset,
-        _ => Slot::Unused,
-    }
-}
-
-fn retire_slot(field: Field) -> Slot
-    ensures { IsSlotOf (codes "retire") field result }
-{
-    match field {
-        Field::A => Slot::Asset,
-        Field::B => Slot::Route,
-        Field::C => Slot::MethodName,
-        Field::D => Slot::From(Field::C),
-        Field::E => Slot::To(Field::C),
-        _ => Slot::Unused,
-    }
-}
-
-fn split_slot(field: Field) -> Slot
-    ensures { IsSlotOf (codes "split") field result }
-{
-    match field {
-        Field::A => Slot::Route,
-        Field::B => Slot::Chainage,
-        Field::C => Slot::NewName,
-        _ => Slot::Unused,
-    }
-}
-
-fn join_slot(field: Field) -> Slot
-    ensures { IsSlotOf (codes "join") field result }
-{
-    match field {
-        Field::A => Slot::Route,
-        Field::B => Slot::SecondRoute,
-        _ => Slot::Unused,
-    }
-}
-
-fn renumber_slot(field: Field) -> Slot
-    ensures { IsSlotOf (codes "renumber") field result }
-{
-    match field {
-        Field::A => Slot::Route,
-        Field::B => Slot::NewName,
-        _ => Slot::Unused,
-    }
-}
-
-fn recalibrate_slot(field: Field) -> Slot
-    ensures { IsSlotOf (codes "recalibrate") field result }
-{
-    match field {
-        Field::A => Slot::Route,
-        Field::B => Slot::Marks,
-        _ => Slot::Unused,
-    }
-}
-
-fn realign_slot(field: Field) -> Slot
-    ensures { IsSlotOf (codes "realign") field result }
-{
-    match field {
-        Field::A => Slot::Route,
-        Field::B => Slot::ChainageStart,
-        Field::C => Slot::ChainageEnd,
-        Field::D => Slot::SomePieces,
-        Field::E => Slot::Marks,
-        _ => Slot::Unused,
-    }
-}
-
-/// The fields of `close` and `turn`.
-fn whole_route_slot(field: Field) -> Slot
-    ensures close { IsSlotOf (codes "close") field result }
-    ensures turn { IsSlotOf (codes "turn") field result }
-{
-    match field {
-        Field::A => Slot::Route,
-        _ => Slot::Unused,
-    }
-}
-
-/// What a field behind the verb is for.
-fn argument_slot(verb: Verb, field: Field) -> Slot
-    ensures { IsSlotOf (verb_text verb) field result }
+/// What the fields a, b, .. behind a verb are for; none where the verb is not known.
+fn slots_behind(verb: Option<Verb>) -> &'static [Slot]
+    ensures { map shape_of result.now ≡ map Some (shapes_behind verb) }
 {
     match verb {
-        Verb::Link => link_slot(field),
-        Verb::Class => class_slot(field),
-        Verb::Route => route_slot(field),
-        Verb::Ref => ref_slot(field),
-        Verb::Unref => unref_slot(field),
-        Verb::Enter => asset_slot(field),
-        Verb::Retire => retire_slot(field),
-        Verb::Split => split_slot(field),
-        Verb::Join => join_slot(field),
-        Verb::Renumber => renumber_slot(field),
-        Verb::Recalibrate => recalibrate_slot(field),
-        Verb::Realign => realign_slot(field),
-        Verb::Close => whole_route_slot(field),
-        Verb::Supersede => asset_slot(field),
-        Verb::Turn => whole_route_slot(field),
+        Some(Verb::Link) => &[Slot::LinkNumber, Slot::LinkLength],
+        Some(Verb::Class) => &[Slot::ClassName, Slot::ClassKind],
+        Some(Verb::Route) => &[Slot::Route, Slot::Pieces, Slot::Marks],
+        Some(Verb::Ref) => &[
+            Slot::Referent,
+            Slot::Route,
+            Slot::MethodName,
+            Slot::At(Field::C),
+        ],
+        Some(Verb::Unref) => &[Slot::Referent],
+        Some(Verb::Enter | Verb::Supersede) => &[
+            Slot::Asset,
+            Slot::ClassName,
+            Slot::Route,
+            Slot::RouteSide,
+            Slot::MethodName,
+            Slot::From(Field::E),
+            Slot::To(Field::E),
+            Slot::Value,
+            Slot::Offset,
+        ],
+        Some(Verb::Retire) => &[
+            Slot::Asset,
+            Slot::Route,
+            Slot::MethodName,
+            Slot::From(Field::C),
+            Slot::To(Field::C),
+        ],
+        Some(Verb::Split) => &[Slot::Route, Slot::Chainage, Slot::NewName],
+        Some(Verb::Join) => &[Slot::Route, Slot::SecondRoute],
+        Some(Verb::Renumber) => &[Slot::Route, Slot::NewName],
+        Some(Verb::Recalibrate) => &[Slot::Route, Slot::Marks],
+        Some(Verb::Realign) => &[
+            Slot::Route,
+            Slot::ChainageStart,
+            Slot::ChainageEnd,
+            Slot::SomePieces,
+            Slot::Marks,
+        ],
+        Some(Verb::Close | Verb::Turn) => &[Slot::Route],
+        None => &[],
     }
 }
 
 /// What a field of a record is for.
-pub(crate) fn slot_of(verb: Verb, field: Field) -> Slot
-    ensures { IsSlotOf (verb_text verb) field result }
+pub(crate) fn slot_of(verb: Option<Verb>, field: Field) -> Slot
+    ensures { IsSlotOf verb field result }
 {
-    match field {
-        Field::Key => Slot::Key,
-        Field::Verb => Slot::VerbName,
-        _ => argument_slot(verb, field),
+    match place_of(field) {
+        0 => Slot::Key,
+        1 => Slot::VerbName,
+        place => match slots_behind(verb).get(place - 2) {
+            Some(slot) => *slot,
+            None => Slot::Unused,
+        },
     }
 }
 

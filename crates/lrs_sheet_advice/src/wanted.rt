@@ -1,7 +1,9 @@
 //! What is wanted in a field, in words: one table for all fields.
 
+use crate::line::AdviceLine;
 use crate::slot::Slot;
 use lrs_position::Method;
+use std::alloc::AllocError;
 
 /// What is wanted of a position by this method, or by none that is known.
 fn wanted_position(method: Option<Method>) -> &'static str {
@@ -17,24 +19,8 @@ fn wanted_position(method: Option<Method>) -> &'static str {
     }
 }
 
-/// What is wanted of an end, which a point does not have.
-fn wanted_end(method: Option<Method>) -> &'static str {
-    match method {
-        Some(Method::Abs) => {
-            "a measure is wanted, a whole number from 0 to 100000000000, and nothing for a point"
-        }
-        Some(Method::Rel) => {
-            "a referent, + or -, and a whole number of millimetres are wanted, as KM2+500, and nothing for a point"
-        }
-        Some(Method::Int) => {
-            "a part of the route's length is wanted, as 1/3: two whole numbers up to 1000000, the first not above the second; and nothing for a point"
-        }
-        None => "a position by the method in this record is wanted, and nothing for a point",
-    }
-}
-
-/// What is wanted in a field. The method is that of the record's positions, where it is known.
-pub(crate) fn wanted(slot: Slot, method: Option<Method>) -> &'static str {
+/// What is wanted in a field, where it is not empty. The method is that of the record's positions, where it is known.
+fn wanted(slot: Slot, method: Option<Method>) -> &'static str {
     match slot {
         Slot::Key => "1 to 40 of A-Z, a-z, 0-9, ., :, _ and - are wanted, and not - alone",
         Slot::VerbName => {
@@ -47,11 +33,8 @@ pub(crate) fn wanted(slot: Slot, method: Option<Method>) -> &'static str {
         Slot::Route | Slot::NewName | Slot::SecondRoute => {
             "1 to 12 of A-Z, 0-9 and - are wanted, the first not -"
         }
-        Slot::Pieces => {
+        Slot::Pieces | Slot::SomePieces => {
             "pieces LINK:FROM:TO:+ or LINK:FROM:TO:- are wanted with one space between two, at most 1000, as 7:0:5000:+ 8:0:300:-"
-        }
-        Slot::SomePieces => {
-            "pieces LINK:FROM:TO:+ or LINK:FROM:TO:- are wanted with one space between two, at most 1000, as 7:0:5000:+ 8:0:300:-; or nothing"
         }
         Slot::Marks => {
             "marks CHAINAGE:MEASURE are wanted with one space between two, 2 to 1000 of them, as 0:0 5000:6000"
@@ -60,8 +43,7 @@ pub(crate) fn wanted(slot: Slot, method: Option<Method>) -> &'static str {
         Slot::Asset => "a whole number from 1 to 1000000000000 is wanted",
         Slot::RouteSide => "L, R or B is wanted",
         Slot::MethodName => "abs, rel or int is wanted",
-        Slot::At(_) | Slot::From(_) => wanted_position(method),
-        Slot::To(_) => wanted_end(method),
+        Slot::At(_) | Slot::From(_) | Slot::To(_) => wanted_position(method),
         Slot::Value => "1 to 12 of A-Z, a-z, 0-9, ., _ and - are wanted, and not - alone",
         Slot::Offset => "a whole number of millimetres from 0 to 100000 is wanted",
         Slot::Chainage | Slot::ChainageStart | Slot::ChainageEnd => {
@@ -69,4 +51,24 @@ pub(crate) fn wanted(slot: Slot, method: Option<Method>) -> &'static str {
         }
         Slot::Unused => "this verb has no such field: leave it empty",
     }
+}
+
+/// What is said behind that of a field that may be empty: a point has no end.
+fn wanted_else(slot: Slot, method: Option<Method>) -> &'static str {
+    match (slot, method) {
+        (Slot::SomePieces, _) => "; or nothing",
+        (Slot::To(_), Some(Method::Int)) => "; and nothing for a point",
+        (Slot::To(_), _) => ", and nothing for a point",
+        _ => "",
+    }
+}
+
+/// Says what is wanted in a field.
+pub(crate) fn say_wanted(
+    line: &mut AdviceLine,
+    slot: Slot,
+    method: Option<Method>,
+) -> Result<(), AllocError> {
+    line.say(wanted(slot, method))?;
+    line.say(wanted_else(slot, method))
 }

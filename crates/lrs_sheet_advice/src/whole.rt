@@ -6,9 +6,9 @@ ghost use Rattle.lrs_sheet_advice.specs.AdviceLines.{WritesOneLine};
 use crate::fault::AdviceFault;
 use crate::line::{AdviceLine, write_line};
 use crate::place::Place;
-use crate::records::open;
-use csv::{ByteRecord, Error, ErrorKind};
-use lrs_sheet_records::{Sheet, is_header};
+use crate::records::{Records, open};
+use csv::{ByteRecord, ErrorKind};
+use lrs_sheet_records::{Sheet, column, is_header};
 use std::alloc::{AllocError, Global};
 use std::io::Write;
 
@@ -24,40 +24,11 @@ pub enum SheetFlaw {
 /// How many fields of a header are shown, at most.
 const MOST_FIELDS: usize = 12;
 
-/// A record that has another number of fields than is wanted.
-#[derive(Clone, Copy, PartialEq, Eq)]
-struct WrongWidth {
-    byte: u64,
-    found: u64,
-    wanted: u64,
-}
-
-/// The header of a sheet of this kind.
-fn header_text(kind: Sheet) -> &'static str {
-    match kind {
-        Sheet::Edits => "key,verb,a,b,c,d,e,f,g,h,i",
-        Sheet::Survey => "key,asset,class,route,side,method,from,to,value,offset",
-    }
-}
-
 /// The other kind of sheet, and the word that does one.
 fn other_kind(kind: Sheet) -> (Sheet, &'static str) {
     match kind {
         Sheet::Edits => (Sheet::Survey, "this is the header of a survey"),
         Sheet::Survey => (Sheet::Edits, "this is the header of an edit sheet"),
-    }
-}
-
-/// The first record of a sheet, of any number of fields, and whether there is one.
-fn read_first(alloc: Global, sheet: &[u8]) -> Result<(ByteRecord, bool), AdviceFault> {
-    let mut rows = open(alloc, sheet);
-    let mut row = ByteRecord::new(alloc);
-    match rows.read_byte_record(&mut row) {
-        Ok(is_found) => Ok((row, is_found)),
-        Err(error) => match error.into_kind() {
-            ErrorKind::OutOfMemory => Err(AdviceFault::Memory),
-            _ => Ok((row, false)),
-        },
     }
 }
 
@@ -87,97 +58,87 @@ fn say_kind(line: &mut AdviceLine, kind: Sheet, row: &ByteRecord) -> Result<(), 
     Ok(())
 }
 
-/// The line on which the first record stands: the empty ones before it are passed over.
-fn line_of_first(sheet: &[u8], row: &ByteRecord) -> u64 {
-    match row.position() {
-        Some(position) => Place::start(sheet).record_from(position.byte).line as u64,
-        None => 1,
-    }
-}
-
 /// Says which header was found, and which is wanted.
 fn say_header(
     alloc: Global,
     line: &mut AdviceLine,
     kind: Sheet,
-    sheet: &[u8],
-    row: &ByteRecord,
-    is_found: bool,
+    records: &mut Records<'_>,
 ) -> Result<(), AllocError> {
-    if is_found {
-        line.say("line ")?;
-        line.say_number(alloc, line_of_first(sheet, row))?;
-        line.say(": the header has the fields ")?;
-        say_fields(line, row)?;
-        say_kind(line, kind, row)?;
-    } else {
-        line.say("line 1: the sheet is empty")?;
+    match records.line() {
+        Some(number) => {
+            line.say("line ")?;
+            line.say_number(alloc, number as u64)?;
+            line.say(": the header has the fields ")?;
+            say_fields(line, records.row())?;
+            say_kind(line, kind, records.row())?;
+        }
+        None => line.say("line 1: the sheet is empty")?,
     }
     line.say("; the header ")?;
-    line.say(header_text(kind))?;
+    for place in 0..kind.width() {
+        if place > 0 {
+            line.say(",")?;
+        }
+        line.say_bytes(column(kind, place))?;
+    }
     line.say(" is wanted")
 }
 
-/// The record that stopped a reader, where it did so by its number of fields.
-fn wrong_width(error: Error) -> Result<Option<WrongWidth>, AdviceFault> {
-    match error.into_kind() {
-        ErrorKind::OutOfMemory => Err(AdviceFault::Memory),
-        ErrorKind::UnequalLengths {
-            pos,
-            expected_len,
-            len,
-        } => match pos {
-            Some(position) => Ok(Some(WrongWidth {
-                byte: position.byte,
-                found: len,
-                wanted: expected_len,
-            })),
-            None => Ok(None),
-        },
-        _ => Ok(None),
-    }
-}
-
-/// The first record that has another number of fields than the header.
-fn first_wrong_width(alloc: Global, sheet: &[u8]) -> Result<Option<WrongWidth>, AdviceFault> {
+/// Why a sheet cannot be read to its end, if that is so.
+fn stop_of(alloc: Global, sheet: &[u8]) -> Option<ErrorKind> {
     let mut rows = open(alloc, sheet);
     let mut row = ByteRecord::new(alloc);
     for _turn in 0..u64::MAX {
         match rows.read_byte_record(&mut row) {
             Ok(true) => {}
-            Ok(false) => return Ok(None),
-            Err(error) => return wrong_width(error),
+            Ok(false) => return None,
+            Err(error) => return Some(error.into_kind()),
         }
     }
-    Ok(None)
+    None
 }
 
-/// Says on which line a record has the wrong number of fields, and how many are wanted.
-fn say_width(
+/// Says how many fields the record at a place has, and how many are wanted.
+fn say_lengths(
     alloc: Global,
     line: &mut AdviceLine,
-    sheet: &[u8],
-    wrong: Option<WrongWidth>,
+    start: Place<'_>,
+    found: u64,
+    wanted: u64,
 ) -> Result<(), AllocError> {
-    let Some(wrong) = wrong else {
-        return line.say("the sheet cannot be read to its end");
-    };
     line.say("line ")?;
-    line.say_number(
-        alloc,
-        Place::start(sheet).record_from(wrong.byte).line as u64,
-    )?;
+    line.say_number(alloc, start.line as u64)?;
     line.say(": the record has ")?;
-    line.say_number(alloc, wrong.found)?;
-    line.say(if wrong.found == 1 {
+    line.say_number(alloc, found)?;
+    line.say(if found == 1 {
         " field, and "
     } else {
         " fields, and "
     })?;
-    line.say_number(alloc, wrong.wanted)?;
+    line.say_number(alloc, wanted)?;
     line.say(
         " are wanted: write a comma between two fields, also between empty ones, and quotes around a field that has a comma itself",
     )
+}
+
+/// Says which record has the wrong number of fields.
+fn say_width(alloc: Global, line: &mut AdviceLine, sheet: &[u8]) -> Result<(), AdviceFault> {
+    match stop_of(alloc, sheet) {
+        Some(ErrorKind::OutOfMemory) => return Err(AdviceFault::Memory),
+        Some(
+            ErrorKind::UnequalLengths {
+                pos: Some(position),
+                expected_len,
+                len,
+            },
+        ) => {
+            let start = Place::start(sheet).record_from(position.byte);
+            say_lengths(alloc, line, start, len, expected_len)?;
+        }
+        _ => line.say("the sheet cannot be read to its end")?,
+    }
+    Ok(())
 }
 
 /// Says what is wrong with a whole sheet.
@@ -190,15 +151,12 @@ fn say_flaw(
 ) -> Result<(), AdviceFault> {
     match flaw {
         SheetFlaw::Header => {
-            let (row, is_found) = read_first(alloc, sheet)?;
-            say_header(alloc, line, kind, sheet, &row, is_found)?;
+            let mut records = Records::new(alloc, kind, sheet)?;
+            say_header(alloc, line, kind, &mut records)?;
+            Ok(())
         }
-        SheetFlaw::Width => {
-            let wrong = first_wrong_width(alloc, sheet)?;
-            say_width(alloc, line, sheet, wrong)?;
-        }
+        SheetFlaw::Width => say_width(alloc, line, sheet),
     }
-    Ok(())
 }
 
 /// Writes one line about a sheet that cannot be read to its end: where it stops, what was found there, and what is wanted.
