@@ -159,6 +159,24 @@ pub all-done : {K : Type 0} {holds : K → Result Image Table → Type 0} {R : T
 all-done sheet together rem rows now before after old new tally turns done ends few =
     (done.records, done.replies, done.answered, done.counts, λ input start h. rw (append-nil (start ++ done.records)) at (ends input (start ++ done.records) (done.gave input start h)), rw done.in_turn few)
 
+-- two ends in a fault are one
+pub same_fault : (e f : SheetFault) → ◌≡◌ {A = Result Tally SheetFault} (Err e) (Err f) → e ≡ f
+same_fault e f is = cc is
+
+-- where a read fails, no commit has failed
+pub no_commit : {R : Type 0} (rem : R → Option (List ℕ)) (now : Reader R) (e : SheetFault) → IsReadFault rem now e → ◌≡◌ {A = Result Tally SheetFault} (Err e) (Err (fault.Desk stop.Keep)) → ⊥
+no_commit rem now e why is = rw (same_fault e (fault.Desk stop.Keep) is) at why
+
+-- ... and a desk goes along
+pub read_leaves : {K : Type 0} {holds : K → Result Image Table → Type 0} {R : Type 0} (rem : R → Option (List ℕ)) (now : Reader R) (before after : DeskView K) (e : SheetFault) → IsReadFault rem now e → GoesAlong holds before after
+    → LeavesDesk {X = Tally} holds before after (Err e)
+read_leaves rem now before after fault.Read why goes = goes
+read_leaves rem now before after fault.Memory why goes = goes
+read_leaves rem now before after fault.BadCsv why goes = goes
+read_leaves rem now before after fault.Write why goes = absurd why
+read_leaves rem now before after fault.BadHeader why goes = absurd why
+read_leaves rem now before after (fault.Desk m) why goes = absurd why
+
 -- a record left the desk after others
 module _ {K : Type 0} {holds : K → Result Image Table → Type 0} (X Y : Type 0) (a b c : DeskView K) where
   by-fault : (e : SheetFault) → (e ≡ fault.BadHeader → ⊥) → GoesAlong holds a b → LeavesDesk {X = Y} holds b c (Err e) → LeavesDesk {X = X} holds a c (Err e)

@@ -9,3 +9,4 @@ pub mod Taking
 pub mod Left
 pub mod Resuming
 pub mod GoingOn
+pub mod Running

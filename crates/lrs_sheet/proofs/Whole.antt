@@ -3,7 +3,7 @@ use Rattle.std.proofs.Common.{◌≡◌, ℕ, List, [], ◌∷◌, length, Optio
 use Rattle.std.specs.Prelude.{IfSome}
 use Rattle.std.specs.Io.KnownBytes.{Keeps}
 use Rattle.csv.specs.Machine.{Read}
-use Rattle.csv.specs.Reading.{Reached, default_config, strip_bom}
+use Rattle.csv.specs.Reading.{Reached, default_config, expected_len, strip_bom}
 use Rattle.csv.specs.declared.parser.Config.{Config}
 use Rattle.csv.specs.declared.parser.State.{State as Place}
 use Rattle.csv.specs.declared.parser.State.TheVariants as st
@@ -20,12 +20,23 @@ use Rattle.lrs_sheet.specs.Replies.{tally_of}
 use Rattle.lrs_sheet_records.specs.declared.sheet.Sheet.{Sheet}
 use Rattle.lrs_sheet_records.specs.Kinds.{IsHeader}
 use Rattle.lrs_sheet.specs.Sheets.{BreaksOffBehind, HasAnsweredSome, HasDoneUpTo, HasFailedToKeep, HasStopped, RunsBehind, StandAtFront}
-use Rattle.lrs_sheet_records.specs.Rows.{EndsAfter, Gave, HasRead}
+use Rattle.lrs_sheet_records.specs.Rows.{EndsAfter, Gave, HasRead, IsReadFault}
 use Rattle.lrs_sheet.specs.Rows.{AnswersSome, BreaksAfter, DoesRows, DoesUpTo, FailsToKeep, Stops}
 
-keeps-same : (contents : Option (List ℕ)) → Keeps contents contents
+pub keeps-same : (contents : Option (List ℕ)) → Keeps contents contents
 keeps-same None = tt
 keeps-same (Some bytes) = refl
+
+-- the first read failed
+pub unread : {R : Type 0} (sheet : Sheet) (together : ℕ) (rem : R → Option (List ℕ)) (rows : Reader R) (known : Option (List ℕ)) (limits : Limits) (state : State) (contents : Option (List ℕ)) (passed : ℕ) (e : SheetFault) → expected_len rows ≡ None → IsReadFault rem rows e
+    → IfSome known (λ input. (front : List (List (List ℕ))) → StandAtFront input front → length front ≡ passed → RunsBehind front sheet together limits input state state contents contents (Err e))
+unread sheet together rem rows None limits state contents passed e first why = tt
+unread sheet together rem rows (Some input) limits state contents passed fault.Read first why = λ front at count. inl (refl, keeps-same contents)
+unread sheet together rem rows (Some input) limits state contents passed fault.Memory first why = λ front at count. inl (refl, keeps-same contents)
+unread sheet together rem rows (Some input) limits state contents passed fault.Write first why = absurd why
+unread sheet together rem rows (Some input) limits state contents passed fault.BadHeader first why = absurd why
+unread sheet together rem rows (Some input) limits state contents passed (fault.Desk m) first why = absurd why
+unread sheet together rem rows (Some input) limits state contents passed fault.BadCsv first (wanted, expected, next) = absurd (cc (first, expected))
 
 -- a sheet with no record
 pub empty-sheet : {R : Type 0} (sheet : Sheet) (together : ℕ) (rem : R → Option (List ℕ)) (rows : Reader R) (known : Option (List ℕ)) (limits : Limits) (state : State) (contents : Option (List ℕ)) (tally : Tally) (passed : ℕ)

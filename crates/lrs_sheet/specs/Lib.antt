@@ -4,3 +4,4 @@ pub mod Rows
 pub mod Laws
 pub mod WaitingCommands
 pub mod Resumption
+pub mod Runs

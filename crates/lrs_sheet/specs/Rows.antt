@@ -17,6 +17,7 @@ use Rattle.lrs_desk.specs.DeskView.{DeskView}
 use Rattle.lrs_machine.specs.declared.stops.fault.Fault.TheVariants as stop
 use Rattle.lrs_sheet.specs.declared.reply.Reply.{Reply}
 use Rattle.lrs_sheet.specs.declared.reply.Tally.{Tally}
+use Rattle.lrs_sheet.specs.declared.run.Run.{Run}
 use Rattle.lrs_sheet_records.specs.declared.fault.SheetFault.{SheetFault}
 use Rattle.lrs_sheet_records.specs.declared.fault.SheetFault.TheVariants as fault
 use Rattle.lrs_sheet_records.specs.declared.sheet.Sheet.{Sheet}
@@ -24,7 +25,7 @@ use Rattle.lrs_sheet_records.specs.Kinds.{width_of}
 use Rattle.lrs_sheet_records.specs.Rows.{Begins, EndsAfter, Gave, IsPlain, NextDiffers}
 use Rattle.lrs_sheet.specs.Replies.{IsReplied, Replied, answer_count, counted, reply_text, tally_of}
 use Rattle.lrs_sheet_records.specs.Rows.{AreAll, BeginsWith, max_records}
-use Rattle.lrs_sheet.specs.Sheets.{AreAnswered, ComeNext, GoesAlong, HaveWidth, RecordsInFlight, StandsForEither}
+use Rattle.lrs_sheet.specs.Sheets.{AreAnswered, ComeNext, GoesAlong, HaveWidth, LeavesDesk, RecordsInFlight, StandsForEither}
 
 -- some of the next records are done and answered
 abbrev pub AnswersSome : {R : Type 0} → Sheet → (R → Option Text) → Reader R → Limits → State → State → Option Text → Option Text → Type 0
@@ -74,6 +75,14 @@ DoesRows sheet together remaining reader limits before after old new (Err fault.
 abbrev pub BreaksAfter : {R : Type 0} → Sheet → ℕ → (R → Option Text) → Reader R → Limits → State → State → Option Text → Option Text → Result Image Table → Type 0
 BreaksAfter sheet together remaining reader limits before after old new content =
     (failed : FailsToKeep sheet together remaining reader limits before after old new) × StandsForEither content failed.settled failed.flight.next
+
+-- The records under a header are done: what that gives, and what it leaves of the desk and of its keeper.
+pub record IsRunOfRows {R K : Type 0} (holds : K → Result Image Table → Type 0) (run : Run) (remaining : R → Option Text) (reader : Reader R) (before after : DeskView K) (old new : Option Text) (result : Result Tally SheetFault) : Type 0 where
+  pub rows : DoesRows run.sheet run.together remaining reader before.limits (state_of before.image) (state_of after.image) old new result
+  pub desk : LeavesDesk holds before after result
+  pub broken : result ≡ Err (fault.Desk stop.Keep) → (c : Result Image Table) → holds after.keeper c
+      → BreaksAfter run.sheet run.together remaining reader before.limits (state_of before.image) (state_of after.image) old new c
+  pub still : result ≡ Err (fault.Desk stop.Keep) → run.together ≡ 1 → after.is_ahead ≡ false
 
 -- a record is answered, its line is written and it is counted
 abbrev pub DoesRow : Limits → State → List Text → State → Option Text → Option Text → Tally → Tally → Type 0

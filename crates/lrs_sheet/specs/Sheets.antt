@@ -20,7 +20,7 @@ use Rattle.lrs_sheet.specs.declared.reply.Tally.{Tally}
 use Rattle.lrs_sheet_records.specs.declared.fault.SheetFault.{SheetFault}
 use Rattle.lrs_sheet_records.specs.declared.fault.SheetFault.TheVariants as fault
 use Rattle.lrs_sheet_records.specs.declared.sheet.Sheet.{Sheet}
-use Rattle.lrs_sheet_records.specs.declared.sheet.Sheet.TheVariants.{Edits, Survey}
+use Rattle.lrs_sheet_records.specs.declared.sheet.Sheet.TheVariants.{Edits}
 use Rattle.lrs_sheet_records.specs.Kinds.{IsHeader, width_of}
 use Rattle.lrs_sheet_records.specs.Rows.{AreAll, BeginsWith, max_records}
 use Rattle.lrs_sheet.specs.Replies.{Replied, lines_of, tally_of}
@@ -130,10 +130,6 @@ Runs = RunsBehind []
 abbrev pub RunsEdits : Limits → Text → State → State → Option Text → Option Text → Result Tally SheetFault → Type 0
 RunsEdits = Runs Edits 1
 
--- What a run of a survey gives, one record after the other.
-abbrev pub RunsSurvey : Limits → Text → State → State → Option Text → Option Text → Result Tally SheetFault → Type 0
-RunsSurvey = Runs Survey 1
-
 -- the desk goes along with its keeper
 pub record GoesAlong {K : Type 0} (holds : K → Result Image Table → Type 0) (old new : DeskView K) : Type 0 where
   pub limits : new.limits ≡ old.limits
@@ -174,14 +170,6 @@ BreaksOffBehind passed sheet together limits input before after old new content 
 -- the same of a whole sheet
 abbrev pub BreaksOff : Sheet → ℕ → Limits → Text → State → State → Option Text → Option Text → Result Image Table → Type 0
 BreaksOff = BreaksOffBehind []
-
--- the same of an edit sheet, one record after the other
-abbrev pub HasBrokenOff : Limits → Text → State → State → Option Text → Option Text → Result Image Table → Type 0
-HasBrokenOff = BreaksOff Edits 1
-
--- the same of a survey
-abbrev pub SurveyHasBrokenOff : Limits → Text → State → State → Option Text → Option Text → Result Image Table → Type 0
-SurveyHasBrokenOff = BreaksOff Survey 1
 
 -- the state after some commands, done one after the other
 abbrev pub IsAfterCommands : Limits → State → State → Type 0

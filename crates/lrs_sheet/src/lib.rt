@@ -11,4 +11,4 @@ mod run;
 pub use lrs_sheet_records::{ReadFault, Sheet, SheetFault, command_of, survey_of};
 pub use reply::{Reply, Tally};
 pub use resumption::{Decided, last_edit, resume_sheet};
-pub use run::{RECORDS_TOGETHER, run_arriving, run_behind, run_edits, run_sheet, run_survey};
+pub use run::{RECORDS_TOGETHER, Run, run_arriving, run_behind, run_edits, run_sheet, run_survey};

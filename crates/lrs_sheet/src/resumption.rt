@@ -4,22 +4,20 @@
 //! behind commands that stood after it. Where keys are new, going on behind the last edit gives what one run without a
 //! stop would have given (`laws`).
 
-ghost use Rattle.std.specs.Prelude.{◌≡◌, ◌≤◌, ◌<◌, ◌-◌, ◌^◌, List, length, Err, Some, false, IfOk, IfErr, IfSome, IfNone, Result};
+ghost use Rattle.std.specs.Prelude.{◌≡◌, ◌≤◌, ◌<◌, ◌-◌, ◌^◌, List, length, Some, IfOk, IfErr, IfSome, IfNone};
 ghost use Rattle.csv.specs.Reading.{expected_len};
 ghost use Rattle.csv.specs.Records.{fields_of};
 ghost use Rattle.lrs_machine.specs.Image.{state_of};
 ghost use Rattle.lrs_machine.specs.Lines.{Text};
-ghost use Rattle.lrs_machine.specs.declared.image.Image.{Image as ImageRows};
-ghost use Rattle.lrs_machine.specs.declared.table.Table.{Table};
 ghost use Rattle.lrs_sheet_records.specs.Kinds.{width_of};
-ghost use Rattle.lrs_sheet.specs.Resumption.{BreaksOffResumed, HasFound, IsDecidedBy, IsEdit, IsNoEdit, IsSearchFault, Resumes, decided_next};
+ghost use Rattle.lrs_sheet.specs.Resumption.{HasFound, IsDecidedBy, IsEdit, IsNoEdit, IsSearchFault, decided_next};
 ghost use Rattle.lrs_sheet_records.specs.Rows.{IsPlain};
-ghost use Rattle.lrs_sheet.specs.Sheets.{IsAfterCommands, LeavesDesk};
+ghost use Rattle.lrs_sheet.specs.Runs.{IsResumedRun};
 
 use crate::reply::Tally;
-use crate::run::{MAX_RECORDS, run_behind};
+use crate::run::{MAX_RECORDS, Run, run_behind};
 use csv::{ByteRecord, Reader};
-use lrs_desk::{Desk, Fault, Keeper};
+use lrs_desk::{Desk, Keeper};
 use lrs_machine::Key;
 use lrs_sheet_records::rows::{next_row, open};
 use lrs_sheet_records::{ReadFault, Sheet, SheetFault, SheetRecord, command_in, is_header};
@@ -151,19 +149,14 @@ pub fn resume_sheet<W: Write, K: Keeper>(
     desk: &mut Desk<K>,
 ) -> Result<Tally, SheetFault>
     requires together { 1 ≤ together }
-    ensures runs { Resumes desk.old.must_reopen sheet together desk.old.limits text.now
-        (state_of desk.old.image) (state_of desk.new.image) (W.contents writer.old)
-        (W.contents writer.new) result }
-    ensures desk { LeavesDesk K.may_hold desk.old desk.new result }
-    ensures broken { result ≡ Err (SheetFault.Desk Fault.Keep) → (c : Result ImageRows Table)
-        → K.may_hold desk.new.keeper c → BreaksOffResumed sheet together desk.old.limits text.now
-        (state_of desk.old.image) (state_of desk.new.image) (W.contents writer.old)
-        (W.contents writer.new) c }
-    ensures still { result ≡ Err (SheetFault.Desk Fault.Keep) → together ≡ 1
-        → desk.new.is_ahead ≡ false }
-    ensures left { IsAfterCommands desk.old.limits (state_of desk.old.image)
-        (state_of desk.new.image) }
+    ensures { IsResumedRun K.may_hold sheet together text.now desk.old desk.new
+        (W.contents writer.old) (W.contents writer.new) result }
 {
     let found = last_edit(alloc, sheet, text, desk)?;
-    run_behind(alloc, sheet, together, found.records, text, writer, desk)
+    let run = Run {
+        sheet,
+        together,
+        passed: found.records,
+    };
+    run_behind(alloc, run, text, writer, desk)
 }
