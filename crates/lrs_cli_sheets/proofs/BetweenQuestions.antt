@@ -5,10 +5,9 @@ use Rattle.std.specs.Io.KnownBytes.{Keeps}
 use Rattle.lrs_machine.specs.declared.image.Image.{Image}
 use Rattle.lrs_sheet_records.specs.declared.fault.SheetFault.{SheetFault}
 use Rattle.lrs_sheet_records.specs.declared.fault.SheetFault.TheVariants as fault
-use Rattle.lrs_sheet_questions.specs.SheetAnswers.{AreAnswered, HasAnsweredSome, RunsQuestions, WritesAnswers}
+use Rattle.lrs_sheet_questions.specs.SheetAnswers.{AreAnswered, HasAnsweredSome, HasAsked, RunsQuestions, WritesAnswers}
 use Rattle.lrs_sheet_questions.specs.Replies.{Reply}
 use Rattle.lrs_sheet_questions.specs.declared.tally.QuestionTally.{QuestionTally}
-use Rattle.lrs_cli_sheets.specs.QuestionSheets.{HasAsked}
 use Rattle.lrs_cli_sheets.proofs.Between.{appends-between, keeps-between}
 
 module _ (i : Image) (first old new last : Option (List ℕ)) (kept : Keeps first old) (keeps : Keeps new last) where

@@ -1,9 +1,9 @@
 -- What the program prints for a sheet of questions that is asked of an inventory, and how it ends.
-use Rattle.std.specs.Prelude.{◌≡◌, ◌==◌, ◌⊎◌, Option, Result, Ok, Err, IfSome, if◌then◌else◌}
+use Rattle.std.specs.Prelude.{◌≡◌, ◌==◌, ◌⊎◌, Option, Result, Ok, Err, if◌then◌else◌}
 use Rattle.lrs_machine.specs.Lines.{Text}
 use Rattle.lrs_machine.specs.declared.image.Image.{Image}
 use Rattle.lrs_sheet_records.specs.declared.fault.SheetFault.{SheetFault}
-use Rattle.lrs_sheet_questions.specs.SheetAnswers.{RunsQuestions, WritesAnswers}
+use Rattle.lrs_sheet_questions.specs.SheetAnswers.{HasAsked}
 use Rattle.lrs_sheet_questions.specs.declared.tally.QuestionTally.{QuestionTally}
 use Rattle.lrs_cli_tasks.specs.declared.endings.Ending.{Ending}
 use Rattle.lrs_cli_tasks.specs.declared.endings.Ending.TheVariants.{Done, RecordsRefused, Stopped}
@@ -14,11 +14,6 @@ use Rattle.lrs_cli_tasks.specs.Faults.{fault_of_sheet}
 abbrev pub ending_of_questions : Result QuestionTally SheetFault → Ending
 ending_of_questions (Ok tally) = if tally.refused == 0 then Done else RecordsRefused
 ending_of_questions (Err fault) = Stopped (fault_of_sheet fault)
-
--- A sheet of questions was asked so: its bytes, where they are known, are answered as the inventory tells, and the answers are written. Where they are not known, some records are answered so. It is no fault of the desk that ends it.
-pub record HasAsked (i : Image) (known old new : Option Text) (outcome : Result QuestionTally SheetFault) : Type 0 where
-  pub runs : IfSome known (λ input. RunsQuestions i input old new outcome)
-  pub writes : WritesAnswers i old new outcome
 
 -- A sheet was asked, whatever it was written to, and the program ends as it ended.
 pub record EndsAsAsked (i : Image) (known : Option Text) (ending : Ending) : Type 0 where

@@ -1,5 +1,5 @@
 -- What a sheet's run gives, what it leaves of the desk, and how the program ends with it.
-use Rattle.std.specs.Prelude.{◌≡◌, ◌==◌, ◌⊎◌, ℕ, Bool, true, false, List, length, Option, Some, Result, Ok, Err, IfSome, if◌then◌else◌}
+use Rattle.std.specs.Prelude.{◌≡◌, ◌==◌, ◌⊎◌, ℕ, Bool, true, false, List, Option, Some, Result, Ok, Err, IfErr, IfOk, if◌then◌else◌}
 use Rattle.lrs_machine.specs.Image.{state_of}
 use Rattle.lrs_machine.specs.Lines.{Text}
 use Rattle.lrs_machine.specs.declared.image.Image.{Image}
@@ -9,8 +9,10 @@ use Rattle.lrs_sheet_records.specs.declared.sheet.Sheet.{Sheet}
 use Rattle.lrs_sheet_records.specs.declared.fault.SheetFault.{SheetFault}
 use Rattle.lrs_sheet.specs.declared.reply.Tally.{Tally}
 use Rattle.lrs_sheet.specs.declared.resumption.Decided.{Decided}
+use Rattle.lrs_sheet.specs.declared.run.Run.{Run}
 use Rattle.lrs_sheet.specs.Resumption.{IsDecidedBy}
-use Rattle.lrs_sheet.specs.Sheets.{GoesAlong, LeavesDesk, MustReopen, RunsBehind, StandAtFront, records_together}
+use Rattle.lrs_sheet.specs.Runs.{IsRunBehind}
+use Rattle.lrs_sheet.specs.Sheets.{GoesAlong, IsAfterCommands, MustReopen, records_together}
 use Rattle.lrs_cli_tasks.specs.declared.endings.Ending.{Ending}
 use Rattle.lrs_cli_tasks.specs.declared.endings.Ending.TheVariants.{Done, RecordsRefused, Stopped}
 use Rattle.lrs_cli_tasks.specs.declared.fault.ProgramFault.{ProgramFault}
@@ -27,6 +29,10 @@ together_at AsTheyArrive = records_together
 together_at InGroups = records_together
 together_at InPieces = 1
 
+-- how the records of a sheet are run that is done in this way
+abbrev pub run_of : Way → Run
+run_of way = record { sheet = way.kind; together = together_at way.pace; passed = way.passed }
+
 -- done where no record was refused; or some were; or the sheet's fault stops the program
 abbrev pub ending_of_sheet : Result Tally SheetFault → Ending
 ending_of_sheet (Ok tally) = if tally.refused == 0 then Done else RecordsRefused
@@ -38,16 +44,20 @@ module _ {K : Type 0} (holds : K → Result Image Table → Type 0) where
   GoesOnOrBreaks before after = GoesAlong holds before after ⊎ MustReopen before after
 
   -- A sheet was run so: the reply to its bytes, where they are known, is done and written, but for the records that are passed over.
-  pub record HasRun (way : Way) (known : Option Text) (before after : DeskView K) (old new : Option Text) (outcome : Result Tally SheetFault) : Type 0 where
-    pub runs : IfSome known (λ input. (front : List (List Text)) → StandAtFront input front → length front ≡ way.passed
-        → RunsBehind front way.kind (together_at way.pace) before.limits input (state_of before.image) (state_of after.image) old new outcome)
-    pub desk : LeavesDesk holds before after outcome
+  abbrev pub HasRun : Way → Option Text → DeskView K → DeskView K → Option Text → Option Text → Result Tally SheetFault → Type 0
+  HasRun way = IsRunBehind holds (run_of way)
 
   -- there is no memory for the replies, and nothing is done; or not all of them are written
   abbrev pub IsUnwritten : DeskView K → DeskView K → ProgramFault → Type 0
   IsUnwritten before after Memory = after ≡ before
   IsUnwritten before after Write = GoesOnOrBreaks before after
   IsUnwritten before after other = ⊥
+
+  -- A sheet was run, its replies went to a writer, and that is given back with how it ended; or it has no replies, or not all.
+  pub record WritesReplies {W : Type 0} (contents : W → Option Text) (way : Way) (known : Option Text) (before after : DeskView K) (to : W) (result : Result (W × Result Tally SheetFault) ProgramFault) : Type 0 where
+    pub ran : IfOk result (λ done. HasRun way known before after (contents to) (contents done.0) done.1)
+    pub unwritten : IfErr result (IsUnwritten before after)
+    pub left : IsAfterCommands before.limits (state_of before.image) (state_of after.image)
 
   -- A sheet was run, whatever it was written to, and the program ends as it ended.
   pub record EndsAsRun (way : Way) (known : Option Text) (before after : DeskView K) (ending : Ending) : Type 0 where

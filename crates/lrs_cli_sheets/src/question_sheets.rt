@@ -1,7 +1,8 @@
 //! Sheets of questions, from a file or the standard input: asked of a desk, and their answers printed.
 
 ghost use Rattle.std.specs.Prelude.{◌≡◌, ◌⊎◌, IfOk, IfErr, false};
-ghost use Rattle.lrs_cli_sheets.specs.QuestionSheets.{EndsAsked, EndsQuestions, HasAsked, ending_of_questions};
+ghost use Rattle.lrs_sheet_questions.specs.SheetAnswers.{HasAsked};
+ghost use Rattle.lrs_cli_sheets.specs.QuestionSheets.{EndsAsked, EndsQuestions, ending_of_questions};
 
 use crate::sheets::{is_whole, unopened};
 use lrs_cli_tasks::{Ending, ProgramFault, behind, buffered};

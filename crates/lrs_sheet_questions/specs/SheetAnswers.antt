@@ -1,5 +1,5 @@
 -- What a sheet of questions is answered: the reply to its bytes, over an image, and each fault where it is due.
-use Rattle.std.specs.Prelude.{◌≤◌, ◌≡◌, ◌⊎◌, ⊤, ℕ, List, [], ◌∷◌, ◌++◌, Option, length, Result, Ok, Err}
+use Rattle.std.specs.Prelude.{◌≤◌, ◌≡◌, ◌⊎◌, ⊤, ℕ, List, [], ◌∷◌, ◌++◌, Option, length, IfSome, Result, Ok, Err}
 use Rattle.std.specs.List.{AllByRecursion}
 use Rattle.std.specs.Io.KnownBytes.{Appends, Keeps}
 use Rattle.lrs_machine.specs.Lines.{Text}
@@ -72,3 +72,8 @@ WritesAnswers i old new (Err fault.Read) = AnswersRecords i old new
 WritesAnswers i old new (Err fault.Memory) = AnswersRecords i old new
 WritesAnswers i old new (Err fault.Write) = ⊤
 WritesAnswers i old new (Err (fault.Desk e)) = ⊥
+
+-- A sheet of questions was asked so: its bytes, where they are known, are answered as the inventory tells, and the answers are written. Where they are not known, some records are answered so. It is no fault of the desk that ends it.
+pub record HasAsked (i : Image) (known old new : Option Text) (outcome : Result QuestionTally SheetFault) : Type 0 where
+  pub runs : IfSome known (λ input. RunsQuestions i input old new outcome)
+  pub writes : WritesAnswers i old new outcome

@@ -1,10 +1,10 @@
 //! A sheet of questions, from its bytes to the bytes of its answers.
 
-ghost use Rattle.std.specs.Prelude.{◌≡◌, IfSome, Some, false};
+ghost use Rattle.std.specs.Prelude.{◌≡◌, Some, false};
 ghost use Rattle.std.specs.Io.KnownBytes.{Keeps};
 ghost use Rattle.csv.specs.Reading.{expected_len};
 ghost use Rattle.lrs_sheet_records.specs.Rows.{IsPlain};
-ghost use Rattle.lrs_sheet_questions.specs.SheetAnswers.{RunsQuestions, WritesAnswers, width};
+ghost use Rattle.lrs_sheet_questions.specs.SheetAnswers.{HasAsked, width};
 ghost use Rattle.lrs_sheet_questions.specs.Rows.{AnswersRows};
 
 use crate::answer::answer_row;
@@ -72,9 +72,7 @@ fn run<R: Read + Arrival + Drop, W: Write, K: Keeper>(
     desk: &Desk<K>,
 ) -> Result<QuestionTally, SheetFault>
     requires behind { desk.now.is_ahead ≡ false }
-    ensures runs { IfSome (R.remaining reader) (λ input. RunsQuestions desk.now.image input
-        (W.contents writer.old) (W.contents writer.new) result) }
-    ensures writes { WritesAnswers desk.now.image (W.contents writer.old)
+    ensures { HasAsked desk.now.image (R.remaining reader) (W.contents writer.old)
         (W.contents writer.new) result }
 {
     let mut rows = open(alloc, reader);
@@ -105,9 +103,7 @@ pub fn ask_all<R: Read + Drop, W: Write, K: Keeper>(
     desk: &Desk<K>,
 ) -> Result<QuestionTally, SheetFault>
     requires behind { desk.now.is_ahead ≡ false }
-    ensures runs { IfSome (R.remaining reader) (λ input. RunsQuestions desk.now.image input
-        (W.contents writer.old) (W.contents writer.new) result) }
-    ensures writes { WritesAnswers desk.now.image (W.contents writer.old)
+    ensures { HasAsked desk.now.image (R.remaining reader) (W.contents writer.old)
         (W.contents writer.new) result }
 {
     run(alloc, Whole { reader }, writer, desk)
@@ -126,9 +122,7 @@ pub fn ask_arriving<R: Read + Drop, W: Write, K: Keeper>(
     desk: &Desk<K>,
 ) -> Result<QuestionTally, SheetFault>
     requires behind { desk.now.is_ahead ≡ false }
-    ensures runs { IfSome (R.remaining reader) (λ input. RunsQuestions desk.now.image input
-        (W.contents writer.old) (W.contents writer.new) result) }
-    ensures writes { WritesAnswers desk.now.image (W.contents writer.old)
+    ensures { HasAsked desk.now.image (R.remaining reader) (W.contents writer.old)
         (W.contents writer.new) result }
 {
     run(alloc, Arriving::new(reader), writer, desk)
