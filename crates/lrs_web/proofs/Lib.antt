@@ -1,4 +1,3 @@
 pub mod Responding
 pub mod Visiting
 pub mod Asking
-pub mod Running
