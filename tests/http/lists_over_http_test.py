@@ -12,7 +12,7 @@ from sent_sheets import random_record
 from serving import by_curl, by_http_client, by_socket, answer, error, reply, request, serving, started
 from stores import MORE, edit, is_whole, make, rows_of
 
-# the fields that are numbers as JSON, of whichever list; all others are texts
+# the fields that are numbers as JSON, of whichever list; all others are texts, but for the measure of a mark, which is whole
 NUMBERS = {"length", "left", "right", "link", "chainage", "asset", "from", "to", "offset", "entered_by", "edit"}
 
 # what is asked for over HTTP, and the words for it on the command line
@@ -20,6 +20,7 @@ ASKED = {
     "/v1/links": ("list", "links"),
     "/v1/classes": ("list", "classes"),
     "/v1/refs": ("list", "refs"),
+    "/v1/marks": ("list", "marks"),
     "/v1/rows": ("rows",),
     "/v1/rows?route=A1": ("rows", "--route", "A1"),
     "/v1/rows?route=A2&from=500&to=1000": ("rows", "--route", "A2", "--from", "500", "--to", "1000"),
@@ -52,7 +53,8 @@ def as_json(target, ended):
     """The reply with what a run printed: compact, the members of each entry in the order of their names."""
     assert (ended.stderr, ended.status) == (b"", 0), ended
     rows = csv.DictReader(io.StringIO(ended.stdout.decode()))
-    shown = [{field: number(text) if field in NUMBERS else text for field, text in row.items()} for row in rows]
+    numbers = NUMBERS | {"measure"} if name_of(target) == "marks" else NUMBERS
+    shown = [{field: number(text) if field in numbers else text for field, text in row.items()} for row in rows]
     return reply(200, json.dumps({name_of(target): shown}, separators=(",", ":"), sort_keys=True).encode())
 
 
@@ -83,7 +85,7 @@ def test_it_is_what_the_program_prints(desk, target):
     gets(server, target, due[target])
 
 
-@pytest.mark.parametrize("target", ["/v1/links", "/v1/classes", "/v1/refs", "/v1/rows", "/v1/lengths", "/v1/gone"])
+@pytest.mark.parametrize("target", ["/v1/links", "/v1/classes", "/v1/refs", "/v1/marks", "/v1/rows", "/v1/lengths", "/v1/gone"])
 def test_none_of_them_is_empty(desk, target):
     assert b":[]" not in desk[1][target] and desk[1][target].count(b'"') > 4
 
@@ -101,6 +103,14 @@ def test_over_each_client(desk, client):
         assert client(server.port, f"GET {target}", None) == due[target]
 
 
+def test_the_marks_of_each_route(desk):
+    shown = json.loads(desk[1]["/v1/marks"].partition(b"\r\n\r\n")[2])["marks"]
+    assert {mark["route"] for mark in shown} >= {"A1", "A2"}
+    for name in {mark["route"] for mark in shown}:
+        route = answer(desk[0].port, request(f"GET /v1/route/{name}")).partition(b"\r\n\r\n")[2]
+        assert [[mark["chainage"], mark["measure"]] for mark in shown if mark["route"] == name] == json.loads(route)["marks"]
+
+
 def test_measures_may_be_fractions(desk):
     shown = json.loads(desk[1]["/v1/rows"].partition(b"\r\n\r\n")[2])["rows"]
     assert any("/" in row["from_measure"] + row["to_measure"] for row in shown), shown
@@ -109,7 +119,7 @@ def test_measures_may_be_fractions(desk):
 
 def test_an_empty_inventory():
     with serving(7) as server:
-        for name in ["links", "classes", "refs", "rows", "lengths", "gone"]:
+        for name in ["links", "classes", "refs", "marks", "rows", "lengths", "gone"]:
             gets(server, f"/v1/{name}", reply(200, b'{"%s":[]}' % name.encode()))
         gets(server, "/health", reply(200, b'{"edits":0}'))
 
@@ -180,19 +190,19 @@ def test_what_is_refused(desk, target):
     gets(desk[0], target, error(*REFUSED[target]))
 
 
-@pytest.mark.parametrize("target", ["/v1/links?link=x", "/v1/classes?class=x", "/v1/refs?route=x", "/v1/lengths?class=x&from=x", "/v1/rows?edit=x&side=x", "/v1/gone?asset=x", "/v1/rows?class=RAIL&class=x"])
+@pytest.mark.parametrize("target", ["/v1/links?link=x", "/v1/classes?class=x", "/v1/refs?route=x", "/v1/marks?route=x&from=x", "/v1/lengths?class=x&from=x", "/v1/rows?edit=x&side=x", "/v1/gone?asset=x", "/v1/rows?class=RAIL&class=x"])
 def test_other_parameters_are_passed_over(desk, target):
     server, due = desk
     gets(server, target, due["/v1/rows?class=RAIL" if "RAIL" in target else target.partition("?")[0]])
 
 
-@pytest.mark.parametrize("path", ["/v1/links", "/v1/classes", "/v1/refs", "/v1/rows", "/v1/lengths", "/v1/gone", "/v1/where", "/health"])
+@pytest.mark.parametrize("path", ["/v1/links", "/v1/classes", "/v1/refs", "/v1/marks", "/v1/rows", "/v1/lengths", "/v1/gone", "/v1/where", "/health"])
 def test_another_method(desk, path):
     for method in ["POST", "HEAD", "PUT", "DELETE"]:
         desk[0].answers(request(f"{method} {path}"), reply(405, allow="GET"))
 
 
-@pytest.mark.parametrize("path", ["/v1/links/", "/v1/link", "/v1/length", "/v1/where/A1", "/v1/row", "/v1/Rows", "/v1/rows/A1", "/v1/health", "/health/", "/healthz", "/", "/v1/gone/12"])
+@pytest.mark.parametrize("path", ["/v1/links/", "/v1/link", "/v1/mark", "/v1/marks/A1", "/v1/length", "/v1/where/A1", "/v1/row", "/v1/Rows", "/v1/rows/A1", "/v1/health", "/health/", "/healthz", "/", "/v1/gone/12"])
 def test_another_path(desk, path):
     gets(desk[0], path, reply(404))
 
@@ -318,6 +328,6 @@ def test_behind_a_failed_commit_of_several_commands_nothing_is_told(tmp_path):
     with started(db=path, **with_files_up_to(400_000)) as server:
         sheet = sheet_of(*(f"k{n},class,C{n},point" for n in range(1, 10_001)))
         server.answers(request("POST /v1/edits", sheet), reply(503))
-        for target in ["/health", "/v1/links", "/v1/classes", "/v1/refs", "/v1/rows", "/v1/rows?from=x", "/v1/gone", "/v1/gone?edit=x"]:
+        for target in ["/health", "/v1/links", "/v1/classes", "/v1/refs", "/v1/marks", "/v1/rows", "/v1/rows?from=x", "/v1/gone", "/v1/gone?edit=x"]:
             gets(server, target, reply(503))
     is_whole(path)

@@ -224,6 +224,7 @@ module _ (query : Text) (one two : Answer) (served : one.status ≡ 503 → ⊥)
       state_tells path.Links read = told_alike path.Links (λ k. listing_answer k listing.Links) (λ x. x) (λ k a s. list_told k query a s listing.Links refl) tt (ap (λ ls. json_answer 200 (named_list (codes "links") ls)) (links_same i j e))
       state_tells path.Classes read = told_alike path.Classes (λ k. listing_answer k listing.Classes) (λ x. x) (λ k a s. list_told k query a s listing.Classes refl) tt (ap (λ cs. json_answer 200 (named_list (codes "classes") cs)) (classes_same i j e))
       state_tells path.Refs read = absurd (false≢true read)
+      state_tells path.Marks read = absurd (false≢true read)
       state_tells path.Rows read = absurd (false≢true read)
       state_tells path.Lengths read = absurd (false≢true read)
       state_tells path.Gone read = absurd (false≢true read)
@@ -300,6 +301,7 @@ module _ (query : Text) (one two : Answer) (served : one.status ≡ 503 → ⊥)
     rows_tell path.Links read = state_tells (with_ledgers i j) j e path.Links refl
     rows_tell path.Classes read = state_tells (with_ledgers i j) j e path.Classes refl
     rows_tell path.Refs read = told_alike (with_ledgers i j) j path.Refs (λ k. listing_answer k listing.Refs) (λ x. x) (λ k a s. list_told k query a s listing.Refs refl) tt refl
+    rows_tell path.Marks read = told_alike (with_ledgers i j) j path.Marks (λ k. listing_answer k listing.Marks) (λ x. x) (λ k a s. list_told k query a s listing.Marks refl) tt refl
     rows_tell path.Rows read = rows_alike
     rows_tell path.Lengths read = lengths_alike
     rows_tell path.Gone read = absurd read
@@ -336,6 +338,7 @@ module _ (query : Text) (one two : Answer) (served : one.status ≡ 503 → ⊥)
     image_alike path.Links = rows_tell i i refl path.Links tt
     image_alike path.Classes = rows_tell i i refl path.Classes tt
     image_alike path.Refs = rows_tell i i refl path.Refs tt
+    image_alike path.Marks = rows_tell i i refl path.Marks tt
     image_alike path.Rows = rows_tell i i refl path.Rows tt
     image_alike path.Lengths = rows_tell i i refl path.Lengths tt
     image_alike path.Gone = gone_alike

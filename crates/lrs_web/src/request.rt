@@ -51,6 +51,7 @@ fn sheet_of(resource: Resource) -> Option<Sheet>
         | Resource::Links
         | Resource::Classes
         | Resource::Refs
+        | Resource::Marks
         | Resource::Rows
         | Resource::Lengths
         | Resource::Gone

@@ -53,17 +53,13 @@ ref_data route r = with (
     ∷ (codes "route", string route.name) ∷ []
     )
 
--- the referents of a route
-abbrev pub refs_of : RouteRow → List Data
-refs_of e = map (ref_data e.route) e.route.refs
-
 -- a mark: its chainage, the measure there, and its route
 abbrev pub mark_data : Route → Mark → Data
 mark_data route m = with ((codes "chainage", whole m.chainage) ∷ (codes "measure", whole m.measure) ∷ (codes "route", string route.name) ∷ [])
 
--- the marks of a route
-abbrev pub marks_of : RouteRow → List Data
-marks_of e = map (mark_data e.route) e.route.marks
+-- all that a route has, each shown with its route
+abbrev pub all_of : {A : Type 0} → (Route → List A) → (Route → A → Data) → RouteRow → List Data
+all_of on shown e = map (shown e.route) (on e.route)
 
 -- ---- rows
 
@@ -117,11 +113,11 @@ classes_data i = named_list (codes "classes") (map class_data i.classes)
 
 -- every referent of every route
 abbrev pub refs_data : Image → Data
-refs_data i = named_list (codes "refs") (flat_map refs_of i.routes)
+refs_data i = named_list (codes "refs") (flat_map (all_of (λ r. r.refs) ref_data) i.routes)
 
 -- every mark of every route
 abbrev pub marks_data : Image → Data
-marks_data i = named_list (codes "marks") (flat_map marks_of i.routes)
+marks_data i = named_list (codes "marks") (flat_map (all_of (λ r. r.marks) mark_data) i.routes)
 
 -- every row that is asked for, of every route that is asked for
 abbrev pub rows_data : RowsWanted → Image → Data

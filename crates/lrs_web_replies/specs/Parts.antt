@@ -4,8 +4,6 @@ use Rattle.std.specs.List.{flat_map}
 use Rattle.serde_json.specs.Data.{Data, string}
 use Rattle.serde_json.specs.Written.{compact_text}
 use Rattle.lrs_measure.specs.Texts.{Name}
-use Rattle.lrs_element.specs.declared.marks.Mark.{Mark}
-use Rattle.lrs_position.specs.declared.route.Referent.{Referent}
 use Rattle.lrs_position.specs.declared.route.Route.{Route}
 use Rattle.lrs_events.specs.declared.class.Asset.{Asset}
 use Rattle.lrs_events.specs.declared.part.Gone.{Gone}
@@ -16,7 +14,7 @@ use Rattle.lrs_machine.specs.declared.image.RouteRow.{RouteRow}
 use Rattle.lrs_machine.specs.Lines.{Text}
 use Rattle.lrs_machine.specs.declared.question.RowsWanted.{RowsWanted}
 use Rattle.lrs_report_lists.specs.WantedRows.{is_of_edit, is_wanted}
-use Rattle.lrs_web_replies.specs.Listings.{gone_data, mark_data, marks_of, ref_data, refs_of, row_data, rows_of}
+use Rattle.lrs_web_replies.specs.Listings.{gone_data, row_data, rows_of}
 
 -- an object up to the value of its first member
 abbrev pub front_text : Text → Text
@@ -42,22 +40,6 @@ segments_front route = front_text (codes "route") ++ (compact_text (string route
 -- what stands behind the list of the segments of a side
 abbrev pub segments_end : Side → Text
 segments_end side = name_text (codes "side") ++ (compact_text (string (side_text side)) ++ 125 ∷ [])
-
--- a referent
-abbrev pub ref_part : Route → Referent → Text
-ref_part route r = item_text (ref_data route r)
-
--- a mark
-abbrev pub mark_part : Route → Mark → Text
-mark_part route m = item_text (mark_data route m)
-
--- the marks of a route
-abbrev pub marks_part : RouteRow → Text
-marks_part e = flat_map item_text (marks_of e)
-
--- the referents of a route
-abbrev pub refs_part : RouteRow → Text
-refs_part e = flat_map item_text (refs_of e)
 
 -- a row, where it is asked for
 abbrev pub row_part : RowsWanted → List Asset → Route → Span → Text

@@ -195,6 +195,7 @@ AsksOf path.Routes query q = q ≡ question.List listing.Routes
 AsksOf path.Links query q = q ≡ question.List listing.Links
 AsksOf path.Classes query q = q ≡ question.List listing.Classes
 AsksOf path.Refs query q = q ≡ question.List listing.Refs
+AsksOf path.Marks query q = q ≡ question.List listing.Marks
 AsksOf path.Rows query (question.List (listing.Rows wanted)) = GivesRows query wanted
 AsksOf path.Gone query (question.List (listing.Gone edit)) = GivesEditOrAll query edit
 AsksOf path.Log query (question.List (listing.Log from)) = GivesFirstEdit query from

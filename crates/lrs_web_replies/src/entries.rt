@@ -6,7 +6,7 @@ ghost use Rattle.serde_json.specs.Data.{string};
 ghost use Rattle.serde_json.specs.View.{view};
 ghost use Rattle.lrs_report_lists.specs.Measures.{measure_text};
 ghost use Rattle.lrs_web_replies.specs.Members.{scalar_data};
-ghost use Rattle.lrs_web_replies.specs.Listings.{gone_data_with, mark_data, ref_data, row_data_with, said_of};
+ghost use Rattle.lrs_web_replies.specs.Listings.{gone_data_with, row_data_with, said_of};
 ghost use Rattle.lrs_web_replies.specs.JsonParts.{whole};
 
 use crate::answers::method_of;
@@ -110,37 +110,70 @@ fn measure_at(route: &Route, chainage: u64) -> Scalar
     Scalar::Measure(measure_on(route, chainage))
 }
 
-/// A referent of a route.
-pub(crate) fn ref_value(
-    alloc: Global,
-    route: &Route,
-    referent: &Referent,
-) -> Result<Value, AllocError>
-    ensures { IfOk result (λ value. view value ≡ ref_data route.now referent.now) }
-{
-    object_of(
-        alloc,
-        &[
-            Member("chainage", Scalar::Whole(referent.at)),
-            Member("measure", measure_at(route, referent.at)),
-            Member("ref", Scalar::Referent(referent.name)),
-            Member("route", Scalar::Route(route.name)),
-        ],
-    )
+/// What routes have, each shown with its route.
+pub(crate) trait OnRoute: Sized {
+    ghost use Rattle.std.specs.Prelude.{◌≡◌, List, IfOk};
+    ghost use Rattle.serde_json.specs.Data.{Data};
+    ghost use Rattle.serde_json.specs.View.{view};
+    ghost use Rattle.lrs_position.specs.declared.route.Route.{Route};
+
+    ghost on: { Route → List Self };
+
+    ghost shown: { Route → Self → Data };
+
+    /// All that a route has, in order.
+    fn all_on(route: &Route) -> &[Self]
+        ensures { result.now ≡ on route.now };
+
+    fn value_on(&self, alloc: Global, route: &Route) -> Result<Value, AllocError>
+        ensures { IfOk result (λ value. view value ≡ shown route.now self.now) };
 }
 
-/// A mark of a route.
-pub(crate) fn mark_value(alloc: Global, route: &Route, mark: &Mark) -> Result<Value, AllocError>
-    ensures { IfOk result (λ value. view value ≡ mark_data route.now mark.now) }
-{
-    object_of(
-        alloc,
-        &[
-            Member("chainage", Scalar::Whole(mark.chainage)),
-            Member("measure", Scalar::Whole(mark.measure)),
-            Member("route", Scalar::Route(route.name)),
-        ],
-    )
+impl OnRoute for Referent {
+    ghost use Rattle.lrs_web_replies.specs.Listings.{ref_data};
+
+    ghost on = { λ route. route.refs };
+
+    ghost shown = { ref_data };
+
+    fn all_on(route: &Route) -> &[Referent] {
+        route.refs.as_slice()
+    }
+
+    fn value_on(&self, alloc: Global, route: &Route) -> Result<Value, AllocError> {
+        object_of(
+            alloc,
+            &[
+                Member("chainage", Scalar::Whole(self.at)),
+                Member("measure", measure_at(route, self.at)),
+                Member("ref", Scalar::Referent(self.name)),
+                Member("route", Scalar::Route(route.name)),
+            ],
+        )
+    }
+}
+
+impl OnRoute for Mark {
+    ghost use Rattle.lrs_web_replies.specs.Listings.{mark_data};
+
+    ghost on = { λ route. route.marks };
+
+    ghost shown = { mark_data };
+
+    fn all_on(route: &Route) -> &[Mark] {
+        route.marks.list()
+    }
+
+    fn value_on(&self, alloc: Global, route: &Route) -> Result<Value, AllocError> {
+        object_of(
+            alloc,
+            &[
+                Member("chainage", Scalar::Whole(self.chainage)),
+                Member("measure", Scalar::Whole(self.measure)),
+                Member("route", Scalar::Route(route.name)),
+            ],
+        )
+    }
 }
 
 fn entry_of(asset: Option<&Asset>) -> Scalar

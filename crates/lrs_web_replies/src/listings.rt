@@ -1,9 +1,9 @@
 //! Lists of an inventory as replies.
 
-ghost use Rattle.std.specs.Prelude.{◌≡◌, ◌++◌, [], IfOk, OnOk, filter, true};
+ghost use Rattle.std.specs.Prelude.{◌≡◌, ◌++◌, [], IfOk, OnOk, filter, true, false};
 ghost use Rattle.std.specs.List.{flat_map};
 ghost use Rattle.std.specs.Option.{option_map, option_map_or};
-ghost use Rattle.serde_json.specs.Written.{compact_text};
+ghost use Rattle.serde_json.specs.Written.{compact_text, has_float};
 ghost use Rattle.lrs_measure.specs.Lists.{each_two};
 ghost use Rattle.lrs_machine.specs.Image.{state_of};
 ghost use Rattle.lrs_machine.specs.Sound.{IsSound, asset_before, route_before};
@@ -11,10 +11,10 @@ ghost use Rattle.lrs_image.specs.OpenLists.{image_of};
 ghost use Rattle.lrs_report_lists.specs.WantedRows.{is_of_route};
 ghost use Rattle.lrs_sheet_log.specs.Log.{edits_from, edits_under, log_text};
 ghost use Rattle.lrs_web_requests.specs.Text.{answer_of};
-ghost use Rattle.lrs_web_replies.specs.Listings.{all_gone_data, classes_data, gone_data, links_data, listing_answer, marks_data, refs_data, routes_data, row_data, rows_data};
-ghost use Rattle.lrs_web_replies.specs.Parts.{gone_part, item_text, mark_part, marks_part, ref_part, refs_part, row_part, rows_part};
+ghost use Rattle.lrs_web_replies.specs.Listings.{all_gone_data, all_of, classes_data, gone_data, links_data, listing_answer, marks_data, named_list, refs_data, routes_data, row_data, rows_data};
+ghost use Rattle.lrs_web_replies.specs.Parts.{gone_part, item_text, row_part, rows_part};
 
-use crate::entries::{gone_value, mark_value, ref_value, row_value};
+use crate::entries::{OnRoute, gone_value, row_value};
 use crate::list_text::{add_each, add_item, begin, end};
 use crate::reply::{found_reply, sheet_reply};
 use lrs_element::Mark;
@@ -56,122 +56,88 @@ fn classes_json(alloc: Global, kept: &KeptImage) -> Result<Vec<u8>, AllocError>
     end(bytes, start)
 }
 
-// ---- referents
+// ---- what routes have
 
-fn add_ref(
+fn add_on<T: OnRoute>(
     alloc: Global,
     bytes: &mut Vec<u8>,
     route: &Route,
-    referent: &Referent,
+    one: &T,
 ) -> Result<(), AllocError>
-    ensures { OnOk result (bytes.new.items ≡ bytes.old.items ++ ref_part route.now referent.now) }
+    requires whole { has_float (T.shown route.now one.now) ≡ false }
+    ensures { OnOk result (bytes.new.items
+        ≡ bytes.old.items ++ item_text (T.shown route.now one.now)) }
 {
-    let value = ref_value(alloc, route, referent)?;
+    let value = one.value_on(alloc, route)?;
     add_item(alloc, bytes, value)
 }
 
-fn add_refs_on(
+fn add_each_on<T: OnRoute>(
     alloc: Global,
     bytes: &mut Vec<u8>,
     route: &Route,
-    refs: &[Referent],
+    list: &[T],
 ) -> Result<(), AllocError>
+    requires whole { (one : T) → has_float (T.shown route.now one) ≡ false }
     ensures { OnOk result (bytes.new.items
-        ≡ bytes.old.items ++ flat_map (ref_part route.now) refs.now) }
+        ≡ bytes.old.items ++ flat_map (λ one. item_text (T.shown route.now one)) list.now) }
 {
-    for referent in refs {
-        add_ref(alloc, bytes, route, referent)?;
+    for one in list {
+        add_on(alloc, bytes, route, one)?;
     }
     Ok(())
 }
 
-fn add_refs_of(alloc: Global, bytes: &mut Vec<u8>, route_row: &RouteRow) -> Result<(), AllocError>
-    ensures { OnOk result (bytes.new.items ≡ bytes.old.items ++ refs_part route_row.now) }
+fn add_all_of<T: OnRoute>(
+    alloc: Global,
+    bytes: &mut Vec<u8>,
+    route_row: &RouteRow,
+) -> Result<(), AllocError>
+    requires whole { (route : _) (one : T) → has_float (T.shown route one) ≡ false }
+    ensures { OnOk result (bytes.new.items
+        ≡ bytes.old.items ++ flat_map item_text (all_of T.on T.shown route_row.now)) }
 {
     let route = &route_row.route;
-    add_refs_on(alloc, bytes, route, route.refs.as_slice())
+    add_each_on(alloc, bytes, route, T::all_on(route))
 }
 
-fn add_each_ref(
+fn add_all<T: OnRoute>(
     alloc: Global,
     bytes: &mut Vec<u8>,
     routes: &Chunked<RouteRow>,
 ) -> Result<(), AllocError>
-    ensures { OnOk result (bytes.new.items
-        ≡ bytes.old.items ++ flat_map refs_part routes.now.rows) }
+    requires whole { (route : _) (one : T) → has_float (T.shown route one) ≡ false }
+    ensures { OnOk result (bytes.new.items ≡ bytes.old.items
+        ++ flat_map (λ e. flat_map item_text (all_of T.on T.shown e)) routes.now.rows) }
 {
     for route_row in routes.iter() {
-        add_refs_of(alloc, bytes, route_row)?;
+        add_all_of::<T>(alloc, bytes, route_row)?;
     }
     Ok(())
+}
+
+/// The list of all that the routes have, under its name.
+fn all_json<T: OnRoute>(alloc: Global, kept: &KeptImage, name: &str) -> Result<Vec<u8>, AllocError>
+    requires whole { (route : _) (one : T) → has_float (T.shown route one) ≡ false }
+    ensures { IfOk result (λ bytes. bytes.items ≡ compact_text
+        (named_list name.now (flat_map (all_of T.on T.shown) (image_of kept.now).routes))) }
+{
+    let mut bytes = begin(alloc, name)?;
+    let start = bytes.len();
+    add_all::<T>(alloc, &mut bytes, &kept.routes)?;
+    end(bytes, start)
 }
 
 fn refs_json(alloc: Global, kept: &KeptImage) -> Result<Vec<u8>, AllocError>
     ensures { IfOk result (λ bytes. bytes.items ≡ compact_text (refs_data (image_of kept.now))) }
 {
-    let mut bytes = begin(alloc, "refs")?;
-    let start = bytes.len();
-    add_each_ref(alloc, &mut bytes, &kept.routes)?;
-    end(bytes, start)
-}
-
-// ---- marks
-
-fn add_mark(
-    alloc: Global,
-    bytes: &mut Vec<u8>,
-    route: &Route,
-    mark: &Mark,
-) -> Result<(), AllocError>
-    ensures { OnOk result (bytes.new.items ≡ bytes.old.items ++ mark_part route.now mark.now) }
-{
-    let value = mark_value(alloc, route, mark)?;
-    add_item(alloc, bytes, value)
-}
-
-fn add_marks_on(
-    alloc: Global,
-    bytes: &mut Vec<u8>,
-    route: &Route,
-    marks: &[Mark],
-) -> Result<(), AllocError>
-    ensures { OnOk result (bytes.new.items
-        ≡ bytes.old.items ++ flat_map (mark_part route.now) marks.now) }
-{
-    for mark in marks {
-        add_mark(alloc, bytes, route, mark)?;
-    }
-    Ok(())
-}
-
-fn add_marks_of(alloc: Global, bytes: &mut Vec<u8>, route_row: &RouteRow) -> Result<(), AllocError>
-    ensures { OnOk result (bytes.new.items ≡ bytes.old.items ++ marks_part route_row.now) }
-{
-    let route = &route_row.route;
-    add_marks_on(alloc, bytes, route, route.marks.list())
-}
-
-fn add_each_mark(
-    alloc: Global,
-    bytes: &mut Vec<u8>,
-    routes: &Chunked<RouteRow>,
-) -> Result<(), AllocError>
-    ensures { OnOk result (bytes.new.items
-        ≡ bytes.old.items ++ flat_map marks_part routes.now.rows) }
-{
-    for route_row in routes.iter() {
-        add_marks_of(alloc, bytes, route_row)?;
-    }
-    Ok(())
+    all_json::<Referent>(alloc, kept, "refs")
 }
 
 fn marks_json(alloc: Global, kept: &KeptImage) -> Result<Vec<u8>, AllocError>
     ensures { IfOk result (λ bytes. bytes.items ≡ compact_text (marks_data (image_of kept.now))) }
 {
-    let mut bytes = begin(alloc, "marks")?;
-    let start = bytes.len();
-    add_each_mark(alloc, &mut bytes, &kept.routes)?;
-    end(bytes, start)
+    all_json::<Mark>(alloc, kept, "marks")
 }
 
 // ---- rows

@@ -210,6 +210,7 @@ pub fn question_of(
         Resource::Links => Ok(Question::List(Listing::Links)),
         Resource::Classes => Ok(Question::List(Listing::Classes)),
         Resource::Refs => Ok(Question::List(Listing::Refs)),
+        Resource::Marks => Ok(Question::List(Listing::Marks)),
         Resource::Rows => rows_question(alloc, argument),
         Resource::Gone => gone_question(alloc, argument),
         Resource::Log => log_question(alloc, argument),

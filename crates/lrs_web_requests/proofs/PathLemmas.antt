@@ -1,16 +1,17 @@
 -- The router finds a resource exactly by the paths that name it.
-use Rattle.std.proofs.Common.{◌≡◌, inl, inr, ℕ, zero, suc, ◌<◌, List, [], ◌∷◌, ◌++◌, length, get_or, Bool, true, false, cond, ◌==◌, ltb, Option, None, Some, option_map, refl, sym, ap, ◌∙◌, arith, codes, Contains}
+use Rattle.std.proofs.Common.{◌≡◌, ◌⊎◌, inl, inr, ℕ, zero, suc, ◌<◌, List, [], ◌∷◌, ◌++◌, length, get_or, map, take, drop, Bool, true, false, cond, ◌==◌, ltb, Option, None, Some, option_map, refl, sym, ap, ◌∙◌, arith, codes, Contains}
 use Rattle.std.proofs.lemmas.Bool.Decides.{nat_tests}
-use Rattle.std.proofs.lemmas.List.Elements.{All-contains, All-from_recursion}
+use Rattle.std.proofs.lemmas.Bool.{and_parts}
+use Rattle.std.proofs.lemmas.List.Elements.{All-contains, All-from_recursion, Contains-append_left, Contains-append_right}
 use Rattle.std.specs.List.{list_all}
-use Rattle.matchit.specs.Rows.{param_token}
+use Rattle.matchit.specs.Rows.{RowsOf, param_token}
 use Rattle.matchit.specs.Router.{RouteOf}
 use Rattle.matchit.specs.Seek.{first, has_slash}
 use Rattle.lrs_web_requests.specs.declared.paths.Resource.{Resource}
-use Rattle.lrs_web_requests.specs.declared.paths.Resource.TheVariants.{At, Route, Segments, Totals, Translate, Diagram, Routes, Find, Log, Health, Links, Classes, Refs, Rows, Lengths, Gone, Where, Edits, Surveys, Questions}
-use Rattle.lrs_web_requests.specs.Routes.{named, rows, resource_at}
+use Rattle.lrs_web_requests.specs.declared.paths.Resource.TheVariants.{Route}
+use Rattle.lrs_web_requests.specs.Routes.{named, plain, rows, resource_at}
 use Rattle.lrs_web_requests.specs.Paths.{literal_paths, slash, IsName, Names, FindsWhatIsNamed, FindsNothingElse}
-use Rattle.lrs_web_requests.proofs.LiteralLemmas.{IsSimple, Fits, IsWord, HasFit, AllSimple, text_from, simple_literal, simple_named, fits_literal, fits_named, first_reached, reached_fits, reached_name}
+use Rattle.lrs_web_requests.proofs.LiteralLemmas.{Fits, IsWord, HasFit, AllSimple, text_from, simple_literal, simple_named, fits_literal, fits_named, first_reached, reached_fits, reached_name}
 use Rattle.matchit.proofs.OnLiterals.{matchit_on_literals}
 
 -- a slash in the text is found
@@ -42,76 +43,48 @@ word_of_name name h = (h.some_byte, by (has_slash name) refl)
     by true e = absurd (h.no_slash (contains_slash name e))
     by false e = e
 
--- the bytes of a literal, as a row
-simple_row : (bytes : List ℕ) → list_all (λ b. ltb b 256) bytes ≡ true → IsSimple bytes
-simple_row bytes e = simple_literal bytes (text_from bytes e)
+-- the rows of paths that stand for themselves
+abbrev rows_for : List (List ℕ × Resource) → RowsOf (RouteOf Resource)
+rows_for entries = map (λ entry. plain entry.0 entry.1) entries
+
+-- the paths in front of that of a route, and those behind it
+abbrev front : List (List ℕ × Resource)
+front = take 13 literal_paths
+
+abbrev back : List (List ℕ × Resource)
+back = drop 13 literal_paths
+
+-- the path of a route, and what is behind it
+abbrev route_and_back : RowsOf (RouteOf Resource)
+route_and_back = named (codes "/v1/route/") Route ∷ (rows_for back ++ [])
+
+abbrev are_bytes : List ℕ × Resource → Bool
+are_bytes entry = list_all (λ b. ltb b 256) entry.0
+
+simple_rows : (entries : List (List ℕ × Resource)) (more : RowsOf (RouteOf Resource)) → list_all are_bytes entries ≡ true → AllSimple more → AllSimple (rows_for entries ++ more)
+simple_rows [] more bytes simple = simple
+simple_rows (entry ∷ entries) more bytes simple =
+    let both = and_parts (are_bytes entry) (list_all are_bytes entries) bytes in
+    (simple_literal entry.0 (text_from entry.0 both.0), simple_rows entries more both.1 simple)
 
 rows_simple : AllSimple rows
 unfolding rows
-rows_simple = (
-  simple_row (codes "/health") refl,
-  (
-    simple_row (codes "/v1/at") refl,
-    (
-      simple_row (codes "/v1/classes") refl,
-      (
-        simple_row (codes "/v1/diagram") refl,
-        (
-          simple_row (codes "/v1/edits") refl,
-          (
-            simple_row (codes "/v1/find") refl,
-            (
-              simple_row (codes "/v1/gone") refl,
-              (
-                simple_row (codes "/v1/lengths") refl,
-                (
-                  simple_row (codes "/v1/links") refl,
-                  (
-                    simple_row (codes "/v1/log") refl,
-                    (
-                      simple_row (codes "/v1/questions") refl,
-                      (
-                        simple_row (codes "/v1/refs") refl,
-                        (
-                          simple_named (codes "/v1/route/") (text_from (codes "/v1/route/") refl),
-                          (
-                            simple_row (codes "/v1/routes") refl,
-                            (
-                              simple_row (codes "/v1/rows") refl,
-                              (
-                                simple_row (codes "/v1/segments") refl,
-                                (
-                                  simple_row (codes "/v1/surveys") refl,
-                                  (
-                                    simple_row (codes "/v1/totals") refl,
-                                    (
-                                      simple_row (codes "/v1/translate") refl,
-                                      (simple_row (codes "/v1/where") refl, tt),
-                                    ),
-                                  ),
-                                ),
-                              ),
-                            ),
-                          ),
-                        ),
-                      ),
-                    ),
-                  ),
-                ),
-              ),
-            ),
-          ),
-        ),
-      ),
-    ),
-  ),
-)
+rows_simple = simple_rows front route_and_back refl (simple_named (codes "/v1/route/") (text_from (codes "/v1/route/") refl), simple_rows back [] refl tt)
 
--- a row that stands for itself and fits is one of the table
-names_literal : (bytes path : List ℕ) (value resource : Resource) → list_all (λ b. ltb b 256) bytes ≡ true → Contains literal_paths (bytes, value) → value ≡ resource → Fits bytes path → Names path resource
-names_literal bytes path value resource text has same fits =
-    let whole : path ≡ bytes = fits_literal bytes path (text_from bytes text) fits in
-    inl (rw (whole, ← same) has)
+-- the row that fits is of one of these paths, or another one
+fits_of : (entries : List (List ℕ × Resource)) (more : RowsOf (RouteOf Resource)) (path : List ℕ) (route : RouteOf Resource) → list_all are_bytes entries ≡ true
+    → HasFit (rows_for entries ++ more) path route → Contains entries (path, route.value) ⊎ HasFit more path route
+fits_of [] more path route bytes fit = inr fit
+fits_of (entry ∷ entries) more path route bytes (inl (same, fits)) =
+    let both = and_parts (are_bytes entry) (list_all are_bytes entries) bytes in
+    let whole : path ≡ entry.0 = fits_literal entry.0 path (text_from entry.0 both.0) fits in
+    let value : entry.1 ≡ route.value = ap (λ (r : RouteOf Resource). r.value) same in
+    inl (zero, omega arith, λ k. (sym whole k, value k))
+fits_of (entry ∷ entries) more path route bytes (inr fit) =
+    elim (fits_of entries more path route (and_parts (are_bytes entry) (list_all are_bytes entries) bytes).1 fit) [
+      | inl at ↦ inl (suc at.0, (let within = at.1 in omega arith), at.2)
+      | inr other ↦ inr other
+    ]
 
 names_route : (path : List ℕ) (resource : Resource) → Route ≡ resource → Fits (codes "/v1/route/" ++ param_token ∷ []) path → Names path resource
 names_route path resource same fits =
@@ -121,64 +94,13 @@ names_route path resource same fits =
 named_by_fit : (path : List ℕ) (route : RouteOf Resource) → HasFit rows path route → Names path route.value
 unfolding rows
 named_by_fit path route fit =
-    elim fit [
-      | inl at ↦ names_literal (codes "/health") path Health route.value refl (0, omega arith, refl) (ap (λ r. r.value) at.0) at.1
-      | inr fit ↦ elim fit [
-        | inl at ↦ names_literal (codes "/v1/at") path At route.value refl (1, omega arith, refl) (ap (λ r. r.value) at.0) at.1
-        | inr fit ↦ elim fit [
-          | inl at ↦ names_literal (codes "/v1/classes") path Classes route.value refl (2, omega arith, refl) (ap (λ r. r.value) at.0) at.1
-          | inr fit ↦ elim fit [
-            | inl at ↦ names_literal (codes "/v1/diagram") path Diagram route.value refl (3, omega arith, refl) (ap (λ r. r.value) at.0) at.1
-            | inr fit ↦ elim fit [
-              | inl at ↦ names_literal (codes "/v1/edits") path Edits route.value refl (4, omega arith, refl) (ap (λ r. r.value) at.0) at.1
-              | inr fit ↦ elim fit [
-                | inl at ↦ names_literal (codes "/v1/find") path Find route.value refl (5, omega arith, refl) (ap (λ r. r.value) at.0) at.1
-                | inr fit ↦ elim fit [
-                  | inl at ↦ names_literal (codes "/v1/gone") path Gone route.value refl (6, omega arith, refl) (ap (λ r. r.value) at.0) at.1
-                  | inr fit ↦ elim fit [
-                    | inl at ↦ names_literal (codes "/v1/lengths") path Lengths route.value refl (7, omega arith, refl) (ap (λ r. r.value) at.0) at.1
-                    | inr fit ↦ elim fit [
-                      | inl at ↦ names_literal (codes "/v1/links") path Links route.value refl (8, omega arith, refl) (ap (λ r. r.value) at.0) at.1
-                      | inr fit ↦ elim fit [
-                        | inl at ↦ names_literal (codes "/v1/log") path Log route.value refl (9, omega arith, refl) (ap (λ r. r.value) at.0) at.1
-                        | inr fit ↦ elim fit [
-                          | inl at ↦ names_literal (codes "/v1/questions") path Questions route.value refl (10, omega arith, refl) (ap (λ r. r.value) at.0) at.1
-                          | inr fit ↦ elim fit [
-                            | inl at ↦ names_literal (codes "/v1/refs") path Refs route.value refl (11, omega arith, refl) (ap (λ r. r.value) at.0) at.1
-                            | inr fit ↦ elim fit [
-                              | inl at ↦ names_route path route.value (ap (λ r. r.value) at.0) at.1
-                              | inr fit ↦ elim fit [
-                                | inl at ↦ names_literal (codes "/v1/routes") path Routes route.value refl (12, omega arith, refl) (ap (λ r. r.value) at.0) at.1
-                                | inr fit ↦ elim fit [
-                                  | inl at ↦ names_literal (codes "/v1/rows") path Rows route.value refl (13, omega arith, refl) (ap (λ r. r.value) at.0) at.1
-                                  | inr fit ↦ elim fit [
-                                    | inl at ↦ names_literal (codes "/v1/segments") path Segments route.value refl (14, omega arith, refl) (ap (λ r. r.value) at.0) at.1
-                                    | inr fit ↦ elim fit [
-                                      | inl at ↦ names_literal (codes "/v1/surveys") path Surveys route.value refl (15, omega arith, refl) (ap (λ r. r.value) at.0) at.1
-                                      | inr fit ↦ elim fit [
-                                        | inl at ↦ names_literal (codes "/v1/totals") path Totals route.value refl (16, omega arith, refl) (ap (λ r. r.value) at.0) at.1
-                                        | inr fit ↦ elim fit [
-                                          | inl at ↦ names_literal (codes "/v1/translate") path Translate route.value refl (17, omega arith, refl) (ap (λ r. r.value) at.0) at.1
-                                          | inr fit ↦ elim fit [
-                                            | inl at ↦ names_literal (codes "/v1/where") path Where route.value refl (18, omega arith, refl) (ap (λ r. r.value) at.0) at.1
-                                            | inr none ↦ absurd none
-                                          ]
-                                        ]
-                                      ]
-                                    ]
-                                  ]
-                                ]
-                              ]
-                            ]
-                          ]
-                        ]
-                      ]
-                    ]
-                  ]
-                ]
-              ]
-            ]
-          ]
+    elim (fits_of front route_and_back path route refl fit) [
+      | inl at ↦ inl (Contains-append_left front back (path, route.value) at)
+      | inr behind ↦ elim behind [
+        | inl at ↦ names_route path route.value (ap (λ r. r.value) at.0) at.1
+        | inr last ↦ elim (fits_of back [] path route refl last) [
+          | inl at ↦ inl (Contains-append_right front back (path, route.value) at)
+          | inr none ↦ absurd none
         ]
       ]
     ]
@@ -199,7 +121,7 @@ IsFound entry = resource_at entry.0 ≡ Some entry.1
 literal_is_found : (path : List ℕ) (resource : Resource) → Contains literal_paths (path, resource) → resource_at path ≡ Some resource
 unfolding matchit_on_literals rows IsFound
 literal_is_found path resource has =
-    All-contains IsFound literal_paths (path, resource) (All-from_recursion IsFound literal_paths (refl, (refl, (refl, (refl, (refl, (refl, (refl, (refl, (refl, (refl, (refl, (refl, (refl, (refl, (refl, (refl, (refl, (refl, (refl, tt)))))))))))))))))))) has
+    All-contains IsFound literal_paths (path, resource) (All-from_recursion IsFound literal_paths (refl, (refl, (refl, (refl, (refl, (refl, (refl, (refl, (refl, (refl, (refl, (refl, (refl, (refl, (refl, (refl, (refl, (refl, (refl, (refl, tt))))))))))))))))))))) has
 
 route_is_found : (word : List ℕ) → IsWord word → resource_at (codes "/v1/route/" ++ word) ≡ Some Route
 unfolding rows

@@ -1,7 +1,7 @@
--- Which resource a path names: nineteen paths stand for themselves, and the path of a route ends in the route's name.
+-- Which resource a path names: twenty paths stand for themselves, and the path of a route ends in the route's name.
 use Rattle.std.specs.Prelude.{◌≡◌, ◌≢◌, ◌⊎◌, ◌↔◌, ℕ, List, [], ◌∷◌, ◌++◌, codes, None, Some, Contains}
 use Rattle.lrs_web_requests.specs.declared.paths.Resource.{Resource}
-use Rattle.lrs_web_requests.specs.declared.paths.Resource.TheVariants.{At, Route, Segments, Totals, Translate, Diagram, Routes, Find, Log, Health, Links, Classes, Refs, Rows, Lengths, Gone, Where, Edits, Surveys, Questions}
+use Rattle.lrs_web_requests.specs.declared.paths.Resource.TheVariants.{At, Route, Segments, Totals, Translate, Diagram, Routes, Find, Log, Health, Links, Classes, Refs, Marks, Rows, Lengths, Gone, Where, Edits, Surveys, Questions}
 use Rattle.lrs_web_requests.specs.Routes.{resource_at}
 
 -- the paths that stand for themselves
@@ -9,8 +9,8 @@ abbrev pub literal_paths : List (List ℕ × Resource)
 literal_paths =
     (codes "/health", Health) ∷ (codes "/v1/at", At) ∷ (codes "/v1/classes", Classes) ∷ (codes "/v1/diagram", Diagram)
     ∷ (codes "/v1/edits", Edits) ∷ (codes "/v1/find", Find) ∷ (codes "/v1/gone", Gone) ∷ (codes "/v1/lengths", Lengths)
-    ∷ (codes "/v1/links", Links) ∷ (codes "/v1/log", Log) ∷ (codes "/v1/questions", Questions) ∷ (codes "/v1/refs", Refs)
-    ∷ (codes "/v1/routes", Routes) ∷ (codes "/v1/rows", Rows) ∷ (codes "/v1/segments", Segments) ∷ (codes "/v1/surveys", Surveys) ∷ (codes "/v1/totals", Totals)
+    ∷ (codes "/v1/links", Links) ∷ (codes "/v1/log", Log) ∷ (codes "/v1/marks", Marks) ∷ (codes "/v1/questions", Questions)
+    ∷ (codes "/v1/refs", Refs) ∷ (codes "/v1/routes", Routes) ∷ (codes "/v1/rows", Rows) ∷ (codes "/v1/segments", Segments) ∷ (codes "/v1/surveys", Surveys) ∷ (codes "/v1/totals", Totals)
     ∷ (codes "/v1/translate", Translate) ∷ (codes "/v1/where", Where) ∷ []
 
 -- the code of a slash

@@ -5,7 +5,7 @@ use Rattle.matchit.specs.Rows.{RowsOf, param_token}
 use Rattle.matchit.specs.Router.{RouteOf}
 use Rattle.matchit.specs.Seek.{first}
 use Rattle.lrs_web_requests.specs.declared.paths.Resource.{Resource}
-use Rattle.lrs_web_requests.specs.declared.paths.Resource.TheVariants.{At, Route, Segments, Totals, Translate, Diagram, Routes, Find, Log, Health, Links, Classes, Refs, Rows, Lengths, Gone, Where, Edits, Surveys, Questions}
+use Rattle.lrs_web_requests.specs.declared.paths.Resource.TheVariants.{At, Route, Segments, Totals, Translate, Diagram, Routes, Find, Log, Health, Links, Classes, Refs, Marks, Rows, Lengths, Gone, Where, Edits, Surveys, Questions}
 
 -- the row of a path that stands for itself
 abbrev pub plain : List ℕ → Resource → List ℕ × RouteOf Resource
@@ -19,8 +19,8 @@ unfoldable pub rows : RowsOf (RouteOf Resource)
 rows =
     plain (codes "/health") Health ∷ plain (codes "/v1/at") At ∷ plain (codes "/v1/classes") Classes ∷ plain (codes "/v1/diagram") Diagram
     ∷ plain (codes "/v1/edits") Edits ∷ plain (codes "/v1/find") Find ∷ plain (codes "/v1/gone") Gone ∷ plain (codes "/v1/lengths") Lengths
-    ∷ plain (codes "/v1/links") Links ∷ plain (codes "/v1/log") Log ∷ plain (codes "/v1/questions") Questions ∷ plain (codes "/v1/refs") Refs
-    ∷ named (codes "/v1/route/") Route ∷ plain (codes "/v1/routes") Routes ∷ plain (codes "/v1/rows") Rows ∷ plain (codes "/v1/segments") Segments ∷ plain (codes "/v1/surveys") Surveys
+    ∷ plain (codes "/v1/links") Links ∷ plain (codes "/v1/log") Log ∷ plain (codes "/v1/marks") Marks ∷ plain (codes "/v1/questions") Questions
+    ∷ plain (codes "/v1/refs") Refs ∷ named (codes "/v1/route/") Route ∷ plain (codes "/v1/routes") Routes ∷ plain (codes "/v1/rows") Rows ∷ plain (codes "/v1/segments") Segments ∷ plain (codes "/v1/surveys") Surveys
     ∷ plain (codes "/v1/totals") Totals ∷ plain (codes "/v1/translate") Translate ∷ plain (codes "/v1/where") Where ∷ []
 
 -- what a path names
@@ -51,6 +51,7 @@ is_list Classes = true
 is_list Find = true
 is_list Links = true
 is_list Refs = true
+is_list Marks = true
 is_list Route = true
 is_list Routes = true
 is_list Rows = true

@@ -22,6 +22,7 @@ pub enum Resource {
     Links,
     Classes,
     Refs,
+    Marks,
     Rows,
     Lengths,
     Gone,
@@ -62,6 +63,7 @@ fn add_lists(router: &mut Router<Resource>) -> Result<(), InsertError>
     router.insert("/v1/classes", Resource::Classes)?;
     router.insert("/v1/find", Resource::Find)?;
     router.insert("/v1/links", Resource::Links)?;
+    router.insert("/v1/marks", Resource::Marks)?;
     router.insert("/v1/refs", Resource::Refs)?;
     router.insert("/v1/route/{name}", Resource::Route)?;
     router.insert("/v1/routes", Resource::Routes)?;

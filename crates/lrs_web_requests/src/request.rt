@@ -58,6 +58,7 @@ fn verb_for(resource: Resource) -> Verb
         | Resource::Links
         | Resource::Classes
         | Resource::Refs
+        | Resource::Marks
         | Resource::Rows
         | Resource::Lengths
         | Resource::Gone
@@ -107,6 +108,7 @@ fn argument(resource: Resource, target: &str) -> &[u8]
         | Resource::Links
         | Resource::Classes
         | Resource::Refs
+        | Resource::Marks
         | Resource::Rows
         | Resource::Lengths
         | Resource::Gone

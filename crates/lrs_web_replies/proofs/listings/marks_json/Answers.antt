@@ -1,15 +1,5 @@
-use Rattle.std.proofs.Common.{ℕ, List, length, codes, ap, arith}
-use Rattle.lrs_image.specs.OpenLists.{image_of}
-use Rattle.lrs_web_replies.specs.Parts.{front_text, item_text}
-use Rattle.std.specs.List.{flat_map}
-use Rattle.lrs_web_replies.specs.Listings.{marks_of}
-use Rattle.lrs_web_replies.proofs.Listing.{behind, named, of_all}
+use Rattle.std.proofs.Common.{refl}
 use Rattle.lrs_web_replies.proofs.listings.marks_json.Goals as goal
 
-pub returns : goal.returns
-returns c =
-    let i = image_of c.args.kept.now in
-    let name = codes "marks" in
-    let items = flat_map marks_of i.routes in
-    let same = ap (λ (t : List ℕ). length t) c.in_ok-bytes.ensures in
-    named c.end.result _ c.len-start.result name items c.end.ensures (omega arith) (behind (front_text name) _ _ _ (flat_map item_text items) c.in_ok-bytes.ensures c.in_ok-add_each_mark.ensures (of_all marks_of i.routes))
+pub all_json-requires : goal.all_json-requires
+all_json-requires c = record { whole = λ route one. refl }

@@ -12,4 +12,5 @@ returns c =
     let i5 = c.in_ok-insert-5.ensures in
     let i6 = c.in_ok-insert-6.ensures in
     let i7 = c.in_ok-insert-7.ensures in
-    rw (i7.1, i6.1, i5.1, i4.1, i3.1, i2.1, i1.1)
+    let i8 = c.in_ok-insert-8.ensures in
+    rw (i8.1, i7.1, i6.1, i5.1, i4.1, i3.1, i2.1, i1.1)
