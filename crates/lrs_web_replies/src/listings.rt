@@ -9,7 +9,7 @@ ghost use Rattle.lrs_machine.specs.Image.{state_of};
 ghost use Rattle.lrs_machine.specs.Sound.{IsSound, asset_before, route_before};
 ghost use Rattle.lrs_image.specs.OpenLists.{image_of};
 ghost use Rattle.lrs_report_lists.specs.WantedRows.{is_of_route};
-ghost use Rattle.lrs_sheet_log.specs.Log.{edits_from, edits_under, log_text};
+ghost use Rattle.lrs_sheet_log.specs.Log.{edits_from, log_text};
 ghost use Rattle.lrs_web_requests.specs.Text.{answer_of};
 ghost use Rattle.lrs_web_replies.specs.Listings.{all_gone_data, all_of, classes_data, gone_data, links_data, listing_answer, marks_data, named_list, refs_data, routes_data, row_data, rows_data};
 ghost use Rattle.lrs_web_replies.specs.Parts.{gone_part, item_text, row_part, rows_part};
@@ -21,11 +21,11 @@ use lrs_element::Mark;
 use lrs_events::{Asset, Gone, Span};
 use lrs_image::KeptImage;
 use lrs_inventory::Inventory;
-use lrs_machine::{Key, Listing, RouteRow, RowsWanted};
+use lrs_machine::{Listing, RouteRow, RowsWanted};
 use lrs_ordered::Chunked;
 use lrs_position::{Referent, Route};
 use lrs_report_lists::{asset_numbered, is_of_edit, is_wanted};
-use lrs_sheet_log::{write_log, write_log_of_key};
+use lrs_sheet_log::write_log;
 use lrs_web_requests::Response;
 use std::alloc::{AllocError, Global};
 
@@ -353,17 +353,6 @@ fn log_bytes(alloc: Global, kept: &KeptImage, from: u64) -> Result<Vec<u8>, Allo
     }
 }
 
-fn log_bytes_of_key(alloc: Global, kept: &KeptImage, key: &Key) -> Result<Vec<u8>, AllocError>
-    ensures { IfOk result (λ bytes. bytes.items
-        ≡ log_text (edits_under key.now (state_of (image_of kept.now)).done)) }
-{
-    let mut bytes = Vec::new(alloc);
-    match write_log_of_key(&mut bytes, kept, key) {
-        Ok(_) => Ok(bytes),
-        Err(_) => Err(AllocError),
-    }
-}
-
 // ---- replies
 
 /// The reply with a list of an inventory: as JSON, and the log as an edit sheet.
@@ -387,6 +376,7 @@ pub(crate) fn listing_reply(
         Listing::Rows(wanted) => Ok(found_reply(rows_json(alloc, kept, wanted)?)),
         Listing::Gone(edit) => Ok(found_reply(gone_json(alloc, kept, *edit)?)),
         Listing::Log(from) => Ok(sheet_reply(log_bytes(alloc, kept, *from)?)),
-        Listing::LogOfKey(key) => Ok(sheet_reply(log_bytes_of_key(alloc, kept, key)?)),
+        // No query asks for the log of one key.
+        Listing::LogOfKey(_) => Ok(sheet_reply(Vec::new(alloc))),
     }
 }
