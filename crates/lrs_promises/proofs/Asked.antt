@@ -175,6 +175,10 @@ module _ (i : Image) (query : Text) (answer : Answer) (served : answer.status �
 
   -- ---- questions
 
+  -- what is answered to a question is answered to the one that it is
+  asked_of : (q other : Question) → q ≡ other → AnswersQuestion i q answer → AnswersQuestion i other answer
+  asked_of q other is = subst (λ (r : Question). AnswersQuestion i r answer) is
+
   lacks_memory : (fault : AskFault) → fault ≡ Memory → answer ≡ refusal fault → ⊥
   lacks_memory fault memory is = served (ap (λ (a : Answer). a.status) (is ∙ ap refusal memory))
 
@@ -197,222 +201,90 @@ module _ (i : Image) (query : Text) (answer : Answer) (served : answer.status �
   listed_said (Err fault) l None never shows = absurd never
   listed_said (Err fault) l (Some what) is shows = shows ∙ ap refusal (same_err fault (asked.Missing what) is)
 
-  pub listed : (l : Listing) → AnswersQuestion i (question.List l) answer → answer ≡ list_reply (missing_of i l) (listing_answer i l)
-  listed l (said, tells, shows) = listed_said said l (missing_of i l) tells shows
+  pub listed : (l : Listing) (q : Question) → q ≡ question.List l → AnswersQuestion i q answer → answer ≡ list_reply (missing_of i l) (listing_answer i l)
+  listed l q is h = let (said, tells, shows) = asked_of q (question.List l) is h in listed_said said l (missing_of i l) tells shows
 
   -- a list without a parameter
   pub list_told : (l : Listing) → missing_of i l ≡ None → (q : Question) → q ≡ question.List l → AnswersQuestion i q answer → answer ≡ listing_answer i l
-  list_told l none q is h = listed l (subst (λ (r : Question). AnswersQuestion i r answer) is h) ∙ ap (λ o. list_reply o (listing_answer i l)) none
+  list_told l none q is h = listed l q is h ∙ ap (λ o. list_reply o (listing_answer i l)) none
 
   health_said : (said : Result Told AskFault) → said ≡ Ok (told.Health (length i.edits)) → IsReplyTo said answer → answer ≡ json_answer 200 (health_data (length i.edits))
   health_said said is shows = subst (λ r. IsReplyTo r answer) is shows
 
   pub health_told : (q : Question) → q ≡ question.Health → AnswersQuestion i q answer → answer ≡ json_answer 200 (health_data (length i.edits))
-  health_told q is h = let (said, tells, shows) = subst (λ (r : Question). AnswersQuestion i r answer) is h in health_said said tells shows
+  health_told q is h = let (said, tells, shows) = asked_of q question.Health is h in health_said said tells shows
 
   pub totals_told : (q : Question) → q ≡ question.Totals → AnswersQuestion i q answer → answer ≡ json_answer 200 (totals_data (totals_of (state_of i)))
-  totals_told q is h = let (said, tells, shows) = subst (λ (r : Question). AnswersQuestion i r answer) is h in totals_said said tells shows
-
-  rows_of : (l : Listing) → AsksOf path.Rows query (question.List l) → AnswersQuestion i (question.List l) answer → (wanted : RowsWanted) × GivesRows query wanted × (answer ≡ list_reply (missing_of i (listing.Rows wanted)) (listing_answer i (listing.Rows wanted)))
-  rows_of listing.Routes asks h = absurd asks
-  rows_of listing.Links asks h = absurd asks
-  rows_of listing.Classes asks h = absurd asks
-  rows_of listing.Refs asks h = absurd asks
-  rows_of listing.Marks asks h = absurd asks
-  rows_of (listing.Rows wanted) asks h = (wanted, asks, listed (listing.Rows wanted) h)
-  rows_of (listing.Gone edit) asks h = absurd asks
-  rows_of (listing.Log from) asks h = absurd asks
-  rows_of (listing.LogOfKey key) asks h = absurd asks
+  totals_told q is h = let (said, tells, shows) = asked_of q question.Totals is h in totals_said said tells shows
 
   pub rows_told : (q : Question) → AsksOf path.Rows query q → AnswersQuestion i q answer → (wanted : RowsWanted) × GivesRows query wanted × (answer ≡ list_reply (missing_of i (listing.Rows wanted)) (listing_answer i (listing.Rows wanted)))
-  rows_told (question.At route e) asks h = absurd asks
-  rows_told (question.Route route) asks h = absurd asks
-  rows_told (question.Segments route side classes) asks h = absurd asks
-  rows_told (question.Translate route e to) asks h = absurd asks
-  rows_told (question.Diagram route classes from to) asks h = absurd asks
-  rows_told question.Totals asks h = absurd asks
-  rows_told (question.Find asset) asks h = absurd asks
-  rows_told (question.Where spot) asks h = absurd asks
-  rows_told (question.Lengths route) asks h = absurd asks
-  rows_told (question.List l) asks h = rows_of l asks h
-  rows_told question.Health asks h = absurd asks
-
-  gone_of : (l : Listing) → AsksOf path.Gone query (question.List l) → AnswersQuestion i (question.List l) answer → (edit : Option ℕ) × GivesEditOrAll query edit × (answer ≡ list_reply (missing_of i (listing.Gone edit)) (listing_answer i (listing.Gone edit)))
-  gone_of listing.Routes asks h = absurd asks
-  gone_of listing.Links asks h = absurd asks
-  gone_of listing.Classes asks h = absurd asks
-  gone_of listing.Refs asks h = absurd asks
-  gone_of listing.Marks asks h = absurd asks
-  gone_of (listing.Rows wanted) asks h = absurd asks
-  gone_of (listing.Gone edit) asks h = (edit, asks, listed (listing.Gone edit) h)
-  gone_of (listing.Log from) asks h = absurd asks
-  gone_of (listing.LogOfKey key) asks h = absurd asks
+  rows_told q (wanted, gives, is) h = (wanted, gives, listed (listing.Rows wanted) q is h)
 
   pub gone_told : (q : Question) → AsksOf path.Gone query q → AnswersQuestion i q answer → (edit : Option ℕ) × GivesEditOrAll query edit × (answer ≡ list_reply (missing_of i (listing.Gone edit)) (listing_answer i (listing.Gone edit)))
-  gone_told (question.At route e) asks h = absurd asks
-  gone_told (question.Route route) asks h = absurd asks
-  gone_told (question.Segments route side classes) asks h = absurd asks
-  gone_told (question.Translate route e to) asks h = absurd asks
-  gone_told (question.Diagram route classes from to) asks h = absurd asks
-  gone_told question.Totals asks h = absurd asks
-  gone_told (question.Find asset) asks h = absurd asks
-  gone_told (question.Where spot) asks h = absurd asks
-  gone_told (question.Lengths route) asks h = absurd asks
-  gone_told (question.List l) asks h = gone_of l asks h
-  gone_told question.Health asks h = absurd asks
-
-  log_of : (l : Listing) → AsksOf path.Log query (question.List l) → AnswersQuestion i (question.List l) answer → (from : ℕ) × GivesFirstEdit query from × (answer ≡ list_reply (missing_of i (listing.Log from)) (listing_answer i (listing.Log from)))
-  log_of listing.Routes asks h = absurd asks
-  log_of listing.Links asks h = absurd asks
-  log_of listing.Classes asks h = absurd asks
-  log_of listing.Refs asks h = absurd asks
-  log_of listing.Marks asks h = absurd asks
-  log_of (listing.Rows wanted) asks h = absurd asks
-  log_of (listing.Gone edit) asks h = absurd asks
-  log_of (listing.Log from) asks h = (from, asks, listed (listing.Log from) h)
-  log_of (listing.LogOfKey key) asks h = absurd asks
+  gone_told q (edit, gives, is) h = (edit, gives, listed (listing.Gone edit) q is h)
 
   pub log_told : (q : Question) → AsksOf path.Log query q → AnswersQuestion i q answer → (from : ℕ) × GivesFirstEdit query from × (answer ≡ list_reply (missing_of i (listing.Log from)) (listing_answer i (listing.Log from)))
-  log_told (question.At route e) asks h = absurd asks
-  log_told (question.Route route) asks h = absurd asks
-  log_told (question.Segments route side classes) asks h = absurd asks
-  log_told (question.Translate route e to) asks h = absurd asks
-  log_told (question.Diagram route classes from to) asks h = absurd asks
-  log_told question.Totals asks h = absurd asks
-  log_told (question.Find asset) asks h = absurd asks
-  log_told (question.Where spot) asks h = absurd asks
-  log_told (question.Lengths route) asks h = absurd asks
-  log_told (question.List l) asks h = log_of l asks h
-  log_told question.Health asks h = absurd asks
+  log_told q (from, gives, is) h = (from, gives, listed (listing.Log from) q is h)
 
   pub find_told : (q : Question) → AsksOf path.Find query q → AnswersQuestion i q answer → (asset : ℕ) × GivesAsset query asset × (answer ≡ find_reply (get (state_of i).assets asset) (all_rows_of (state_of i) asset))
-  find_told (question.At route e) asks h = absurd asks
-  find_told (question.Route route) asks h = absurd asks
-  find_told (question.Segments route side classes) asks h = absurd asks
-  find_told (question.Translate route e to) asks h = absurd asks
-  find_told (question.Diagram route classes from to) asks h = absurd asks
-  find_told question.Totals asks h = absurd asks
-  find_told (question.Find asset) asks (said, tells, shows) = (asset, asks, found_said said (get (state_of i).assets asset) (all_rows_of (state_of i) asset) tells shows)
-  find_told (question.Where spot) asks h = absurd asks
-  find_told (question.Lengths route) asks h = absurd asks
-  find_told (question.List l) asks h = absurd asks
-  find_told question.Health asks h = absurd asks
+  find_told q (asset, gives, is) h =
+      let (said, tells, shows) = asked_of q (question.Find asset) is h in
+      (asset, gives, found_said said (get (state_of i).assets asset) (all_rows_of (state_of i) asset) tells shows)
 
   pub at_told : (q : Question) → AsksOf path.At query q → AnswersQuestion i q answer → AtTold query i answer
-  at_told (question.At route e) asks h = record { route = route; position = e; gives_route = asks.0; gives_position = asks.1; tells = h; served = served }
-  at_told (question.Route route) asks h = absurd asks
-  at_told (question.Segments route side classes) asks h = absurd asks
-  at_told (question.Translate route e to) asks h = absurd asks
-  at_told (question.Diagram route classes from to) asks h = absurd asks
-  at_told question.Totals asks h = absurd asks
-  at_told (question.Find asset) asks h = absurd asks
-  at_told (question.Where spot) asks h = absurd asks
-  at_told (question.Lengths route) asks h = absurd asks
-  at_told (question.List l) asks h = absurd asks
-  at_told question.Health asks h = absurd asks
+  at_told q (route, e, by_route, by_position, is) h =
+      record { route = route; position = e; gives_route = by_route; gives_position = by_position; tells = asked_of q (question.At route e) is h; served = served }
 
   pub where_told : (q : Question) → AsksOf path.Where query q → AnswersQuestion i q answer → WhereTold query i answer
-  where_told (question.At route e) asks h = absurd asks
-  where_told (question.Route route) asks h = absurd asks
-  where_told (question.Segments route side classes) asks h = absurd asks
-  where_told (question.Translate route e to) asks h = absurd asks
-  where_told (question.Diagram route classes from to) asks h = absurd asks
-  where_told question.Totals asks h = absurd asks
-  where_told (question.Find asset) asks h = absurd asks
-  where_told (question.Where spot) asks h = record { spot = spot; gives_spot = asks; tells = h; served = served }
-  where_told (question.Lengths route) asks h = absurd asks
-  where_told (question.List l) asks h = absurd asks
-  where_told question.Health asks h = absurd asks
+  where_told q (s, gives, is) h = record { spot = s; gives_spot = gives; tells = asked_of q (question.Where s) is h; served = served }
 
   pub lengths_told : (q : Question) → AsksOf path.Lengths query q → AnswersQuestion i q answer → LengthsTold query i answer
-  lengths_told (question.At route e) asks h = absurd asks
-  lengths_told (question.Route route) asks h = absurd asks
-  lengths_told (question.Segments route side classes) asks h = absurd asks
-  lengths_told (question.Translate route e to) asks h = absurd asks
-  lengths_told (question.Diagram route classes from to) asks h = absurd asks
-  lengths_told question.Totals asks h = absurd asks
-  lengths_told (question.Find asset) asks h = absurd asks
-  lengths_told (question.Where spot) asks h = absurd asks
-  lengths_told (question.Lengths route) asks h = record { route = route; gives_route = asks; tells = h; served = served }
-  lengths_told (question.List l) asks h = absurd asks
-  lengths_told question.Health asks h = absurd asks
+  lengths_told q (route, gives, is) h = record { route = route; gives_route = gives; tells = asked_of q (question.Lengths route) is h; served = served }
 
   pub segments_told : (q : Question) → AsksOf path.Segments query q → AnswersQuestion i q answer → SegmentsTold query i answer
-  segments_told (question.At route e) asks h = absurd asks
-  segments_told (question.Route route) asks h = absurd asks
-  segments_told (question.Segments route side classes) asks h = record { route = route; side = side; classes = classes; gives_route = asks.0; gives_side = asks.1; gives_classes = asks.2; tells = h; served = served }
-  segments_told (question.Translate route e to) asks h = absurd asks
-  segments_told (question.Diagram route classes from to) asks h = absurd asks
-  segments_told question.Totals asks h = absurd asks
-  segments_told (question.Find asset) asks h = absurd asks
-  segments_told (question.Where spot) asks h = absurd asks
-  segments_told (question.Lengths route) asks h = absurd asks
-  segments_told (question.List l) asks h = absurd asks
-  segments_told question.Health asks h = absurd asks
-
-  pub translate_told : (q : Question) → AsksOf path.Translate query q → AnswersQuestion i q answer → TranslateTold query i answer
-  translate_told (question.At route e) asks h = absurd asks
-  translate_told (question.Route route) asks h = absurd asks
-  translate_told (question.Segments route side classes) asks h = absurd asks
-  translate_told (question.Translate route e to) asks h = record {
+  segments_told q (route, side, classes, by_route, by_side, by_classes, is) h = record {
     route = route;
-    position = e;
-    to = to;
-    gives_route = asks.0;
-    gives_position = asks.1;
-    gives_to = asks.2;
-    said = h.0;
-    tells = tells_translated i route e to h.0 h.1;
-    shows = h.2;
+    side = side;
+    classes = classes;
+    gives_route = by_route;
+    gives_side = by_side;
+    gives_classes = by_classes;
+    tells = asked_of q (question.Segments route side classes) is h;
     served = served;
   }
-  translate_told (question.Diagram route classes from to) asks h = absurd asks
-  translate_told question.Totals asks h = absurd asks
-  translate_told (question.Find asset) asks h = absurd asks
-  translate_told (question.Where spot) asks h = absurd asks
-  translate_told (question.Lengths route) asks h = absurd asks
-  translate_told (question.List l) asks h = absurd asks
-  translate_told question.Health asks h = absurd asks
+
+  pub translate_told : (q : Question) → AsksOf path.Translate query q → AnswersQuestion i q answer → TranslateTold query i answer
+  translate_told q (route, e, to, by_route, by_position, by_to, is) h =
+      let (said, tells, shows) = asked_of q (question.Translate route e to) is h in
+      record {
+        route = route;
+        position = e;
+        to = to;
+        gives_route = by_route;
+        gives_position = by_position;
+        gives_to = by_to;
+        said = said;
+        tells = tells_translated i route e to said tells;
+        shows = shows;
+        served = served;
+      }
 
   pub diagram_told : (q : Question) → AsksOf path.Diagram query q → AnswersQuestion i q answer → DiagramTold query i answer
-  diagram_told (question.At route e) asks h = absurd asks
-  diagram_told (question.Route route) asks h = absurd asks
-  diagram_told (question.Segments route side classes) asks h = absurd asks
-  diagram_told (question.Translate route e to) asks h = absurd asks
-  diagram_told (question.Diagram route classes from to) asks h = record {
+  diagram_told q (route, classes, from, to, by_route, by_classes, by_from, by_to, is) h = record {
     route = route;
     classes = classes;
     from = from;
     to = to;
-    gives_route = asks.0;
-    gives_classes = asks.1;
-    gives_from = asks.2;
-    gives_to = asks.3;
-    tells = h;
+    gives_route = by_route;
+    gives_classes = by_classes;
+    gives_from = by_from;
+    gives_to = by_to;
+    tells = asked_of q (question.Diagram route classes from to) is h;
     served = served;
   }
-  diagram_told question.Totals asks h = absurd asks
-  diagram_told (question.Find asset) asks h = absurd asks
-  diagram_told (question.Where spot) asks h = absurd asks
-  diagram_told (question.Lengths route) asks h = absurd asks
-  diagram_told (question.List l) asks h = absurd asks
-  diagram_told question.Health asks h = absurd asks
-
-  route_by : (q : Question) → AsksOf path.Route query q → AnswersQuestion i q answer → RouteTold query i answer
-  route_by (question.At route e) asks h = absurd asks
-  route_by (question.Route route) asks h = inl (route, asks, h)
-  route_by (question.Segments route side classes) asks h = absurd asks
-  route_by (question.Translate route e to) asks h = absurd asks
-  route_by (question.Diagram route classes from to) asks h = absurd asks
-  route_by question.Totals asks h = absurd asks
-  route_by (question.Find asset) asks h = absurd asks
-  route_by (question.Where spot) asks h = absurd asks
-  route_by (question.Lengths route) asks h = absurd asks
-  route_by (question.List l) asks h = absurd asks
-  route_by question.Health asks h = absurd asks
 
   pub route_told : AnswersAsked i path.Route query answer → RouteTold query i answer
-  route_told (inl (q, asks, told)) = route_by q asks told
+  route_told (inl (q, (route, says, is), told)) = inl (route, says, asked_of q (question.Route route) is told)
   route_told (inr (Malformed p, cannot, is)) = absurd cannot
   route_told (inr (NoRoute, cannot, is)) = inr (cannot, is)
   route_told (inr (Lacking, cannot, is)) = absurd (served (ap (λ (a : Answer). a.status) is))

@@ -4,6 +4,7 @@ use Rattle.std.specs.Prelude.{⊤}
 use Rattle.lrs_measure.specs.Texts.{Name}
 use Rattle.lrs_position.specs.declared.expression.Expr.{Expr}
 use Rattle.lrs_events.specs.declared.side.Side.{Side as HandSide}
+use Rattle.lrs_web_requests.specs.declared.paths.Resource.{Resource}
 use Rattle.lrs_web_requests.specs.declared.paths.Resource.TheVariants as path
 use Rattle.lrs_web_replies.specs.declared.question.Parameter.{Parameter}
 use Rattle.lrs_web_replies.specs.declared.question.Parameter.TheVariants.{Route, RouteOrAll, Method, Position, To, Side, Class, ClassOrAll, ClassesOrAll, From, UpTo, Asset, AssetOrAll, FirstEdit, EditOrAll, Chainage, OnLink, Millimetre}
@@ -27,76 +28,52 @@ later query q qs (Malformed p) given among = inr (given, among)
 later query q qs NoRoute given among = absurd among
 later query q qs Memory given among = tt
 
+-- nothing is asked where the fault is the first of the parameters of a resource
+cannot : (resource : Resource) (query : Text) (e : QueryFault) → FaultAmong query (parameters_of resource query) e → CannotAsk resource query e
+cannot resource query (Malformed p) among = among
+cannot resource query NoRoute among = absurd among
+cannot resource query Memory among = tt
+
 position : (query : Text) (qs : List Parameter) (e : QueryFault) → LacksPosition query e → FaultAmong query (Method ∷ Position ∷ qs) e
 position query qs e (inl lacks) = first query Method (Position ∷ qs) e lacks
 position query qs e (inr lacks) = later query Method (Position ∷ qs) e lacks.0 (first query Position qs e lacks.1)
 
-at : (query : Text) (e : QueryFault) → FaultAmong query (Route ∷ Method ∷ Position ∷ []) e → CannotAsk path.At query e
-at query (Malformed p) among = among
-at query NoRoute among = among
-at query Memory among = tt
-
-segments : (query : Text) (e : QueryFault) → FaultAmong query (Route ∷ Side ∷ Class ∷ []) e → CannotAsk path.Segments query e
-segments query (Malformed p) among = among
-segments query NoRoute among = among
-segments query Memory among = tt
-
-translate : (query : Text) (e : QueryFault) → FaultAmong query (Route ∷ Method ∷ Position ∷ To ∷ []) e → CannotAsk path.Translate query e
-translate query (Malformed p) among = among
-translate query NoRoute among = among
-translate query Memory among = tt
-
-diagram : (query : Text) (e : QueryFault) → FaultAmong query (Route ∷ ClassesOrAll ∷ From ∷ UpTo ∷ []) e → CannotAsk path.Diagram query e
-diagram query (Malformed p) among = among
-diagram query NoRoute among = among
-diagram query Memory among = tt
-
-find : (query : Text) (e : QueryFault) → FaultAmong query (Asset ∷ []) e → CannotAsk path.Find query e
-find query (Malformed p) among = among
-find query NoRoute among = among
-find query Memory among = tt
-
-log : (query : Text) (e : QueryFault) → FaultAmong query (FirstEdit ∷ []) e → CannotAsk path.Log query e
-log query (Malformed p) among = among
-log query NoRoute among = among
-log query Memory among = tt
-
 pub at_route : (query : Text) (e : QueryFault) → Lacks Route query e → CannotAsk path.At query e
-at_route query e lacks = at query e (first query Route (Method ∷ Position ∷ []) e lacks)
+at_route query e lacks = cannot path.At query e (first query Route (Method ∷ Position ∷ []) e lacks)
 
 pub at_position : (query : Text) (e : QueryFault) (route : Name) → GivesRoute query route → LacksPosition query e → CannotAsk path.At query e
-at_position query e route given lacks = at query e (later query Route (Method ∷ Position ∷ []) e (route, given) (position query [] e lacks))
+at_position query e route given lacks = cannot path.At query e (later query Route (Method ∷ Position ∷ []) e (route, given) (position query [] e lacks))
 
 pub segments_route : (query : Text) (e : QueryFault) → Lacks Route query e → CannotAsk path.Segments query e
-segments_route query e lacks = segments query e (first query Route (Side ∷ Class ∷ []) e lacks)
+segments_route query e lacks = cannot path.Segments query e (first query Route (Side ∷ Class ∷ []) e lacks)
 
 pub segments_side : (query : Text) (e : QueryFault) (route : Name) → GivesRoute query route → Lacks Side query e → CannotAsk path.Segments query e
-segments_side query e route given lacks = segments query e (later query Route (Side ∷ Class ∷ []) e (route, given) (first query Side (Class ∷ []) e lacks))
+segments_side query e route given lacks = cannot path.Segments query e (later query Route (Side ∷ Class ∷ []) e (route, given) (first query Side (Class ∷ []) e lacks))
 
 pub segments_class : (query : Text) (e : QueryFault) (route : Name) (side : HandSide) → GivesRoute query route → GivesSide query side → Lacks Class query e → CannotAsk path.Segments query e
 segments_class query e route side given seen lacks =
-    segments query e (later query Route (Side ∷ Class ∷ []) e (route, given) (later query Side (Class ∷ []) e (side, seen) (first query Class [] e lacks)))
+    cannot path.Segments query e (later query Route (Side ∷ Class ∷ []) e (route, given) (later query Side (Class ∷ []) e (side, seen) (first query Class [] e lacks)))
 
 pub translate_route : (query : Text) (e : QueryFault) → Lacks Route query e → CannotAsk path.Translate query e
-translate_route query e lacks = translate query e (first query Route (Method ∷ Position ∷ To ∷ []) e lacks)
+translate_route query e lacks = cannot path.Translate query e (first query Route (Method ∷ Position ∷ To ∷ []) e lacks)
 
 pub translate_position : (query : Text) (e : QueryFault) (route : Name) → GivesRoute query route → LacksPosition query e → CannotAsk path.Translate query e
-translate_position query e route given lacks = translate query e (later query Route (Method ∷ Position ∷ To ∷ []) e (route, given) (position query (To ∷ []) e lacks))
+translate_position query e route given lacks = cannot path.Translate query e (later query Route (Method ∷ Position ∷ To ∷ []) e (route, given) (position query (To ∷ []) e lacks))
 
 pub translate_to : (query : Text) (e : QueryFault) (route : Name) (x : Expr) → GivesRoute query route → GivesPosition query x → Lacks To query e → CannotAsk path.Translate query e
 translate_to query e route x given stated lacks =
-    translate query e (
+    cannot path.Translate query e (
     later query Route (Method ∷ Position ∷ To ∷ []) e (route, given) (
     later query Method (Position ∷ To ∷ []) e (stated.0, stated.1) (later query Position (To ∷ []) e (x, stated) (first query To [] e lacks))
     )
     )
 
 pub diagram_route : (query : Text) (e : QueryFault) → Lacks Route query e → CannotAsk path.Diagram query e
-diagram_route query e lacks = diagram query e (first query Route (ClassesOrAll ∷ From ∷ UpTo ∷ []) e lacks)
+diagram_route query e lacks = cannot path.Diagram query e (first query Route (ClassesOrAll ∷ From ∷ UpTo ∷ []) e lacks)
 
 -- behind a route that is given
 behind_route : (query : Text) (e : QueryFault) (route : Name) → GivesRoute query route → FaultAmong query (ClassesOrAll ∷ From ∷ UpTo ∷ []) e → CannotAsk path.Diagram query e
-behind_route query e route given among = diagram query e (later query Route (ClassesOrAll ∷ From ∷ UpTo ∷ []) e (route, given) among)
+behind_route query e route given among = cannot path.Diagram query e (later query Route (ClassesOrAll ∷ From ∷ UpTo ∷ []) e (route, given) among)
 
 -- behind classes, or none, that are given
 behind_classes : (query : Text) (e : QueryFault) (classes : List Name) → GivesClassesOrAll query classes → FaultAmong query (From ∷ UpTo ∷ []) e → FaultAmong query (ClassesOrAll ∷ From ∷ UpTo ∷ []) e
@@ -113,32 +90,22 @@ diagram_to query e route classes from given named began lacks =
     behind_route query e route given (behind_classes query e classes named (later query From (UpTo ∷ []) e (from, began) (first query UpTo [] e lacks)))
 
 pub find_asset : (query : Text) (e : QueryFault) → Lacks Asset query e → CannotAsk path.Find query e
-find_asset query e lacks = find query e (first query Asset [] e lacks)
+find_asset query e lacks = cannot path.Find query e (first query Asset [] e lacks)
 
 pub log_edit : (query : Text) (e : QueryFault) → Lacks FirstEdit query e → CannotAsk path.Log query e
-log_edit query e lacks = log query e (first query FirstEdit [] e lacks)
+log_edit query e lacks = cannot path.Log query e (first query FirstEdit [] e lacks)
 
 -- ---- lists
 
-rows : (query : Text) (e : QueryFault) → FaultAmong query (RouteOrAll ∷ From ∷ UpTo ∷ ClassOrAll ∷ AssetOrAll ∷ []) e → CannotAsk path.Rows query e
-rows query (Malformed p) among = among
-rows query NoRoute among = among
-rows query Memory among = tt
-
-gone : (query : Text) (e : QueryFault) → FaultAmong query (EditOrAll ∷ []) e → CannotAsk path.Gone query e
-gone query (Malformed p) among = among
-gone query NoRoute among = among
-gone query Memory among = tt
-
 pub gone_edit : (query : Text) (e : QueryFault) → Lacks EditOrAll query e → CannotAsk path.Gone query e
-gone_edit query e lacks = gone query e (first query EditOrAll [] e lacks)
+gone_edit query e lacks = cannot path.Gone query e (first query EditOrAll [] e lacks)
 
 pub rows_route : (query : Text) (e : QueryFault) → Lacks RouteOrAll query e → CannotAsk path.Rows query e
-rows_route query e lacks = rows query e (first query RouteOrAll (From ∷ UpTo ∷ ClassOrAll ∷ AssetOrAll ∷ []) e lacks)
+rows_route query e lacks = cannot path.Rows query e (first query RouteOrAll (From ∷ UpTo ∷ ClassOrAll ∷ AssetOrAll ∷ []) e lacks)
 
 -- behind a route, or none, that is given
 rows_behind_route : (query : Text) (e : QueryFault) (route : Option Name) → GivesRouteOrAll query route → FaultAmong query (From ∷ UpTo ∷ ClassOrAll ∷ AssetOrAll ∷ []) e → CannotAsk path.Rows query e
-rows_behind_route query e route given among = rows query e (later query RouteOrAll (From ∷ UpTo ∷ ClassOrAll ∷ AssetOrAll ∷ []) e (route, given) among)
+rows_behind_route query e route given among = cannot path.Rows query e (later query RouteOrAll (From ∷ UpTo ∷ ClassOrAll ∷ AssetOrAll ∷ []) e (route, given) among)
 
 -- behind a start, or none, that is given
 rows_behind_from : (query : Text) (e : QueryFault) (route : Option Name) (from : Option ℕ) → GivesRouteOrAll query route → GivesFrom query from → FaultAmong query (UpTo ∷ ClassOrAll ∷ AssetOrAll ∷ []) e → CannotAsk path.Rows query e
@@ -164,21 +131,14 @@ pub rows_asset : (query : Text) (e : QueryFault) (route : Option Name) (from to 
 rows_asset query e route from to class given began ended named lacks =
     rows_behind_to query e route from to given began ended (later query ClassOrAll (AssetOrAll ∷ []) e (class, named) (first query AssetOrAll [] e lacks))
 
-lengths : (query : Text) (e : QueryFault) → FaultAmong query (RouteOrAll ∷ []) e → CannotAsk path.Lengths query e
-lengths query (Malformed p) among = among
-lengths query NoRoute among = among
-lengths query Memory among = tt
-
 pub lengths_route : (query : Text) (e : QueryFault) → Lacks RouteOrAll query e → CannotAsk path.Lengths query e
-lengths_route query e lacks = lengths query e (first query RouteOrAll [] e lacks)
+lengths_route query e lacks = cannot path.Lengths query e (first query RouteOrAll [] e lacks)
 
 -- ---- places
 
 -- the parameters are by the way in which a place is asked for
 place : (query : Text) (ps : List Parameter) (e : QueryFault) → parameters_of path.Where query ≡ ps → FaultAmong query ps e → CannotAsk path.Where query e
-place query ps (Malformed p) is among = subst (λ qs. IsFirstMalformed query qs p) (sym is) among
-place query ps NoRoute is among = among
-place query ps Memory is among = tt
+place query ps e is among = cannot path.Where query e (subst (λ qs. FaultAmong query qs e) (sym is) among)
 
 by_way : (query : Text) (by : Bool) → is_on_link query ≡ by → parameters_of path.Where query ≡ (if by then OnLink ∷ Millimetre ∷ [] else Route ∷ Chainage ∷ [])
 by_way query by is = ap (λ b. if b then OnLink ∷ Millimetre ∷ [] else Route ∷ Chainage ∷ []) is

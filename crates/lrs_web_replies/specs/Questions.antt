@@ -179,26 +179,31 @@ GivesSpot query (spot.OnRoute route chainage) = (is_on_link query ≡ false) × 
 
 -- ---- what is asked
 
--- What a resource is asked by this argument: a route by its name, any other by the parameters of its query.
+-- What a resource is asked by this argument: a route by its name, any other by what the parameters of its query give.
 abbrev pub AsksOf : Resource → Text → Question → Type 0
-AsksOf path.At query (question.At route e) = GivesRoute query route × GivesPosition query e
-AsksOf path.Route name (question.Route route) = SaysRoute name route
-AsksOf path.Segments query (question.Segments route side classes) = GivesRoute query route × GivesSide query side × GivesClasses query classes
-AsksOf path.Translate query (question.Translate route e to) = GivesRoute query route × GivesPosition query e × GivesDestination query to
+AsksOf path.At query q = (route : Name) × (e : Expr) × GivesRoute query route × GivesPosition query e × (q ≡ question.At route e)
+AsksOf path.Route name q = (route : Name) × SaysRoute name route × (q ≡ question.Route route)
+AsksOf path.Segments query q =
+    (route : Name) × (side : Side) × (classes : List Name) × GivesRoute query route × GivesSide query side × GivesClasses query classes
+    × (q ≡ question.Segments route side classes)
+AsksOf path.Translate query q =
+    (route : Name) × (e : Expr) × (to : Destination) × GivesRoute query route × GivesPosition query e × GivesDestination query to
+    × (q ≡ question.Translate route e to)
 AsksOf path.Totals query q = q ≡ question.Totals
-AsksOf path.Diagram query (question.Diagram route classes from to) =
-    GivesRoute query route × GivesClassesOrAll query classes × GivesFrom query from × GivesUpTo query to
-AsksOf path.Find query (question.Find asset) = GivesAsset query asset
-AsksOf path.Where query (question.Where spot) = GivesSpot query spot
-AsksOf path.Lengths query (question.Lengths route) = GivesRouteOrAll query route
+AsksOf path.Diagram query q =
+    (route : Name) × (classes : List Name) × (from : Option ℕ) × (to : Option ℕ) × GivesRoute query route × GivesClassesOrAll query classes
+    × GivesFrom query from × GivesUpTo query to × (q ≡ question.Diagram route classes from to)
+AsksOf path.Find query q = (asset : ℕ) × GivesAsset query asset × (q ≡ question.Find asset)
+AsksOf path.Where query q = (s : Spot) × GivesSpot query s × (q ≡ question.Where s)
+AsksOf path.Lengths query q = (route : Option Name) × GivesRouteOrAll query route × (q ≡ question.Lengths route)
 AsksOf path.Routes query q = q ≡ question.List listing.Routes
 AsksOf path.Links query q = q ≡ question.List listing.Links
 AsksOf path.Classes query q = q ≡ question.List listing.Classes
 AsksOf path.Refs query q = q ≡ question.List listing.Refs
 AsksOf path.Marks query q = q ≡ question.List listing.Marks
-AsksOf path.Rows query (question.List (listing.Rows wanted)) = GivesRows query wanted
-AsksOf path.Gone query (question.List (listing.Gone edit)) = GivesEditOrAll query edit
-AsksOf path.Log query (question.List (listing.Log from)) = GivesFirstEdit query from
+AsksOf path.Rows query q = (wanted : RowsWanted) × GivesRows query wanted × (q ≡ question.List (listing.Rows wanted))
+AsksOf path.Gone query q = (edit : Option ℕ) × GivesEditOrAll query edit × (q ≡ question.List (listing.Gone edit))
+AsksOf path.Log query q = (from : ℕ) × GivesFirstEdit query from × (q ≡ question.List (listing.Log from))
 AsksOf path.Health query q = q ≡ question.Health
 AsksOf _ argument q = ⊥
 
