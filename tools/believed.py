@@ -162,8 +162,18 @@ class Page:
 
 
 @functools.cache
+def passed_on(crate):
+    """The pages of other crates that a crate passes on under their names, by these names."""
+    listing = CRATES / crate / "specs" / "Lib.antt"
+    lines = re.findall(r"^pub use Rattle\.(lrs_\w+)\.specs\.(\w+)$", listing.read_text(), re.M) if listing.exists() else []
+    return {name: other for other, name in lines}
+
+
+@functools.cache
 def page_of(crate, name):
-    return Page(crate, name)
+    """A page of a crate: its own, or one that it passes on."""
+    other = passed_on(crate).get(name)
+    return page_of(other, name) if other else Page(crate, name)
 
 
 @functools.cache

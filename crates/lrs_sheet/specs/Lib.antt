@@ -1,3 +1,4 @@
+pub use Rattle.lrs_desk.specs.DeskView
 pub mod Replies
 pub mod Sheets
 pub mod Rows

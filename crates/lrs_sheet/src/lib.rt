@@ -8,6 +8,7 @@ mod reply;
 mod resumption;
 mod run;
 
+pub use lrs_desk::{Desk, Fault, Keeper};
 pub use lrs_sheet_records::{ReadFault, Sheet, SheetFault, command_of, survey_of};
 pub use reply::{Reply, Tally};
 pub use resumption::{Decided, last_edit, resume_sheet};
