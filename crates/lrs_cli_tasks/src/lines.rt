@@ -6,7 +6,7 @@ ghost use Rattle.std.specs.Io.KnownBytes.{Appends};
 ghost use Rattle.lrs_machine.specs.Lines.{method_text};
 ghost use Rattle.lrs_cli_tasks.specs.Lines.{at_text, expression_line, found_text, hit_text, link_position_text, listing_text, place_text, position_line, row_text, told_text, total_text, totals_text, whereabouts_text};
 
-use lrs_inventory::Inventory;
+use lrs_desk::Inventory;
 use lrs_machine::{Hit, Listing, Total};
 use lrs_measure::Frac;
 use lrs_position::{Expr, RouteName};
