@@ -1,10 +1,8 @@
-//! What stands behind a fault, and what to do about it.
+//! What stands behind each fault of a job, and what to do about it: lines on standard error.
 
 use crate::inspection::{Found, inspect};
 use crate::job_texts::{has_questions, inventory_of, port_of, sheet_of};
-use lrs_cli_tasks::ProgramFault;
 use lrs_cli_words::Job;
-use lrs_machine::Table;
 use std::fs;
 use std::rt::HostRuntime;
 
@@ -17,7 +15,9 @@ fn say_of(rt: &HostRuntime, name: &str, text: &str) {
     let _ = eprintln!(rt; "explain: {name}: {text}");
 }
 
-fn explain_open(rt: &HostRuntime, db: &str) {
+/// The inventory cannot be opened: what is found at its path.
+pub fn explain_open(rt: &HostRuntime, job: &Job<'_>) {
+    let db = inventory_of(job).unwrap_or("");
     match inspect(rt, db) {
         Found::Nothing => {
             say_of(rt, db, "there is no such file, or no such folder for one");
@@ -84,10 +84,11 @@ fn explain_open(rt: &HostRuntime, db: &str) {
     }
 }
 
-fn explain_unsound(rt: &HostRuntime, db: &str, table: Table) {
-    let fault = ProgramFault::Unsound(table);
+/// What is kept is unsound: this table is.
+pub fn explain_unsound(rt: &HostRuntime, job: &Job<'_>, table: &str) {
+    let db = inventory_of(job).unwrap_or("");
     let _ = eprintln!(rt;
-        "explain: {db}: {fault}: rows of this table break its rules, or do not fit the other tables"
+        "explain: {db}: Unsound:{table}: rows of this table break its rules, or do not fit the other tables"
     );
     say(
         rt,
@@ -95,7 +96,35 @@ fn explain_unsound(rt: &HostRuntime, db: &str, table: Table) {
     );
 }
 
-fn explain_read(rt: &HostRuntime, sheet: &str, of_questions: bool) {
+/// Memory ran out.
+pub fn explain_memory(rt: &HostRuntime) {
+    say(rt, "memory ran out; what was answered done is kept");
+}
+
+/// The inventory was not written.
+pub fn explain_keep(rt: &HostRuntime, job: &Job<'_>) {
+    say_of(
+        rt,
+        inventory_of(job).unwrap_or(""),
+        "the system did not write it: the disk is full, or has failed",
+    );
+    say(
+        rt,
+        "what was answered done is kept; make room, then send the sheet again with --resume",
+    );
+}
+
+/// The inventory was not written before, and has to be opened again.
+pub fn explain_reopening(rt: &HostRuntime) {
+    say(
+        rt,
+        "an earlier command was not written; start the program again",
+    );
+}
+
+/// The sheet was not read.
+pub fn explain_read(rt: &HostRuntime, job: &Job<'_>) {
+    let sheet = sheet_of(job).unwrap_or("");
     if sheet == "stdin" {
         return say(rt, "standard input could not be read to its end");
     }
@@ -105,7 +134,7 @@ fn explain_read(rt: &HostRuntime, sheet: &str, of_questions: bool) {
             let _ = eprintln!(rt; "explain: {sheet}: {error}");
         }
     }
-    if of_questions {
+    if has_questions(job) {
         say(rt, "ask again: questions change nothing");
     } else {
         say(
@@ -115,10 +144,50 @@ fn explain_read(rt: &HostRuntime, sheet: &str, of_questions: bool) {
     }
 }
 
-fn explain_port(rt: &HostRuntime, port: &str) {
+/// The answers, or the page, were not written.
+pub fn explain_write(rt: &HostRuntime) {
+    say(rt, "standard output, or the page's folder, took no more");
+}
+
+// How a sheet is mended.
+fn say_cure(rt: &HostRuntime, job: &Job<'_>) {
+    if has_questions(job) {
+        say(
+            rt,
+            "the header is key,question,a,b,c,d; mend the sheet and ask again",
+        );
+    } else {
+        say(rt, "roadlrs check DB SHEET says where, and what is wanted");
+    }
+}
+
+/// The sheet has another header.
+pub fn explain_header(rt: &HostRuntime, job: &Job<'_>) {
+    let what = if has_questions(job) {
+        "its first line is not the header of such a sheet; nothing was asked"
+    } else {
+        "its first line is not the header of such a sheet; nothing was done"
+    };
+    say_of(rt, sheet_of(job).unwrap_or(""), what);
+    say_cure(rt, job);
+}
+
+/// A record of the sheet has another number of fields than its header.
+pub fn explain_record(rt: &HostRuntime, job: &Job<'_>) {
+    let what = if has_questions(job) {
+        "a record has too few or too many fields; those before it are answered"
+    } else {
+        "a record has too few or too many fields; those before it are done"
+    };
+    say_of(rt, sheet_of(job).unwrap_or(""), what);
+    say_cure(rt, job);
+}
+
+/// The port cannot be listened on.
+pub fn explain_port(rt: &HostRuntime, job: &Job<'_>) {
     say_of(
         rt,
-        port,
+        port_of(job).unwrap_or(""),
         "the port is taken by another program, or only root may listen on it",
     );
     say(
@@ -127,78 +196,8 @@ fn explain_port(rt: &HostRuntime, port: &str) {
     );
 }
 
-fn explain_keep(rt: &HostRuntime, db: &str) {
-    say_of(
-        rt,
-        db,
-        "the system did not write it: the disk is full, or has failed",
-    );
-    say(
-        rt,
-        "what was answered done is kept; make room, then send the sheet again with --resume",
-    );
-}
-
-fn explain_sheet(rt: &HostRuntime, sheet: &str, fault: ProgramFault) {
-    if matches!(fault, ProgramFault::BadHeader) {
-        say_of(
-            rt,
-            sheet,
-            "its first line is not the header of such a sheet; nothing was done",
-        );
-    } else {
-        say_of(
-            rt,
-            sheet,
-            "a record has too few or too many fields; those before it are done",
-        );
-    }
-    say(rt, "roadlrs check DB SHEET says where, and what is wanted");
-}
-
-fn explain_questions(rt: &HostRuntime, sheet: &str, fault: ProgramFault) {
-    if matches!(fault, ProgramFault::BadHeader) {
-        say_of(
-            rt,
-            sheet,
-            "its first line is not the header of such a sheet; nothing was asked",
-        );
-    } else {
-        say_of(
-            rt,
-            sheet,
-            "a record has too few or too many fields; those before it are answered",
-        );
-    }
-    say(
-        rt,
-        "the header is key,question,a,b,c,d; mend the sheet and ask again",
-    );
-}
-
-/// Says on standard error what stands behind a fault of a job, and what to do about it.
-pub fn explain(rt: &HostRuntime, job: &Job<'_>, fault: ProgramFault) {
-    let db = inventory_of(job).unwrap_or("");
-    let sheet = sheet_of(job).unwrap_or("");
-    match fault {
-        ProgramFault::Open => explain_open(rt, db),
-        ProgramFault::Unsound(table) => explain_unsound(rt, db, table),
-        ProgramFault::Memory => say(rt, "memory ran out; what was answered done is kept"),
-        ProgramFault::Keep => explain_keep(rt, db),
-        ProgramFault::MustReopen => {
-            say(
-                rt,
-                "an earlier command was not written; start the program again",
-            );
-        }
-        ProgramFault::Read => explain_read(rt, sheet, has_questions(job)),
-        ProgramFault::Write => say(rt, "standard output, or the page's folder, took no more"),
-        ProgramFault::BadHeader | ProgramFault::BadCsv if has_questions(job) => {
-            explain_questions(rt, sheet, fault);
-        }
-        ProgramFault::BadHeader | ProgramFault::BadCsv => explain_sheet(rt, sheet, fault),
-        ProgramFault::Door => explain_port(rt, port_of(job).unwrap_or("")),
-    }
+/// Where more is said, whatever the fault.
+pub fn name_pages(rt: &HostRuntime) {
     say(
         rt,
         "docs/OPERATING.md has more on faults, docs/SHEETS.md on sheets",

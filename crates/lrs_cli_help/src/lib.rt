@@ -1,7 +1,7 @@
 //! What the program says beside its answers: help on verbs, hints on words that cannot be read, explanations of faults.
 #![tactic(auto)]
 
-mod explanation;
+pub mod explanation;
 mod hints;
 mod inspection;
 mod job_texts;
@@ -9,7 +9,6 @@ mod options;
 mod outlet;
 mod verbs;
 
-pub use explanation::explain;
 pub use hints::hint_at;
 pub use options::{Options, keep_job_words, options_of};
 pub use outlet::is_reader_gone;

@@ -2,6 +2,7 @@
 #![tactic(auto)]
 
 mod desk;
+mod explanation;
 mod jobs;
 mod program;
 mod service;

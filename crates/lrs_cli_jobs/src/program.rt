@@ -1,9 +1,8 @@
 //! The program: its words, what it does for them, and how it ends.
 
+use crate::explanation::explain;
 use crate::jobs::do_job;
-use lrs_cli_help::{
-    Options, explain, hint_at, is_reader_gone, keep_job_words, options_of, verb_help,
-};
+use lrs_cli_help::{Options, hint_at, is_reader_gone, keep_job_words, options_of, verb_help};
 use lrs_cli_sheets::Shown;
 use lrs_cli_tasks::{Ending, ProgramFault, status};
 use lrs_cli_words::{Job, WordsFault, job_of};

@@ -74,7 +74,8 @@ impl From<SheetFault> for ProgramFault {
     }
 }
 
-pub(crate) fn table_name(table: Table) -> &'static str
+/// The name of a table, as the program says it.
+pub fn table_name(table: Table) -> &'static str
     ensures { result.now ≡ table_text table }
 {
     match table {

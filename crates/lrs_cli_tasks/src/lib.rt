@@ -14,7 +14,7 @@ mod task;
 pub use buffer::{behind, buffered};
 pub use desk::{is_in_memory, open_full, open_in_memory};
 pub use endings::{Ending, status};
-pub use fault::ProgramFault;
+pub use fault::{ProgramFault, table_name};
 pub use page::do_page;
 pub use page_file::{PAGE, write_page};
 pub use questions::{answer, do_question};

@@ -1,0 +1,26 @@
+//! What stands behind a fault in which a job ends.
+
+use lrs_cli_help::explanation::{
+    explain_header, explain_keep, explain_memory, explain_open, explain_port, explain_read,
+    explain_record, explain_reopening, explain_unsound, explain_write, name_pages,
+};
+use lrs_cli_tasks::{ProgramFault, table_name};
+use lrs_cli_words::Job;
+use std::rt::HostRuntime;
+
+/// Says on standard error what stands behind a fault of a job, and what to do about it.
+pub(crate) fn explain(rt: &HostRuntime, job: &Job<'_>, fault: ProgramFault) {
+    match fault {
+        ProgramFault::Open => explain_open(rt, job),
+        ProgramFault::Unsound(table) => explain_unsound(rt, job, table_name(table)),
+        ProgramFault::Memory => explain_memory(rt),
+        ProgramFault::Keep => explain_keep(rt, job),
+        ProgramFault::MustReopen => explain_reopening(rt),
+        ProgramFault::Read => explain_read(rt, job),
+        ProgramFault::Write => explain_write(rt),
+        ProgramFault::BadHeader => explain_header(rt, job),
+        ProgramFault::BadCsv => explain_record(rt, job),
+        ProgramFault::Door => explain_port(rt, job),
+    }
+    name_pages(rt);
+}
