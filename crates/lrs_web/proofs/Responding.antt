@@ -2,7 +2,7 @@
 use Rattle.std.proofs.Common.{ℕ, List, Option, None, Some, IfSome, Result, Ok, Err, IfOk, inl, inr, refl}
 use Rattle.lrs_machine.specs.declared.image.Image.{Image}
 use Rattle.lrs_machine.specs.declared.table.Table.{Table}
-use Rattle.lrs_desk.specs.DeskView.{DeskView}
+use Rattle.lrs_sheet.specs.DeskView.{DeskView}
 use Rattle.lrs_web_requests.specs.Request.{Asked, Asks, refused}
 use Rattle.lrs_web_requests.specs.Text.{Answer, empty_answer}
 use Rattle.lrs_web.specs.declared.request.WebFault.{WebFault}

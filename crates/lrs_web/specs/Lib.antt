@@ -1,3 +1,4 @@
+pub use Rattle.lrs_sheet.specs.DeskView
 pub mod Sheets
 pub mod Questions
 pub mod QueryAnswers

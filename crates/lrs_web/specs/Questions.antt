@@ -2,7 +2,7 @@
 use Rattle.std.specs.Prelude.{◌≡◌, ◌⊎◌, true, [], Some, Result}
 use Rattle.lrs_machine.specs.Lines.{Text}
 use Rattle.lrs_machine.specs.declared.image.Image.{Image}
-use Rattle.lrs_desk.specs.DeskView.{DeskView}
+use Rattle.lrs_sheet.specs.DeskView.{DeskView}
 use Rattle.lrs_sheet_records.specs.declared.fault.SheetFault.{SheetFault}
 use Rattle.lrs_sheet_questions.specs.SheetAnswers.{RunsQuestions}
 use Rattle.lrs_sheet_questions.specs.declared.tally.QuestionTally.{QuestionTally}

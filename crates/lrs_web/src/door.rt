@@ -6,7 +6,7 @@ ghost use Rattle.lrs_web.specs.Door.{HasRisen};
 ghost use Rattle.lrs_web.specs.Visits.{IsCut, IsFull, Visited};
 
 use crate::request::{WebFault, refuse, respond};
-use lrs_desk::{Desk, Keeper};
+use lrs_sheet::{Desk, Keeper};
 use lrs_web_requests::{BodyFault, Resource, receive, routes};
 use matchit::Router;
 use std::alloc::Global;

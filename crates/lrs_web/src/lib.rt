@@ -7,4 +7,5 @@ mod request;
 mod sheet;
 
 pub use door::{Door, DoorFault, Served, serve_all};
+pub use lrs_sheet::{Desk, Keeper};
 pub use request::{WebFault, serve_one};

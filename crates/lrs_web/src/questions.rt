@@ -6,7 +6,7 @@ ghost use Rattle.lrs_web.specs.Questions.{AnswersQuestions, RepliesToQuestions};
 
 use crate::sheet::reply_after;
 use http::StatusCode;
-use lrs_desk::{Desk, Keeper};
+use lrs_sheet::{Desk, Keeper};
 use lrs_sheet_questions::ask_all;
 use lrs_web_requests::Response;
 use std::alloc::Global;

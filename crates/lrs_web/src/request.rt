@@ -14,8 +14,7 @@ ghost use Rattle.lrs_web.specs.RequestAnswers.{Does, Responds, Serves, Writes, a
 use crate::questions::answer_questions;
 use crate::sheet::do_sheet;
 use http::StatusCode;
-use lrs_desk::{Desk, Keeper};
-use lrs_sheet::Sheet;
+use lrs_sheet::{Desk, Keeper, Sheet};
 use lrs_web_replies::{question_of, reply_to, unasked};
 use lrs_web_requests::{
     BodyFault, Request, Resource, Response, Verb, receive, routes, write_reply, write_unavailable,
