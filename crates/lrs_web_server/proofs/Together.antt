@@ -2,7 +2,7 @@
 use Rattle.std.proofs.Common.{◌≡◌, ℕ, ◌+◌, List, [], ◌∷◌, ◌++◌, Result, refl, sym, subst, append_assoc, append-nil, length-append, arith}
 use Rattle.lrs_machine.specs.declared.image.Image.{Image}
 use Rattle.lrs_machine.specs.declared.table.Table.{Table}
-use Rattle.lrs_desk.specs.DeskView.{DeskView}
+use Rattle.lrs_web.specs.DeskView.{DeskView}
 use Rattle.lrs_web.specs.Visits.{Exchange, HasVisited, Visits, nobody, full_visit, cut_visit}
 
 module _ {K : Type 0} (holds : K → Result Image Table → Type 0) where

@@ -5,8 +5,7 @@ ghost use Rattle.lrs_web.specs.Visits.{HasVisited};
 
 use crate::hall::Hall;
 use crate::listener::Listening;
-use lrs_desk::{Desk, Keeper};
-use lrs_web::{Door, DoorFault, Served, serve_all};
+use lrs_web::{Desk, Door, DoorFault, Keeper, Served, serve_all};
 use std::alloc::Global;
 use std::cell::RefCell;
 use std::io;
