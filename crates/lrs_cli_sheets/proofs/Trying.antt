@@ -4,7 +4,7 @@ use Rattle.lrs_measure.specs.Limits.{most_assets, most_edits, most_routes}
 use Rattle.lrs_machine.specs.Image.{nothing, state_of}
 use Rattle.lrs_machine.specs.declared.image.Image.{Image}
 use Rattle.lrs_machine.specs.declared.table.Table.{Table}
-use Rattle.lrs_desk.specs.DeskView.{DeskView}
+use Rattle.lrs_sheet.specs.DeskView.{DeskView}
 use Rattle.lrs_sheet_records.specs.declared.sheet.Sheet.{Sheet}
 use Rattle.lrs_sheet.specs.Sheets.{RunsBehind, RunsEdits}
 use Rattle.lrs_sheet_records.specs.declared.fault.SheetFault.{SheetFault}

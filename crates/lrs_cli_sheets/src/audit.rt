@@ -10,11 +10,10 @@ ghost use Rattle.lrs_cli_sheets.specs.Audits.{EndsAudit, IsAudited, IsMadeBy, lo
 use crate::difference::tell_row;
 use crate::sheets::{Pace, Way, run};
 use lrs_cli_tasks::{Ending, ProgramFault, open_in_memory};
-use lrs_desk::{Desk, Keeper};
 use lrs_image::KeptImage;
 use lrs_inventory::Inventory;
 use lrs_machine::Table;
-use lrs_sheet::{Sheet, SheetFault};
+use lrs_sheet::{Desk, Keeper, Sheet, SheetFault};
 use lrs_sheet_log::{first_difference, write_log};
 use std::alloc::Global;
 use std::io;

@@ -6,8 +6,7 @@ ghost use Rattle.lrs_cli_sheets.specs.QuestionSheets.{EndsAsked, EndsQuestions, 
 
 use crate::sheets::{is_whole, unopened};
 use lrs_cli_tasks::{Ending, ProgramFault, behind, buffered};
-use lrs_desk::{Desk, Keeper};
-use lrs_sheet::SheetFault;
+use lrs_sheet::{Desk, Keeper, SheetFault};
 use lrs_sheet_questions::{QuestionTally, ask_all, ask_arriving};
 use std::alloc::Global;
 use std::io::{Read, Write};

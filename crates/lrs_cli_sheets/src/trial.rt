@@ -12,8 +12,9 @@ use crate::sheets::{
     Pace, Way, do_sheet, ending_of, print_replies, read_whole, tell, unopened, write_replies,
 };
 use lrs_cli_tasks::{Ending, ProgramFault, open_full};
-use lrs_desk::{Desk, Inventory, Keeper, Plain};
-use lrs_sheet::{Sheet, SheetFault, Tally, last_edit};
+use lrs_image_plain::Plain;
+use lrs_inventory::Inventory;
+use lrs_sheet::{Desk, Keeper, Sheet, SheetFault, Tally, last_edit};
 use std::alloc::Global;
 use std::io;
 use std::io::Write;
