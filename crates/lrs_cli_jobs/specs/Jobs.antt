@@ -6,14 +6,13 @@ use Rattle.lrs_machine.specs.Image.{nothing, state_of}
 use Rattle.lrs_image.specs.KeeperCalls.{HoldsOnly}
 use Rattle.lrs_desk.specs.DeskView.{DeskView}
 use Rattle.lrs_desk.specs.declared.desk.OpenFault.{OpenFault}
-use Rattle.lrs_sheet.specs.Sheets.{IsAfterCommands}
 use Rattle.lrs_cli_words.specs.Questions.{IsFaultOf}
 use Rattle.lrs_cli_words.specs.declared.job.Job.{Job}
 use Rattle.lrs_cli_words.specs.declared.question.QuestionFault.{QuestionFault}
 use Rattle.lrs_cli_words.specs.declared.question.QuestionFault.TheVariants as unread
 use Rattle.lrs_cli_tasks.specs.Questions.{EndsTold}
 use Rattle.lrs_cli_sheets.specs.QuestionSheets.{EndsQuestions}
-use Rattle.lrs_cli_sheets.specs.Trials.{EndsCheck, EndsRecords}
+use Rattle.lrs_cli_sheets.specs.Trials.{EndsCheck, EndsRecords, IsAfterCommands}
 use Rattle.lrs_cli_sheets.specs.Audits.{EndsAudit}
 use Rattle.lrs_cli_tasks.specs.Faults.{fault_of_open}
 use Rattle.lrs_cli_tasks.specs.Tasks.{IsTaskOf}

@@ -11,6 +11,7 @@ use Rattle.lrs_sheet.specs.DeskView.{DeskView}
 use Rattle.lrs_sheet_records.specs.declared.sheet.Sheet.{Sheet}
 use Rattle.lrs_sheet.specs.Resumption.{IsDecidedBy}
 use Rattle.lrs_sheet.specs.Sheets.{RunsBehind, StandAtFront}
+pub use Rattle.lrs_sheet.specs.Sheets.{IsAfterCommands}
 use Rattle.lrs_sheet_records.specs.declared.fault.SheetFault.{SheetFault}
 use Rattle.lrs_sheet.specs.declared.reply.Tally.{Tally}
 use Rattle.lrs_sheet.specs.declared.resumption.Decided.{Decided}
