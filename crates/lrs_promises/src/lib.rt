@@ -15,6 +15,8 @@ mod translation;
 pub use call_list::headline;
 pub use calls::{Call, CallFault};
 pub use canonical_rows::rows;
+pub use lrs_sheet::SheetFault;
+pub use lrs_web::WebFault;
 pub use steps::{act, act_in_memory, act_on_first, close, open};
 pub use stop::stops;
 pub use translation::{Trip, round_trip};

@@ -4,8 +4,7 @@ use crate::keeper::{Failing, Failure};
 use crate::words::{call_named, open, print};
 use lrs_desk::{Desk, Fault, Keeper, Plain};
 use lrs_machine::Limits;
-use lrs_promises::{Call, CallFault, headline};
-use lrs_sheet::SheetFault;
+use lrs_promises::{Call, CallFault, SheetFault, headline};
 
 /// What a fault is called.
 fn name_of(fault: CallFault) -> &'static str {
