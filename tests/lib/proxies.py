@@ -1,6 +1,8 @@
 """nginx and HAProxy before the program, with the lines of docs/SERVICE.md: only ports and folders are those of a test."""
 
+import base64
 import contextlib
+import http.client
 import os
 import re
 import signal
@@ -48,13 +50,20 @@ def nginx_configuration(folder, *settings):
     )
 
 
-def haproxy_configuration(folder, port, program_port, health):
-    """All that HAProxy is told. The program is asked for `/health` only where that is wanted."""
+AUTH = "http-request auth realm roads if METH_POST !{ http_auth(editors) }"
+
+
+def haproxy_configuration(folder, port, program_port, limited, health):
+    """All that HAProxy is told: where that is wanted, what limits who may edit. The program is asked for `/health` only where that is wanted."""
     (lines,) = blocks_of_the_document("haproxy")
     lines = put(lines, "bind :80\n", f"bind {HOST}:{port}\n")
     lines = put(lines, " 127.0.0.1:8080 ", f" {HOST}:{program_port} ")
     lines = put(lines, "/srv/roads/page/", f"{folder}/")
     lines = put(lines, "    user haproxy\n    group haproxy\n", "")
+    if limited:
+        assert f"`{AUTH}` behind the line of 415" in (TOP / "docs" / "SERVICE.md").read_text()
+        (guard,) = re.findall(r"^    http-request return status 415 .*\n", lines, re.M)
+        lines = put(lines, guard, f"{guard}    {AUTH}\n") + "\nuserlist editors\n    user anna insecure-password secret\n"
     return lines if health else put(lines, " check inter 10s downinter 1s rise 1", "")
 
 
@@ -89,8 +98,24 @@ def web_server(folder, program_port, limited=False, health=False):
     return proxy([NGINX, "-p", str(folder), "-e", f"{folder}/error.log", "-c", str(settings)], port)
 
 
-def balancer(folder, program_port, health=True):
+def balancer(folder, program_port, limited=False, health=True):
     """HAProxy before the program. It reads the page when it starts."""
     port, settings = free_port(), folder / "haproxy.cfg"
-    settings.write_text(haproxy_configuration(folder, port, program_port, health))
+    settings.write_text(haproxy_configuration(folder, port, program_port, limited, health))
     return proxy([HAPROXY, "-f", str(settings)], port)
+
+
+def asked(port, method, path, body=None, kind="text/csv", user=None):
+    """Status and body of a reply of a proxy."""
+    fields = {} if body is None else {"Content-Type": kind}
+    if user:
+        fields["Authorization"] = "Basic " + base64.b64encode(user.encode()).decode()
+    connection = http.client.HTTPConnection(HOST, port, timeout=PATIENCE)
+    with contextlib.closing(connection):
+        connection.request(method, path, body, fields)
+        got = connection.getresponse()
+        return got.status, got.read()
+
+
+def posted(port, path, sheet, **settings):
+    return asked(port, "POST", f"/v1/{path}", sheet, **settings)

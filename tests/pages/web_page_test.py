@@ -4,10 +4,7 @@ Route A1 has 8,000 mm. Asset 10 (SPEED) lies on both sides from chainage 2,500 t
 12 (SIGN) is a point on the right, in the last millimetre but one of the first link. Route LONG has 6 km, and R0 to R149 one millimetre each.
 """
 
-import base64
 import contextlib
-import hashlib
-import http.client
 import re
 import shutil
 import subprocess
@@ -18,7 +15,7 @@ import pytest
 
 from browser import PATIENCE, browsing
 from program import FIRST, FIRST_REPLIES, HEADER, TOP, ends, long_sheet, record, run, sheet_of, with_files_up_to
-from proxies import web_server
+from proxies import asked, posted, web_server
 from serving import HOST, SURVEY_HEADER, started
 from stores import edit
 
@@ -125,22 +122,6 @@ def page(browser, tmp_path):
         fill(opened)
         yield opened
         opened.is_as_it_should_be()
-
-
-def asked(port, method, path, body=None, kind="text/csv", user=None):
-    """Status and body of a reply of nginx."""
-    fields = {} if body is None else {"Content-Type": kind}
-    if user:
-        fields["Authorization"] = "Basic " + base64.b64encode(user.encode()).decode()
-    connection = http.client.HTTPConnection(HOST, port, timeout=PATIENCE)
-    with contextlib.closing(connection):
-        connection.request(method, path, body, fields)
-        got = connection.getresponse()
-        return got.status, got.read()
-
-
-def posted(port, path, sheet, **settings):
-    return asked(port, "POST", f"/v1/{path}", sheet, **settings)
 
 
 # ---- one: the routes
@@ -522,18 +503,35 @@ def test_the_page_is_one_file_and_fits_a_telephone(page):
 
 HOSTILE = """<svg xmlns='http://www.w3.org/2000/svg' xmlns:x='http://www.w3.org/1999/xlink' viewBox='0 0 12000 900' data-from='0' data-to='8000'
  onload='window.hit = 1'><script>window.hit = 2</script><foreignObject><body xmlns='http://www.w3.org/1999/xhtml'><img src='none' onerror='window.hit = 3'/>
-</body></foreignObject><a x:href='javascript:window.hit = 4'><path d='M1000 0h9000'><title>1: &lt;b&gt;</title></path></a></svg>"""
+</body></foreignObject><a x:href='javascript:window.hit = 4'><text>a</text></a><use href='#a'/><image href='/none'/><iframe src='/none'/>
+<a><animate attributeName='href' values='javascript:window.hit = 5'/><text>b</text></a><a><set attributeName='href' to='javascript:window.hit = 6'/></a>
+<set xmlns='http://www.w3.org/2000/svg' attributeName='onclick' to='window.hit = 7'/><animate attributeName='x' from='0' to='1'/>
+<meta xmlns='http://www.w3.org/1999/xhtml' http-equiv='refresh' content='0; url=/none'/><style>@import '/none';</style><style>path { fill: url(none) }</style>
+<path class='t' d='M1000 0h9000' style='fill: url(/none)' onclick='window.hit = 8' mask='url(/none#a)'><title>1: &lt;b&gt;</title></path></svg>"""
 
 
-def test_a_diagram_runs_no_script(page):
+def test_of_a_diagram_from_elsewhere_only_shapes_and_texts_are_shown(page):
     browser = page.browser
     page.opens_route("A1")
     browser.runs("putDiagram(arguments[0])", HOSTILE)
     time.sleep(0.2)
     assert browser.runs("return window.hit === undefined && document.querySelector('#diagram title').textContent === '1: <b>'")
-    assert browser.runs("return document.querySelectorAll('#diagram script, #diagram img, #diagram [onload]').length") == 0
-    assert "href" not in browser.runs("return document.querySelector('#diagram').innerHTML")
+    shown = browser.runs("return [...document.querySelectorAll('#diagram svg, #diagram svg *')].map(e => [e.localName, e.getAttributeNames().sort().join(' ')])")
+    assert shown == [["svg", "data-from data-to viewBox"], ["path", "class d"], ["title", ""]]
+    assert browser.runs("return location.pathname") == "/"
     assert browser.runs("try { putDiagram('<html></html>'); return '' } catch (error) { return error.message }") == "The diagram cannot be read."
+
+
+PARTS = "[...svg.querySelectorAll('*')].map(e => e.localName + [...e.attributes].map(a => ' ' + a.name + '=' + a.value) + (e.children.length ? '' : e.textContent))"
+
+
+def test_the_diagrams_of_the_program_are_shown_whole(page):
+    browser = page.browser
+    page.opens_route("A1")
+    shown = browser.runs(f"const svg = document.querySelector('#diagram svg'); return {PARTS}")
+    status, text = asked(page.port, "GET", "/v1/diagram?route=A1")
+    made = browser.runs(f"const svg = new DOMParser().parseFromString(arguments[0], 'image/svg+xml').documentElement; return {PARTS}", text.decode())
+    assert status == 200 and len(made) > 20 and shown == made
 
 
 UNNAMED = """
@@ -593,13 +591,3 @@ def test_nginx_passes_on_what_the_document_says(page):
     last = record("z2,link,10,5")
     assert posted(page.port, "edits", HEADER + b"\n" * (1_048_576 - len(HEADER) - len(last)) + last) == (200, b"z2,done,167\n")
     assert asked(page.port, "GET", "/v1/at?route=A1&method=rel&pos=KM2%2B500")[0] == 200
-
-
-def test_only_those_who_are_known_may_edit(tmp_path):
-    digest = base64.b64encode(hashlib.sha1(b"secret").digest()).decode()
-    (tmp_path / "roads.users").write_text(f"anna:{{SHA}}{digest}\n")
-    with started() as server, web_server(tmp_path, server.port, limited=True) as port:
-        assert posted(port, "edits", FIRST)[0] == 401
-        assert posted(port, "edits", FIRST, user="anna:guessed")[0] == 401
-        assert asked(port, "GET", "/v1/totals") == (200, b'{"totals":[]}')
-        assert posted(port, "edits", FIRST, user="anna:secret") == (200, FIRST_REPLIES)

@@ -262,12 +262,14 @@ function putDiagram(text) {
   drawMark();
 }
 
-// The program's diagrams have no scripts; a diagram from elsewhere gets none in.
+// What the program's diagrams are made of. Whatever else a diagram has might act or load something, and is left out.
+const SHAPES = /^(svg|title|style|g|path|rect|text)$/, LOOKS = /^(class|d|fill|height|role|text-anchor|transform|viewBox|width|x|y|data-[a-z]+)$/;
+const isShape = ({ namespaceURI, localName, textContent }) =>
+  namespaceURI === SVG && SHAPES.test(localName) && !(localName === "style" && /[^-\s\w#.,:;{}()]|url/i.test(textContent));
 function harmless(svg) {
-  for (const part of [svg, ...svg.querySelectorAll("*")]) {
-    if (/^(script|foreignObject|iframe)$/i.test(part.localName)) part.remove();
-    for (const { name } of [...part.attributes]) if (/^on|href$/i.test(name)) part.removeAttribute(name);
-  }
+  for (const part of svg.querySelectorAll("*")) if (!isShape(part)) part.remove();
+  for (const part of [svg, ...svg.querySelectorAll("*")])
+    for (const look of [...part.attributes]) if (look.namespaceURI || !LOOKS.test(look.name)) part.removeAttributeNode(look);
   return svg;
 }
 
