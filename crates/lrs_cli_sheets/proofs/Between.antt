@@ -13,7 +13,8 @@ use Rattle.lrs_sheet_records.specs.declared.sheet.Sheet.{Sheet}
 use Rattle.lrs_machine.specs.declared.image.Image.{Image}
 use Rattle.lrs_machine.specs.declared.table.Table.{Table}
 use Rattle.lrs_sheet.specs.DeskView.{DeskView}
-use Rattle.lrs_sheet.specs.Sheets.{AreAnswered, HasFailedToKeep, HasStopped, IsAfterCommands, LeavesDesk, Runs, RunsBehind, StandAtFront}
+use Rattle.lrs_sheet.specs.Runs.{IsRunBehind, IsWholeRun}
+use Rattle.lrs_sheet.specs.Sheets.{AreAnswered, BreaksOffBehind, HasFailedToKeep, HasStopped, IsAfterCommands, LeavesDesk, RunsBehind, StandAtFront}
 use Rattle.lrs_machine.specs.Image.{state_of}
 use Rattle.lrs_cli_sheets.specs.declared.sheets.Pace.{Pace}
 use Rattle.lrs_cli_sheets.specs.declared.sheets.Pace.TheVariants.{LineByLine, AsTheyArrive, InGroups, InPieces}
@@ -82,20 +83,50 @@ module _ (front : List (List (List ℕ))) (sheet : Sheet) (together : ℕ) (limi
   runs-between (Err fault.Memory) (inl (state, same)) = inl (state, keeps-between first old new last kept keeps same)
   runs-between (Err fault.Memory) (inr (header, records, replies, is, begins, answered)) = inr (header, records, replies, is, begins, answered-between after records replies answered)
 
-known-between : (known : Option (List ℕ)) (passed : ℕ) (sheet : Sheet) (together : ℕ) (limits : Limits) (before after : State) (first old new last : Option (List ℕ)) (result : Result Tally SheetFault) → Keeps first old → Keeps new last
-    → IfSome known (λ input. (front : List (List (List ℕ))) → StandAtFront input front → length front ≡ passed → RunsBehind front sheet together limits input before after old new result)
-    → IfSome known (λ input. (front : List (List (List ℕ))) → StandAtFront input front → length front ≡ passed → RunsBehind front sheet together limits input before after first last result)
-known-between None passed sheet together limits before after first old new last result kept keeps runs = tt
-known-between (Some input) passed sheet together limits before after first old new last result kept keeps runs =
-    λ front at count. runs-between front sheet together limits input before after first old new last kept keeps result (runs front at count)
+  broken-between : (c : Result Image Table) → BreaksOffBehind front sheet together limits input before after old new c → BreaksOffBehind front sheet together limits input before after first last c
+  unfolding failed-between
+  broken-between c (failed, stands) = (failed-between failed, stands)
 
--- the same where it may be unknown what the reader has left, and what the run leaves of the desk
-pub ran-between : {K : Type 0} (holds : K → Result Image Table → Type 0) (way : Way) (known : Option (List ℕ)) (before after : DeskView K) (first old new last : Option (List ℕ)) (outcome : Result Tally SheetFault)
-    → Keeps first old → Keeps new last → HasRun holds way known before after old new outcome → HasRun holds way known before after first last outcome
-ran-between holds way known before after first old new last outcome kept keeps ran = record {
-  runs = known-between known way.passed way.kind (together_at way.pace) before.limits (state_of before.image) (state_of after.image) first old new last outcome kept keeps ran.runs;
-  desk = ran.desk;
-}
+no_items : {A : Type 0} (xs : List A) → length xs ≡ 0 → xs ≡ []
+no_items [] none = refl
+no_items (x ∷ xs) none = absurd (omega (arith, none))
+
+module _ (passed : ℕ) (P : List ℕ → List (List (List ℕ)) → Type 0) where
+  -- what is so behind each list of records that are passed over implies another
+  each-front : (Q : List ℕ → List (List (List ℕ)) → Type 0) (known : Option (List ℕ)) → ((input : List ℕ) (front : List (List (List ℕ))) → P input front → Q input front)
+      → IfSome known (λ input. (front : List (List (List ℕ))) → StandAtFront input front → length front ≡ passed → P input front)
+      → IfSome known (λ input. (front : List (List (List ℕ))) → StandAtFront input front → length front ≡ passed → Q input front)
+  each-front Q None to h = tt
+  each-front Q (Some input) to h = λ front at count. to input front (h front at count)
+
+  -- where none is passed over
+  behind-none : (known : Option (List ℕ)) → passed ≡ 0 → IfSome known (λ input. P input []) → IfSome known (λ input. (front : List (List (List ℕ))) → StandAtFront input front → length front ≡ passed → P input front)
+  behind-none None none h = tt
+  behind-none (Some input) none h = λ front at count. subst (P input) (sym (no_items front (count ∙ none))) h
+
+module _ {K : Type 0} (holds : K → Result Image Table → Type 0) (way : Way) (known : Option (List ℕ)) (before after : DeskView K) where
+  -- the same where it may be unknown what the reader has left, and what the run leaves of the desk
+  pub ran-between : (first old new last : Option (List ℕ)) (outcome : Result Tally SheetFault) → Keeps first old → Keeps new last → HasRun holds way known before after old new outcome → HasRun holds way known before after first last outcome
+  ran-between first old new last outcome kept keeps ran = record {
+    runs = each-front way.passed _ _ known (λ input front. runs-between front way.kind (together_at way.pace) before.limits input (state_of before.image) (state_of after.image) first old new last kept keeps outcome) ran.runs;
+    desk = ran.desk;
+    broken = λ is c found. each-front way.passed _ _ known (λ input front. broken-between front way.kind (together_at way.pace) before.limits input (state_of before.image) (state_of after.image) first old new last kept keeps c) (ran.broken is c found);
+    still = ran.still;
+    left = ran.left;
+  }
+
+  -- a whole sheet that is run one by one is run behind no record
+  pub ran_whole : (old new : Option (List ℕ)) (outcome : Result Tally SheetFault) → together_at way.pace ≡ 1 → way.passed ≡ 0 → IsWholeRun holds way.kind 1 known before after old new outcome → HasRun holds way known before after old new outcome
+  ran_whole old new outcome one none ran = at_pace (sym one) (record {
+    runs = behind-none way.passed (λ input front. RunsBehind front way.kind 1 before.limits input (state_of before.image) (state_of after.image) old new outcome) known none ran.runs;
+    desk = ran.desk;
+    broken = λ is c found. behind-none way.passed (λ input front. BreaksOffBehind front way.kind 1 before.limits input (state_of before.image) (state_of after.image) old new c) known none (ran.broken is c found);
+    still = ran.still;
+    left = ran.left;
+  })
+    where
+      at_pace : {n : ℕ} → 1 ≡ n → IsRunBehind holds (record { sheet = way.kind; together = 1; passed = way.passed }) known before after old new outcome → IsRunBehind holds (record { sheet = way.kind; together = n; passed = way.passed }) known before after old new outcome
+      at_pace same h = coe 0 1 (k. IsRunBehind holds (record { sheet = way.kind; together = same k; passed = way.passed }) known before after old new outcome) h
 
 -- what a run leaves of a desk: it goes along with its keeper, or a commit failed
 pub either_left : {K : Type 0} (holds : K → Result Image Table → Type 0) (old new : DeskView K) (result : Result Tally SheetFault) → LeavesDesk holds old new result → GoesOnOrBreaks holds old new
@@ -119,29 +150,3 @@ some_together LineByLine = omega (arith)
 some_together AsTheyArrive = omega (arith)
 some_together InGroups = omega (arith)
 some_together InPieces = omega (arith)
-
-no_items : {A : Type 0} (xs : List A) → length xs ≡ 0 → xs ≡ []
-no_items [] none = refl
-no_items (x ∷ xs) none = absurd (omega (arith, none))
-
-module _ {K : Type 0} (holds : K → Result Image Table → Type 0) (way : Way) (before after : DeskView K) (old new : Option (List ℕ)) (outcome : Result Tally SheetFault) where
-  -- what is run with so many records together as the pace says
-  pub ran_together : (known : Option (List ℕ)) (together : ℕ) → together ≡ together_at way.pace
-      → IfSome known (λ input. (front : List (List (List ℕ))) → StandAtFront input front → length front ≡ way.passed → RunsBehind front way.kind together before.limits input (state_of before.image) (state_of after.image) old new outcome)
-      → LeavesDesk holds before after outcome → HasRun holds way known before after old new outcome
-  ran_together known together same runs left = record {
-    runs = subst (λ (n : ℕ). IfSome known (λ input. (front : List (List (List ℕ))) → StandAtFront input front → length front ≡ way.passed → RunsBehind front way.kind n before.limits input (state_of before.image) (state_of after.image) old new outcome)) same runs;
-    desk = left;
-  }
-
-  behind_none : (known : Option (List ℕ)) → way.passed ≡ 0
-      → IfSome known (λ input. Runs way.kind 1 before.limits input (state_of before.image) (state_of after.image) old new outcome)
-      → IfSome known (λ input. (front : List (List (List ℕ))) → StandAtFront input front → length front ≡ way.passed → RunsBehind front way.kind 1 before.limits input (state_of before.image) (state_of after.image) old new outcome)
-  behind_none None none runs = tt
-  behind_none (Some input) none runs = λ front at count. subst (λ (f : List (List (List ℕ))). RunsBehind f way.kind 1 before.limits input (state_of before.image) (state_of after.image) old new outcome) (sym (no_items front (count ∙ none))) runs
-
-  -- a sheet that is run one by one from its start is run behind no record
-  pub ran_whole : (known : Option (List ℕ)) → 1 ≡ together_at way.pace → way.passed ≡ 0
-      → IfSome known (λ input. Runs way.kind 1 before.limits input (state_of before.image) (state_of after.image) old new outcome)
-      → LeavesDesk holds before after outcome → HasRun holds way known before after old new outcome
-  ran_whole known one none runs left = ran_together known 1 one (behind_none known none runs) left

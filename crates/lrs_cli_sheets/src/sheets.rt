@@ -1,15 +1,16 @@
 //! Sheets, from a file or the standard input, and their replies.
 
-ghost use Rattle.std.specs.Prelude.{◌≡◌, ◌⊎◌, IfOk, IfErr, IfSome, false, true};
+ghost use Rattle.std.specs.Prelude.{◌≡◌, ◌⊎◌, false, true};
 ghost use Rattle.lrs_machine.specs.Image.{state_of};
-ghost use Rattle.lrs_sheet.specs.Sheets.{IsAfterCommands, LeavesDesk, Runs};
-ghost use Rattle.lrs_cli_sheets.specs.Sheets.{EndsRun, EndsSheet, HasRun, IsUnwritten, ending_of_sheet, together_at};
+ghost use Rattle.lrs_sheet.specs.Runs.{IsWholeRun};
+ghost use Rattle.lrs_sheet.specs.Sheets.{IsAfterCommands};
+ghost use Rattle.lrs_cli_sheets.specs.Sheets.{EndsRun, EndsSheet, HasRun, WritesReplies, ending_of_sheet, run_of, together_at};
 
 use crate::progress::{Progress, Shown};
 use lrs_cli_tasks::{Ending, ProgramFault, behind, buffered};
 use lrs_sheet::{
-    Decided, Desk, Keeper, RECORDS_TOGETHER, Sheet, SheetFault, Tally, last_edit, run_arriving,
-    run_behind, run_edits, run_survey,
+    Decided, Desk, Keeper, RECORDS_TOGETHER, Run, Sheet, SheetFault, Tally, last_edit, run_arriving, run_behind,
+    run_edits, run_survey,
 };
 use std::alloc::Global;
 use std::io::{ErrorKind, LineWriter, Read, Write};
@@ -47,6 +48,17 @@ fn together_at(pace: Pace) -> usize
     }
 }
 
+// How the records of a sheet are run that is done in this way.
+fn run_of(way: Way) -> Run
+    ensures { result ≡ run_of way }
+{
+    Run {
+        sheet: way.kind,
+        together: together_at(way.pace),
+        passed: way.passed,
+    }
+}
+
 // Runs a sheet's bytes, one record after another.
 fn run_one_by_one<S: Read + Drop, W: Write, K: Keeper>(
     alloc: Global,
@@ -55,12 +67,8 @@ fn run_one_by_one<S: Read + Drop, W: Write, K: Keeper>(
     writer: &mut W,
     desk: &mut Desk<K>,
 ) -> Result<Tally, SheetFault>
-    ensures runs { IfSome (S.remaining sheet) (λ input. Runs kind 1 desk.old.limits input
-        (state_of desk.old.image) (state_of desk.new.image) (W.contents writer.old)
-        (W.contents writer.new) result) }
-    ensures desk { LeavesDesk K.may_hold desk.old desk.new result }
-    ensures left { IsAfterCommands desk.old.limits (state_of desk.old.image)
-        (state_of desk.new.image) }
+    ensures { IsWholeRun K.may_hold kind 1 (S.remaining sheet) desk.old desk.new
+        (W.contents writer.old) (W.contents writer.new) result }
 {
     match kind {
         Sheet::Edits => run_edits(alloc, sheet, writer, desk),
@@ -76,19 +84,17 @@ pub(crate) fn run<S: Read + Drop, W: Write, K: Keeper>(
     writer: &mut W,
     desk: &mut Desk<K>,
 ) -> Result<Tally, SheetFault>
-    ensures ran { HasRun K.may_hold way (S.remaining sheet) desk.old desk.new
+    ensures { HasRun K.may_hold way (S.remaining sheet) desk.old desk.new
         (W.contents writer.old) (W.contents writer.new) result }
-    ensures left { IsAfterCommands desk.old.limits (state_of desk.old.image)
-        (state_of desk.new.image) }
 {
-    let together = together_at(way.pace);
-    if together == 1 && way.passed == 0 {
-        return run_one_by_one(alloc, way.kind, sheet, writer, desk);
+    let run = run_of(way);
+    if run.together == 1 && run.passed == 0 {
+        return run_one_by_one(alloc, run.sheet, sheet, writer, desk);
     }
     if way.pace == Pace::AsTheyArrive {
-        return run_arriving(alloc, way.kind, together, way.passed, sheet, writer, desk);
+        return run_arriving(alloc, run, sheet, writer, desk);
     }
-    run_behind(alloc, way.kind, together, way.passed, sheet, writer, desk)
+    run_behind(alloc, run, sheet, writer, desk)
 }
 
 // Runs a sheet's bytes, writes the lines of its replies as they come, and gives the writer back with all of them. So a
@@ -101,11 +107,8 @@ fn write_lines<S: Read + Drop, W: Write + Drop, K: Keeper>(
     to: W,
     desk: &mut Desk<K>,
 ) -> Result<(W, Result<Tally, SheetFault>), ProgramFault>
-    ensures ran { IfOk result (λ done. HasRun K.may_hold way (S.remaining sheet)
-        desk.old desk.new (W.contents to) (W.contents done.0) done.1) }
-    ensures unwritten { IfErr result (IsUnwritten K.may_hold desk.old desk.new) }
-    ensures left { IsAfterCommands desk.old.limits (state_of desk.old.image)
-        (state_of desk.new.image) }
+    ensures { WritesReplies K.may_hold W.contents way (S.remaining sheet) desk.old desk.new
+        to result }
 {
     let Ok(mut lines) = LineWriter::new(alloc, to) else {
         return Err(ProgramFault::Memory);
@@ -126,11 +129,8 @@ fn write_pieces<S: Read + Drop, W: Write + Drop, K: Keeper>(
     to: W,
     desk: &mut Desk<K>,
 ) -> Result<(W, Result<Tally, SheetFault>), ProgramFault>
-    ensures ran { IfOk result (λ done. HasRun K.may_hold way (S.remaining sheet)
-        desk.old desk.new (W.contents to) (W.contents done.0) done.1) }
-    ensures unwritten { IfErr result (IsUnwritten K.may_hold desk.old desk.new) }
-    ensures left { IsAfterCommands desk.old.limits (state_of desk.old.image)
-        (state_of desk.new.image) }
+    ensures { WritesReplies K.may_hold W.contents way (S.remaining sheet) desk.old desk.new
+        to result }
 {
     let mut pieces = buffered(alloc, to)?;
     let outcome = run(alloc, way, sheet, &mut pieces, desk);
@@ -145,11 +145,8 @@ pub(crate) fn write_replies<S: Read + Drop, W: Write + Drop, K: Keeper>(
     to: W,
     desk: &mut Desk<K>,
 ) -> Result<(W, Result<Tally, SheetFault>), ProgramFault>
-    ensures ran { IfOk result (λ done. HasRun K.may_hold way (S.remaining sheet)
-        desk.old desk.new (W.contents to) (W.contents done.0) done.1) }
-    ensures unwritten { IfErr result (IsUnwritten K.may_hold desk.old desk.new) }
-    ensures left { IsAfterCommands desk.old.limits (state_of desk.old.image)
-        (state_of desk.new.image) }
+    ensures { WritesReplies K.may_hold W.contents way (S.remaining sheet) desk.old desk.new
+        to result }
 {
     match way.pace {
         Pace::LineByLine | Pace::AsTheyArrive | Pace::InGroups => write_lines(

@@ -1,4 +1,3 @@
-pub mod Members
 pub mod Ranks
 pub mod Strict
 pub mod Inserted

@@ -2,7 +2,6 @@ pub mod Counts
 pub mod Counted
 pub mod Running
 pub mod Walked
-pub mod Membership
 pub mod Ordered
 pub mod Joined
 pub mod Whole

@@ -1,4 +1,3 @@
-pub mod Members
 pub mod Unique
 pub mod Rows
 pub mod Coming
@@ -13,7 +12,6 @@ pub mod Gathered
 pub mod Differing
 pub mod Fitting
 pub mod Seams
-pub mod Inserted
 pub mod Sorted
 pub mod Changing
 pub mod Mirrors

@@ -5,9 +5,8 @@ use Rattle.std.specs.Option.{option_or, option_map}
 use Rattle.std.specs.List.{list_any, list_all, flat_map}
 use Rattle.std.proofs.lemmas.Bool.{and_parts, and_from, or_left, eq-eqb}
 use Rattle.std.proofs.lemmas.List.{append-nil}
-use Rattle.lrs_measure.specs.Lists.{each_two}
+use Rattle.lrs_measure.specs.Lists.{In, each_two}
 use Rattle.lrs_measure.specs.Texts.{Name, name_cmp, same_name}
-use Rattle.lrs_ordered.proofs.Places.{two_passing}
 use Rattle.lrs_element.specs.Course.{Millimetre, is_at, runs_over}
 use Rattle.lrs_position.specs.declared.route.Referent.{Referent}
 use Rattle.lrs_position.specs.Routes.{referent_before}
@@ -16,12 +15,13 @@ use Rattle.lrs_machine.specs.declared.command.Command.{Command}
 use Rattle.lrs_machine.specs.declared.image.RouteRow.{RouteRow}
 use Rattle.lrs_machine.specs.declared.image.Image.{Image}
 use Rattle.lrs_measure.specs.Limits.{most_routes}
+use Rattle.lrs_measure.proofs.Members.{any_of}
+use Rattle.lrs_measure.proofs.EachTwo.{two_passing}
 use Rattle.lrs_machine.specs.Register.{put}
 use Rattle.lrs_machine.specs.State.{State}
 use Rattle.lrs_machine.specs.Image.{state_of, holds_on, referents_on, route_entry}
 use Rattle.lrs_machine.specs.Machine.{attempt}
 use Rattle.lrs_machine.specs.Sound.{is_on_a_link, are_spans_of, IsSound}
-use Rattle.lrs_machine.proofs.Members.{In, any_of}
 use Rattle.lrs_image_laws.specs.CommandChanges.{Makes}
 use Rattle.lrs_image_sound.proofs.Fitting.{fits}
 use Rattle.lrs_image.proofs.Tables.{routes_in_order}

@@ -3,9 +3,9 @@ use Rattle.std.proofs.Common.{◌≡◌, ℕ, true, false, List, sym, ap, ◌∙
 use Rattle.std.specs.Prelude.{◌&&◌, nat_eq}
 use Rattle.std.specs.Cmp as cmp
 use Rattle.std.proofs.lemmas.Bool.{both_ways, and_parts, eq-eqb, eqb-true}
+use Rattle.lrs_measure.proofs.Members.{any_found, any_of}
 use Rattle.lrs_element.specs.declared.link.Ground.{Ground}
 use Rattle.lrs_element.specs.Course.{Millimetre, is_at, runs_over, meets}
-use Rattle.lrs_machine.proofs.Members.{any_found, any_of}
 use Rattle.lrs_image_laws.proofs.InOrder.{is_false}
 
 pub nat_eq-comm : (m n : ℕ) → nat_eq m n ≡ nat_eq n m

@@ -8,11 +8,11 @@ use Rattle.std.specs.Cmp.Lexicographic.{slice_cmp}
 use Rattle.std.proofs.lemmas.Bool.{and_parts, and_from, or_left, lt-ltb, ne_eqb}
 use Rattle.std.proofs.lemmas.List.Folds.{list_all-append}
 use Rattle.std.proofs.lemmas.List.Sums.{sum_by-append, sum_by-cons}
-use Rattle.lrs_measure.specs.Lists.{each_two}
+use Rattle.lrs_measure.specs.Lists.{In, each_two}
+use Rattle.lrs_measure.proofs.Members.{all_of}
 use Rattle.lrs_events.specs.declared.part.Part.{Part}
 use Rattle.lrs_events.specs.Parts.{part_before, side_number}
 use Rattle.lrs_machine.specs.Sound.{pairs_of, share_nothing}
-use Rattle.lrs_machine.proofs.Members.{In, all_of}
 use Rattle.lrs_image_laws.specs.Orderly.{share_nothing_in_an_edit}
 
 module _ {X : Type 0} where

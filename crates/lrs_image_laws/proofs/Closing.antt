@@ -17,11 +17,12 @@ use Rattle.lrs_machine.specs.declared.command.Command.TheVariants as verb
 use Rattle.lrs_machine.specs.declared.image.RouteRow.{RouteRow}
 use Rattle.lrs_machine.specs.declared.image.Image.{Image}
 use Rattle.lrs_measure.specs.Limits.{most_routes}
+use Rattle.lrs_measure.specs.Lists.{In}
+use Rattle.lrs_measure.proofs.Members.{flat_map_found}
 use Rattle.lrs_machine.specs.Image.{state_of, holds_on, referents_on, route_entry}
 use Rattle.lrs_machine.specs.Machine.{attempt, ◌>>=◌, abandon, drop_route}
 use Rattle.lrs_machine.specs.Sound.{IsSound}
 use Rattle.lrs_machine.specs.State.{State, Abandoned}
-use Rattle.lrs_machine.proofs.Members.{In, flat_map_found}
 use Rattle.lrs_image_laws.specs.CommandChanges.{Makes}
 use Rattle.lrs_image.proofs.Tables.{routes_in_order}
 use Rattle.lrs_image_laws.specs.GoneRows.{AreGone}

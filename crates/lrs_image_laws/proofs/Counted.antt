@@ -4,15 +4,16 @@ use Rattle.std.specs.Prelude.{◌||◌, ◌&&◌, nat_eq, nat_le, nat_lt, if◌t
 use Rattle.std.specs.List.{list_any, list_all, count_by, range_with_len}
 use Rattle.std.proofs.lemmas.Bool.{false≢true, and_parts, or_cases, cases_Bool, cases_lt, eqb-true, eqb-false, ne_eqb, leb-true, ltb-true, le-leb, lt-leb, lt-ltb, le-ltb}
 use Rattle.std.proofs.lemmas.List.Sums.{sum_by-cons}
-use Rattle.lrs_measure.specs.Lists.{each_two}
+use Rattle.lrs_measure.specs.Lists.{In, each_two}
+use Rattle.lrs_measure.proofs.Members.{any_found, all_at}
+use Rattle.lrs_measure.proofs.Counts.{count_cons, count-none, count_append}
 use Rattle.lrs_element.specs.declared.link.Link.{Link}
 use Rattle.lrs_events.specs.declared.part.Part.{Part}
 use Rattle.lrs_events.specs.Places.{Place, places_of_link}
 use Rattle.lrs_events.specs.Parts.{has_place}
 use Rattle.lrs_machine.specs.Sound.{link_before, share_nothing, pairs_of, places_of, has_asset_place}
-use Rattle.lrs_machine.proofs.Members.{In, any_found, all_at}
 use Rattle.lrs_machine.proofs.Pairs.{place_had, apart}
-use Rattle.lrs_machine.proofs.Counting.{one_more, count-none, count-append, by_millimetre}
+use Rattle.lrs_machine.proofs.Counting.{by_millimetre}
 
 -- ---- counts
 
@@ -38,21 +39,21 @@ module _ {X : Type 0} where
   count-either : (p q : X → Bool) (xs : List X) → ((x : X) → p x ≡ true → q x ≡ true → ⊥) → count_by (λ x. p x || q x) xs ≡ count_by p xs + count_by q xs
   count-either p q [] apart = refl
   count-either p q (x ∷ xs) apart =
-      let a = one_more (λ y. p y || q y) x xs in let b = one_more p x xs in let c = one_more q x xs in
+      let a = count_cons (λ y. p y || q y) x xs in let b = count_cons p x xs in let c = count_cons q x xs in
       let d = either_step (p x) (q x) (count_by p xs) (count_by q xs) (count_by (λ y. p y || q y) xs) (apart x) (count-either p q xs apart) in
       omega (arith, a, b, c, d)
 
   count-both : (p q : X → Bool) (xs : List X) → count_by (λ x. p x || q x) xs ≤ count_by p xs + count_by q xs
   count-both p q [] = omega arith
   count-both p q (x ∷ xs) =
-      let a = one_more (λ y. p y || q y) x xs in let b = one_more p x xs in let c = one_more q x xs in
+      let a = count_cons (λ y. p y || q y) x xs in let b = count_cons p x xs in let c = count_cons q x xs in
       let d = both_step (p x) (q x) (count_by p xs) (count_by q xs) (count_by (λ y. p y || q y) xs) (count-both p q xs) in
       omega (arith, a, b, c, d)
 
   count-more : (p q : X → Bool) (xs : List X) → ((x : X) → p x ≡ true → q x ≡ true) → count_by p xs ≤ count_by q xs
   count-more p q [] w = omega arith
   count-more p q (x ∷ xs) w =
-      let a = one_more p x xs in let b = one_more q x xs in
+      let a = count_cons p x xs in let b = count_cons q x xs in
       let d = more_step (p x) (q x) (count_by p xs) (count_by q xs) (w x) (count-more p q xs w) in
       omega (arith, a, b, d)
 
@@ -85,7 +86,7 @@ in_range : (x : Part) (n s len : ℕ) → nat_eq x.link n ≡ true → count_by 
 in_range x n s zero h = omega arith
 in_range x n s (suc len) h =
     let rest = range_with_len (s + 1) len in
-    one_more (over_mm x n) s rest
+    count_cons (over_mm x n) s rest
     ∙ ap (λ b. cond ((b && nat_le x.from s) && nat_lt s x.to) 1 0 + count_by (over_mm x n) rest) h
     ∙ within_mm x.from x.to s (count_by (over_mm x n) rest) len (in_range x n (s + 1) len h)
 
@@ -95,7 +96,7 @@ on_link x n len h = by_link x n len ∙ in_range x n 0 len h
 nowhere : (x : Part) (links : List Link) → ((k : Link) → In k links → nat_eq x.link k.number ≡ false) → count_by (has_place x) (places_of links) ≡ 0
 nowhere x [] w = refl
 nowhere x (k ∷ ks) w =
-    let a = count-append (has_place x) (places_of_link k.number k.length) (places_of ks) in
+    let a = count_append (has_place x) (places_of_link k.number k.length) (places_of ks) in
     let b = elsewhere_on x k.number k.length (w k (inl refl)) in
     let c = nowhere x ks (λ l m. w l (inr m)) in
     omega (arith, a, b, c)
@@ -111,7 +112,7 @@ one_part x (k ∷ ks) order h = by (cases_Bool (nat_eq x.link k.number)) (one_pa
     both = and_parts (list_all (link_before k) ks) (each_two link_before ks) order
 
     all : count_by (has_place x) (places_of (k ∷ ks)) ≡ count_by (has_place x) (places_of_link k.number k.length) + count_by (has_place x) (places_of ks)
-    all = count-append (has_place x) (places_of_link k.number k.length) (places_of ks)
+    all = count_append (has_place x) (places_of_link k.number k.length) (places_of ks)
 
     by : (nat_eq x.link k.number ≡ true) ⊎ (nat_eq x.link k.number ≡ false) → (list_any (holds_part x) ks ≡ true → count_by (has_place x) (places_of ks) ≡ x.to - x.from)
         → count_by (has_place x) (places_of (k ∷ ks)) ≡ x.to - x.from

@@ -4,13 +4,13 @@ use Rattle.std.specs.Prelude.{not}
 use Rattle.std.specs.List.{list_all, cons_option}
 use Rattle.std.proofs.lemmas.Bool.{and_parts}
 use Rattle.std.proofs.lemmas.List.{append-nil}
-use Rattle.lrs_measure.specs.Lists.{each_two}
+use Rattle.lrs_measure.specs.Lists.{In, each_two}
 use Rattle.lrs_measure.specs.OrderedLists.{insert_by, insert_some, insert_all}
 use Rattle.lrs_measure.specs.Texts.{Name, same_name}
+use Rattle.lrs_measure.proofs.Members.{all_at, In-filter}
 use Rattle.lrs_machine.specs.declared.image.RouteRow.{RouteRow}
 use Rattle.lrs_machine.specs.declared.image.Image.{Image}
 use Rattle.lrs_machine.specs.Sound.{route_before, IsSound}
-use Rattle.lrs_machine.proofs.Members.{In, all_at}
 use Rattle.lrs_image.specs.declared.change.RouteChange.{RouteChange}
 use Rattle.lrs_image.specs.declared.change.Difference.{Difference}
 use Rattle.lrs_image.specs.Change.{is_named, without, without_some, routes_after, with_difference}
@@ -18,7 +18,6 @@ use Rattle.lrs_image.proofs.Named.{others-next, others-none}
 use Rattle.lrs_image.proofs.Tables.{routes_in_order}
 use Rattle.lrs_image_laws.specs.Rewrites.{routes_left, rewritten, with_routes}
 use Rattle.lrs_image_laws.specs.Differences.{rerouting, changed_route, dropped_by, written_by, KeepsFromDropped, DifferenceRewrites}
-use Rattle.lrs_image_laws.proofs.Listed.{In-filter}
 use Rattle.lrs_image_laws.proofs.Naming.{route_chain, without_one, left_in_order}
 
 abbrev name_of : RouteRow → Name

@@ -11,7 +11,7 @@ use Rattle.std.proofs.lemmas.Bool.{both_ways, not-true, and_parts, and_from, or_
 use Rattle.std.proofs.lemmas.List.Folds.{list_all-append, flat_map-map}
 use Rattle.std.proofs.lemmas.Option.{slice_get_within, get_or_from_slice_get, slice_get-get_or}
 use Rattle.std.proofs.lemmas.Map.Lookups.{exact_bytes}
-use Rattle.lrs_measure.specs.Lists.{each_two}
+use Rattle.lrs_measure.specs.Lists.{In, each_two}
 use Rattle.lrs_measure.specs.Texts.{Name, name_cmp, same_name}
 use Rattle.lrs_element.specs.declared.link.Ground.{Ground}
 use Rattle.lrs_element.specs.Course.{Millimetre, ground_at, chainage_on, is_at, meets, runs_over}
@@ -22,15 +22,16 @@ use Rattle.lrs_position.specs.Translations.{alignment_of, referent_at}
 use Rattle.lrs_machine.specs.declared.image.RouteRow.{RouteRow}
 use Rattle.lrs_machine.specs.declared.image.Image.{Image}
 use Rattle.lrs_measure.specs.Limits.{most_routes}
+use Rattle.lrs_measure.proofs.Members.{any_found, any_of, all_at, In-map, In-flat_map, flat_map_found}
+use Rattle.lrs_measure.proofs.Places.{two_pass}
 use Rattle.lrs_machine.specs.Machine.{referent_chainage}
 use Rattle.lrs_machine.specs.Image.{state_of, referent_entry, referents_on}
 use Rattle.lrs_events.specs.Places.{differs}
 use Rattle.lrs_machine.specs.Sound.{IsSound, RouteCourse, RouteReferents, referents_of, courses_of, course_before, is_course, is_on_a_link}
-use Rattle.lrs_machine.proofs.Members.{In, any_found, any_of, all_at, In-map, In-flat_map, flat_map_found, find_found}
 use Rattle.lrs_machine.proofs.Pairs.{each_two-map}
 use Rattle.lrs_machine.proofs.SoundImages.{and_three}
+use Rattle.lrs_machine.proofs.Finding.{find_found}
 use Rattle.lrs_image.proofs.Tables.{passes}
-use Rattle.lrs_events.proofs.LaneLists.Members.{two_pass}
 use Rattle.lrs_image_laws.proofs.Apart.{apart_too}
 
 -- ---- lists

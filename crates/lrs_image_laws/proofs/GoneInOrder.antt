@@ -7,7 +7,7 @@ use Rattle.std.specs.Ordering.{is_lt, nat_cmp, ordering_then}
 use Rattle.std.specs.Cmp.Lexicographic.{slice_cmp}
 use Rattle.std.proofs.lemmas.Bool.{and_parts, or_left, or_right, lt-ltb, leb-true, eqb-true, ne_eqb}
 use Rattle.std.proofs.lemmas.List.Folds.{list_all-map}
-use Rattle.lrs_measure.specs.Lists.{each_two}
+use Rattle.lrs_measure.specs.Lists.{In, each_two}
 use Rattle.lrs_measure.specs.Texts.{same_name}
 use Rattle.lrs_events.specs.declared.part.Part.{Part}
 use Rattle.lrs_events.specs.declared.part.Gone.{Gone}
@@ -16,14 +16,14 @@ use Rattle.lrs_events.specs.Places.{Place}
 use Rattle.lrs_machine.specs.declared.image.Edit.{Edit}
 use Rattle.lrs_machine.specs.declared.image.Image.{Image}
 use Rattle.lrs_measure.specs.Limits.{most_edits}
+use Rattle.lrs_measure.proofs.Members.{In-map, all_at}
+use Rattle.lrs_measure.proofs.EachTwo.{each_two_from}
 use Rattle.lrs_machine.specs.State.{Reason, same_reason}
 use Rattle.lrs_machine.specs.Image.{reason_of}
 use Rattle.lrs_machine.specs.Sound.{gone_before, share_nothing, parts_of, is_named_by, IsSound}
-use Rattle.lrs_machine.proofs.Members.{In, In-map, all_at}
 use Rattle.lrs_machine.proofs.Pairs.{each_two-map}
 use Rattle.lrs_machine.proofs.SoundImages.{and_three}
 use Rattle.lrs_image_laws.specs.Orderly.{IsOrderly, is_filled, share_nothing_for_a_reason}
-use Rattle.lrs_image_laws.proofs.Found.{each_two_from}
 use Rattle.lrs_image_laws.proofs.Ordering.{sound_is_orderly}
 use Rattle.lrs_image.proofs.Tables.{passes}
 use Rattle.lrs_image_laws.specs.GoneRows.{AreGone, AreInOrder, GoneStaysInOrder}

@@ -4,6 +4,7 @@ use Rattle.std.specs.Prelude.{◌&&◌, nat_eq, nat_lt, if◌then◌else◌}
 use Rattle.std.specs.List.{list_any, list_all}
 use Rattle.std.proofs.lemmas.List.Folds.{list_all-map}
 use Rattle.lrs_measure.specs.Lists.{each_two}
+use Rattle.lrs_measure.proofs.Members.{list_any-map}
 use Rattle.lrs_events.specs.declared.part.Part.{Part}
 use Rattle.lrs_events.specs.declared.part.Gone.{Gone}
 use Rattle.lrs_events.specs.Parts.{has_pair, IsHadOnce, part_before}
@@ -11,7 +12,6 @@ use Rattle.lrs_events.specs.Places.{Place}
 use Rattle.lrs_machine.specs.State.{Reason, Retired, Abandoned, same_reason}
 use Rattle.lrs_machine.specs.Image.{reason_of}
 use Rattle.lrs_machine.specs.Sound.{gone_before, parts_of}
-use Rattle.lrs_machine.proofs.Members.{list_any-map}
 use Rattle.lrs_machine.proofs.Pairs.{each_two-map}
 use Rattle.lrs_image_laws.specs.Orderly.{is_filled}
 use Rattle.lrs_image_laws.specs.GoneRows.{AreGone}

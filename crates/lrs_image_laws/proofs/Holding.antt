@@ -3,7 +3,7 @@ use Rattle.std.proofs.Common.{◌≡◌, ℕ, zero, suc, ◌+◌, Bool, true, fa
 use Rattle.std.specs.Prelude.{◌||◌, ◌&&◌, not, nat_eq, nat_le, slice_get}
 use Rattle.std.specs.List.{list_any, list_all, range_with_len}
 use Rattle.std.proofs.lemmas.Bool.{both_ways, not-true, and_parts, and_from, cases_Bool, eq-eqb}
-use Rattle.lrs_measure.specs.Lists.{each_two}
+use Rattle.lrs_measure.specs.Lists.{In, each_two}
 use Rattle.lrs_element.specs.declared.link.Ground.{Ground}
 use Rattle.lrs_element.specs.Course.{meets, runs_over, is_at}
 use Rattle.lrs_position.specs.Routes.{is_route_course}
@@ -20,9 +20,9 @@ use Rattle.lrs_events.proofs.Row.Picked.{rows_hold, sides_picked}
 use Rattle.lrs_machine.specs.declared.image.RouteRow.{RouteRow}
 use Rattle.lrs_machine.specs.declared.image.Image.{Image}
 use Rattle.lrs_measure.specs.Limits.{most_routes}
+use Rattle.lrs_measure.proofs.Members.{any_of, all_at, In-map}
 use Rattle.lrs_machine.specs.Image.{state_of, holds_on}
 use Rattle.lrs_machine.specs.Sound.{IsSound, RouteCourse, course_before, courses_of, is_course, is_on_a_link}
-use Rattle.lrs_machine.proofs.Members.{In, any_of, all_at, In-map}
 use Rattle.lrs_machine.proofs.Pairs.{held, each_two-map}
 use Rattle.lrs_machine.proofs.SoundImages.{and_three}
 use Rattle.lrs_image.proofs.Tables.{passes}

@@ -10,7 +10,8 @@ use Rattle.std.proofs.lemmas.Bool.{false≢true, both_ways, and_parts, and_from,
 use Rattle.std.proofs.lemmas.List.Folds.{list_all-map}
 use Rattle.lrs_measure.specs.Lists.{each_two}
 use Rattle.lrs_measure.specs.OrderedLists.{insert_by}
-use Rattle.lrs_machine.proofs.Members.{all_weaker}
+use Rattle.lrs_measure.proofs.Members.{all_weaker}
+use Rattle.lrs_measure.proofs.Insertions.{all-insert_by}
 
 pub is_false : (b : Bool) → (b ≡ true → ⊥) → b ≡ false
 is_false true h = absurd (h refl)
@@ -27,14 +28,6 @@ other_holds a b fails h = by (or_cases a b h)
     by (inr e) = e
 
 module _ {X : Type 0} where
-  pub all-insert_by : (p : X → Bool) (before : X → X → Bool) (x : X) (xs : List X) → p x ≡ true → list_all p xs ≡ true → list_all p (insert_by before x xs) ≡ true
-  all-insert_by p before x [] here h = and_from (p x) true here refl
-  all-insert_by p before x (y ∷ ys) here h =
-      elim (before x y) as (λ b. list_all p (cond b (x ∷ y ∷ ys) (y ∷ insert_by before x ys)) ≡ true) [
-        | true ↦ and_from (p x) (list_all p (y ∷ ys)) here h
-        | false ↦ and_from (p y) (list_all p (insert_by before x ys)) (and_parts (p y) (list_all p ys) h).0 (all-insert_by p before x ys here (and_parts (p y) (list_all p ys) h).1)
-      ]
-
   pub any-insert_by : (p : X → Bool) (before : X → X → Bool) (x : X) (xs : List X) → list_any p xs ≡ true → list_any p (insert_by before x xs) ≡ true
   any-insert_by p before x [] h = absurd (false≢true h)
   any-insert_by p before x (y ∷ ys) h =

@@ -5,12 +5,13 @@ use Rattle.std.specs.List.{list_all}
 use Rattle.std.proofs.lemmas.Bool.{false≢true, and_parts, and_from, ltb-true, lt-ltb, cases_lt}
 use Rattle.std.proofs.lemmas.List.{length-append}
 use Rattle.std.proofs.lemmas.List.Folds.{list_all-map}
-use Rattle.lrs_measure.specs.Lists.{each_two, is_nothing}
+use Rattle.lrs_measure.specs.Lists.{In, each_two, is_nothing}
 use Rattle.lrs_measure.specs.Texts.{same_name}
 use Rattle.lrs_element.specs.declared.link.Ground.{Ground}
 use Rattle.lrs_element.specs.declared.marks.Mark.{Mark}
 use Rattle.lrs_element.specs.Course.{is_too_long}
 use Rattle.lrs_measure.specs.Limits.{most_marks}
+use Rattle.lrs_measure.proofs.Members.{all_at, all_of, map_found}
 use Rattle.lrs_element.specs.Lines.{moved_on}
 use Rattle.lrs_element.specs.Marks.{no_mark, last_of, bad_mark, are_marks, last_mark, joined_marks, is_out_of_range}
 use Rattle.lrs_element.proofs.Lining.{are_marks-joined}
@@ -22,7 +23,6 @@ use Rattle.lrs_events.specs.Members.{is_member}
 use Rattle.lrs_events.specs.Spans.{are_rows}
 use Rattle.lrs_machine.specs.declared.image.RouteRow.{RouteRow}
 use Rattle.lrs_machine.specs.Sound.{is_span}
-use Rattle.lrs_machine.proofs.Members.{In, all_at, all_of, map_found}
 use Rattle.lrs_machine.proofs.Pairs.{each_two-map}
 use Rattle.lrs_image_sound.proofs.Fitting.{fits}
 use Rattle.lrs_image_laws.specs.Joins.{on_by, joined_refs, AreUnlike, JoinsAreRoutes, JoinsHaveRows}

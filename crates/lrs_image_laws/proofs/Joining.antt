@@ -9,7 +9,7 @@ use Rattle.std.specs.Cmp.Lexicographic.{bytes_decides}
 use Rattle.std.proofs.lemmas.Bool.{both_ways, not-true, and_parts, and_from, or_left, or_right, or_cases, ltb-true, eq-eqb, cases_Bool}
 use Rattle.std.proofs.lemmas.List.{append-nil}
 use Rattle.std.proofs.lemmas.List.Folds.{list_all-append, list_any-append}
-use Rattle.lrs_measure.specs.Lists.{each_two}
+use Rattle.lrs_measure.specs.Lists.{In, each_two}
 use Rattle.lrs_measure.specs.OrderedLists.{insert_by}
 use Rattle.lrs_measure.specs.Texts.{Name, name_cmp, same_name}
 use Rattle.lrs_element.specs.declared.link.Ground.{Ground}
@@ -24,14 +24,14 @@ use Rattle.lrs_machine.specs.declared.command.Command.TheVariants as verb
 use Rattle.lrs_machine.specs.declared.image.RouteRow.{RouteRow}
 use Rattle.lrs_machine.specs.declared.image.Image.{Image}
 use Rattle.lrs_measure.specs.Limits.{most_routes}
+use Rattle.lrs_measure.proofs.Members.{any_found, any_of, all_at, two_at, In-flat_map, flat_map_found, map_found, In-append_cases, In-filter, filter-In}
+use Rattle.lrs_measure.proofs.EachTwo.{joined}
 use Rattle.lrs_machine.specs.Register.{put}
 use Rattle.lrs_machine.specs.State.{State}
 use Rattle.lrs_machine.specs.Image.{state_of, holds_on, referents_on, referent_entry, route_entry}
 use Rattle.lrs_machine.specs.Machine.{attempt, set_route, drop_route}
 use Rattle.lrs_machine.specs.Sound.{is_on_a_link, are_spans_of, route_before, IsSound}
-use Rattle.lrs_machine.proofs.Members.{In, any_found, any_of, all_at, two_at, In-flat_map, flat_map_found, map_found, In-append_cases}
 use Rattle.lrs_image_laws.specs.CommandChanges.{Makes}
-use Rattle.lrs_image_sound.proofs.Coursed.{joined}
 use Rattle.lrs_image_sound.proofs.Fitting.{fits}
 use Rattle.lrs_image.proofs.Tables.{routes_in_order}
 use Rattle.lrs_image_laws.specs.Rewrites.{routes_named, routes_left, rewritten, with_routes, has_referent, runs_at, IsLeft, AreFit}
@@ -41,7 +41,7 @@ use Rattle.lrs_image_laws.specs.Joins.{on_by, IsJoined, JoinMakes}
 use Rattle.lrs_image_laws.proofs.Apart.{apart_too}
 use Rattle.lrs_image_laws.proofs.Differences.{two_left}
 use Rattle.lrs_image_laws.proofs.InOrder.{is_false}
-use Rattle.lrs_image_laws.proofs.Listed.{In-filter, filter-In, length-parted}
+use Rattle.lrs_image_laws.proofs.Listed.{length-parted}
 use Rattle.lrs_image_laws.proofs.Naming.{same_either, earlier_name, later_name, removed, put_rewrites, left_in_order, without_one}
 use Rattle.lrs_image_laws.proofs.Parted.{join_rows_hold}
 use Rattle.lrs_image_laws.proofs.Renaming.{own_names}

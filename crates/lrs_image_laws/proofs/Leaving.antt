@@ -9,8 +9,11 @@ use Rattle.std.specs.Cmp.Lexicographic.{bytes_decides, texts_ties}
 use Rattle.std.proofs.lemmas.Bool.{false≢true, not-true, and_parts, and_from, cases_Bool, eq-eqb}
 use Rattle.std.proofs.lemmas.List.Folds.{list_any-append, list_any_at}
 use Rattle.std.proofs.lemmas.Option.{slice_get_within, get_or_from_slice_get}
-use Rattle.lrs_measure.specs.Lists.{each_two}
+use Rattle.lrs_measure.specs.Lists.{In, each_two}
 use Rattle.lrs_measure.specs.Texts.{Name, name_cmp, same_name}
+use Rattle.lrs_measure.proofs.Members.{any_found, any_of, all_at, In-flat_map, flat_map_found, In-filter, filter-In}
+use Rattle.lrs_measure.proofs.Filters.{each_two-filter}
+use Rattle.lrs_measure.proofs.Insertions.{In-insert_all, insert_all-In}
 use Rattle.lrs_element.specs.declared.link.Ground.{Ground}
 use Rattle.lrs_element.specs.Course.{Millimetre, is_at, runs_over}
 use Rattle.lrs_position.specs.declared.route.Referent.{Referent}
@@ -18,19 +21,17 @@ use Rattle.lrs_events.specs.declared.part.Gone.{Gone}
 use Rattle.lrs_events.specs.Places.{Place, lies_on}
 use Rattle.lrs_events.specs.Parts.{has_pair}
 use Rattle.lrs_events.proofs.Row.Changing.{any_insert_all}
-use Rattle.lrs_events.proofs.LaneLists.Members.{each_two-filter}
 use Rattle.lrs_machine.specs.declared.image.RouteRow.{RouteRow}
 use Rattle.lrs_machine.specs.declared.image.Image.{Image}
 use Rattle.lrs_machine.specs.Image.{state_of, holds_on, referents_on, referent_entry, route_entry, reason_of}
 use Rattle.lrs_machine.specs.Machine.{abandon, elsewhere}
 use Rattle.lrs_machine.specs.Sound.{route_before, IsSound}
 use Rattle.lrs_machine.specs.State.{Reason, Abandoned, same_reason}
-use Rattle.lrs_machine.proofs.Members.{In, any_found, any_of, all_at, In-flat_map, flat_map_found}
 use Rattle.lrs_machine.proofs.Pairs.{held}
 use Rattle.lrs_image_laws.specs.GoneRows.{AreGone}
 use Rattle.lrs_image_laws.proofs.GoneInOrder.{gone_stays_in_order}
 use Rattle.lrs_image_laws.specs.Rewrites.{routes_named, routes_left, rewritten, AreFit}
-use Rattle.lrs_image_laws.proofs.Listed.{In-filter, filter-In, In-insert_all, insert_all-In, any-parted}
+use Rattle.lrs_image_laws.proofs.Listed.{any-parted}
 use Rattle.lrs_image_laws.proofs.Rewriting.{old_unlike, new_unlike, stays_far, orderly}
 use Rattle.lrs_image_laws.proofs.Standing.{option_found, named_once, found_alike}
 use Rattle.lrs_image_laws.specs.Closures.{with_left, is_held_on, LeaveGround, LeavingMakesState, LeavingIsOrderly}

@@ -1,5 +1,4 @@
 pub mod Tables
-pub mod Found
 pub mod Counted
 pub mod Sounding
 pub mod Ordering

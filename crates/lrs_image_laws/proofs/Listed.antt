@@ -3,55 +3,14 @@ use Rattle.std.proofs.Common.{◌≡◌, ◌+◌, Bool, true, false, cond, ◌�
 use Rattle.std.specs.Prelude.{◌||◌, not}
 use Rattle.std.specs.List.{list_any, list_all, flat_map}
 use Rattle.std.proofs.lemmas.Bool.{and_parts}
-use Rattle.lrs_measure.specs.Lists.{each_two}
+use Rattle.lrs_measure.specs.Lists.{In, each_two}
 use Rattle.lrs_measure.specs.OrderedLists.{insert_by, insert_all}
-use Rattle.lrs_ordered.proofs.Places.{two_front, two_rear}
-use Rattle.lrs_events.specs.Row.Order as order
-use Rattle.lrs_events.proofs.Row.Inserted as inserted
-use Rattle.lrs_events.proofs.Row.Replaced as replaced
-use Rattle.lrs_machine.proofs.Members.{In, all_at, all_of, In-flat_map, flat_map_found}
-use Rattle.lrs_image_sound.proofs.Coursed.{joined, across_of}
-use Rattle.lrs_image_laws.proofs.InOrder.{all-insert_by, each_two-insert_among}
+use Rattle.lrs_measure.proofs.Members.{all_at, all_of, In-flat_map, flat_map_found, In-filter}
+use Rattle.lrs_measure.proofs.Insertions.{all-insert_by, In-insert}
+use Rattle.lrs_measure.proofs.EachTwo.{two_front, two_rear, joined, across_of}
+use Rattle.lrs_image_laws.proofs.InOrder.{each_two-insert_among}
 
 module _ {X : Type 0} where
-  -- one word for the members of a list, and another
-  member : (x : X) (xs : List X) → order.In x xs → In x xs
-  member x [] m = m
-  member x (y ∷ ys) (inl e) = inl e
-  member x (y ∷ ys) (inr m) = inr (member x ys m)
-
-  other_member : (x : X) (xs : List X) → In x xs → order.In x xs
-  other_member x [] m = m
-  other_member x (y ∷ ys) (inl e) = inl e
-  other_member x (y ∷ ys) (inr m) = inr (other_member x ys m)
-
-  pub In-filter : (p : X → Bool) (x : X) (xs : List X) → In x (filter p xs) → In x xs × (p x ≡ true)
-  In-filter p x xs m = let k = replaced.in_filter p xs x (other_member x (filter p xs) m) in (member x xs k.0, k.1)
-
-  pub filter-In : (p : X → Bool) (x : X) (xs : List X) → In x xs → p x ≡ true → In x (filter p xs)
-  filter-In p x xs m h = member x (filter p xs) (replaced.filter_in p xs x (other_member x xs m) h)
-
-  pub In-insert : (before : X → X → Bool) (x z : X) (ys : List X) → In z (insert_by before x ys) → (z ≡ x) ⊎ In z ys
-  In-insert before x z ys m = by (inserted.In-insert before x z ys (other_member z (insert_by before x ys) m))
-    where
-      by : (z ≡ x) ⊎ order.In z ys → (z ≡ x) ⊎ In z ys
-      by (inl e) = inl e
-      by (inr k) = inr (member z ys k)
-
-  pub In-insert_all : (before : X → X → Bool) (z : X) (xs ys : List X) → In z (insert_all before xs ys) → In z xs ⊎ In z ys
-  In-insert_all before z xs ys m = by (inserted.In-insert_all before z xs ys (other_member z (insert_all before xs ys) m))
-    where
-      by : order.In z xs ⊎ order.In z ys → In z xs ⊎ In z ys
-      by (inl k) = inl (member z xs k)
-      by (inr k) = inr (member z ys k)
-
-  pub insert_all-In : (before : X → X → Bool) (z : X) (xs ys : List X) → In z xs ⊎ In z ys → In z (insert_all before xs ys)
-  insert_all-In before z xs ys m = member z (insert_all before xs ys) (inserted.insert_all-In before z xs ys (by m))
-    where
-      by : In z xs ⊎ In z ys → order.In z xs ⊎ order.In z ys
-      by (inl k) = inl (other_member z xs k)
-      by (inr k) = inr (other_member z ys k)
-
   pub all-insert_all : (before : X → X → Bool) (p : X → Bool) (xs ys : List X) → list_all p xs ≡ true → list_all p ys ≡ true → list_all p (insert_all before xs ys) ≡ true
   all-insert_all before p [] ys h k = k
   all-insert_all before p (x ∷ xs) ys h k = let both = and_parts (p x) (list_all p xs) h in all-insert_all before p xs (insert_by before x ys) both.1 (all-insert_by p before x ys both.0 k)

@@ -7,6 +7,7 @@ use Rattle.lrs_machine.specs.declared.command.Command.{Command}
 use Rattle.lrs_machine.specs.declared.image.Image.{Image}
 use Rattle.lrs_machine.specs.declared.image.Edit.{Edit}
 use Rattle.lrs_measure.specs.Limits.{most_edits}
+use Rattle.lrs_measure.proofs.EachTwo.{each_two-push}
 use Rattle.lrs_machine.specs.Image.{state_of}
 use Rattle.lrs_machine.specs.Machine.{attempt}
 use Rattle.lrs_machine.specs.Laws.{IsLawful}
@@ -14,7 +15,6 @@ use Rattle.lrs_machine.proofs.Lawful.{made_lawful}
 use Rattle.lrs_machine.proofs.SoundImages.{sound_is_lawful}
 use Rattle.lrs_image_laws.specs.Orderly.{IsOrderly, SoundIsOrderlyLawful}
 use Rattle.lrs_image_laws.specs.CommandChanges.{is_new, with_edit, Makes, MadeIsSound}
-use Rattle.lrs_image_laws.proofs.Found.{each_two-push}
 use Rattle.lrs_image_laws.proofs.Sounding.{kept, orderly_lawful_is_sound}
 use Rattle.lrs_image_laws.proofs.Ordering.{sound_is_orderly}
 

@@ -6,6 +6,8 @@ use Rattle.std.specs.Cmp.Lexicographic.{bytes_decides}
 use Rattle.std.proofs.lemmas.Bool.{both_ways, not-true, cases_Bool}
 use Rattle.std.proofs.lemmas.Map.Lookups.{exact_bytes}
 use Rattle.lrs_measure.specs.Texts.{Name, name_cmp, same_name}
+use Rattle.lrs_measure.specs.Lists.{In}
+use Rattle.lrs_measure.proofs.Members.{flat_map_found}
 use Rattle.lrs_element.specs.declared.link.Ground.{Ground}
 use Rattle.lrs_element.specs.Course.{Millimetre, runs_over}
 use Rattle.lrs_position.specs.declared.route.Referent.{Referent}
@@ -14,7 +16,7 @@ use Rattle.lrs_machine.specs.declared.image.Image.{Image}
 use Rattle.lrs_machine.specs.Image.{state_of, referents_on}
 use Rattle.lrs_machine.specs.Machine.{elsewhere}
 use Rattle.lrs_machine.specs.Sound.{IsSound}
-use Rattle.lrs_machine.proofs.Members.{In, flat_map_found, find_found}
+use Rattle.lrs_machine.proofs.Finding.{find_found}
 use Rattle.lrs_image_laws.proofs.Listed.{made_two}
 use Rattle.lrs_image_laws.proofs.Rewriting.{are_unlike, refs_at, old_far, old_unlike}
 use Rattle.lrs_image_laws.proofs.Running.{found_one}

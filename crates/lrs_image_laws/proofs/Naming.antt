@@ -11,21 +11,21 @@ use Rattle.std.specs.Cmp as cmp
 use Rattle.std.specs.Cmp.Lexicographic.{nat_list_cmp_total, texts_ties, bytes_decides}
 use Rattle.std.specs.FinMap.{find}
 use Rattle.std.proofs.lemmas.Bool.{false≢true, not-true, and_parts, and_from, or_parts}
-use Rattle.lrs_measure.specs.Lists.{each_two}
+use Rattle.lrs_measure.specs.Lists.{In, each_two}
 use Rattle.lrs_measure.specs.OrderedLists.{insert_by, insert_all}
 use Rattle.lrs_measure.specs.Texts.{Name, name_cmp, name_before, same_name}
+use Rattle.lrs_measure.proofs.Members.{all_at, all_of, In-filter}
+use Rattle.lrs_measure.proofs.Filters.{each_two-filter}
+use Rattle.lrs_measure.proofs.Insertions.{In-insert}
 use Rattle.lrs_events.proofs.Row.Unique.{less_one}
-use Rattle.lrs_events.proofs.LaneLists.Members.{each_two-filter}
 use Rattle.lrs_machine.specs.declared.image.RouteRow.{RouteRow}
 use Rattle.lrs_machine.specs.Image.{route_entry}
 use Rattle.lrs_machine.specs.Register.{by_order, put}
 use Rattle.lrs_machine.specs.Sound.{route_before}
-use Rattle.lrs_machine.proofs.Members.{In, all_at, all_of}
 use Rattle.lrs_image.specs.Change.{is_named, without}
 use Rattle.lrs_image.proofs.PutBack.{none_goes}
 use Rattle.lrs_image_laws.specs.Rewrites.{routes_named, routes_left, rewritten}
 use Rattle.lrs_image_laws.proofs.InOrder.{is_false, each_two-insert_by, before-chain, before-comparable}
-use Rattle.lrs_image_laws.proofs.Listed.{In-insert, In-filter}
 
 -- ---- names
 

@@ -4,12 +4,12 @@ use Rattle.std.specs.Prelude.{◌&&◌, nat_eq, nat_lt, nat_le}
 use Rattle.std.specs.List.{list_all, count_by}
 use Rattle.std.proofs.lemmas.Bool.{and_parts, and_from, cases_Bool, eq-eqb, ltb-true, lt-ltb, le-leb}
 use Rattle.std.proofs.lemmas.List.Sums.{sum_by-cons}
-use Rattle.lrs_measure.specs.Lists.{each_two}
+use Rattle.lrs_measure.specs.Lists.{In, each_two}
+use Rattle.lrs_measure.proofs.Members.{all_at, all_of}
 use Rattle.lrs_events.specs.declared.part.Part.{Part}
 use Rattle.lrs_events.specs.Parts.{has_place, has_for, IsHadOnce}
 use Rattle.lrs_events.specs.Places.{Place, same_link_side}
 use Rattle.lrs_machine.specs.Sound.{share_nothing}
-use Rattle.lrs_machine.proofs.Members.{In, all_at, all_of}
 use Rattle.lrs_machine.proofs.Pairs.{is_same_side}
 use Rattle.lrs_image_laws.proofs.Sounding.{Overlap, overlapping}
 

@@ -8,13 +8,13 @@ use Rattle.lrs_events.specs.declared.part.Part.{Part}
 use Rattle.lrs_events.specs.declared.part.Gone.{Gone}
 use Rattle.lrs_events.specs.Parts.{part_before}
 use Rattle.lrs_measure.specs.Limits.{most_pairs}
+use Rattle.lrs_measure.proofs.Members.{all_weaker}
+use Rattle.lrs_measure.proofs.EachTwo.{each_two_from}
 use Rattle.lrs_machine.specs.Sound.{are_spans_of, spans_of, keeps_exclusive, is_part, share_nothing, pairs_of, are_parts, parts_of, gone_before, are_balanced}
-use Rattle.lrs_machine.proofs.Members.{all_weaker}
 use Rattle.lrs_machine.proofs.Pairs.{each_two-map}
 use Rattle.lrs_machine.proofs.SoundImages.{and_three}
 use Rattle.lrs_image.proofs.Tables.{passes, keys_once, few_edits}
 use Rattle.lrs_image_laws.specs.Orderly.{SoundIsOrderly, is_filled, share_nothing_in_an_edit, share_nothing_for_a_reason}
-use Rattle.lrs_image_laws.proofs.Found.{each_two_from}
 
 pub sound_is_orderly : SoundIsOrderly
 sound_is_orderly i s =

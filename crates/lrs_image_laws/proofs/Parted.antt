@@ -6,6 +6,7 @@ use Rattle.std.specs.Cmp.Lexicographic.{bytes_decides}
 use Rattle.std.proofs.lemmas.Bool.{and_parts, and_from, lt-ltb}
 use Rattle.std.proofs.lemmas.List.{take-append-drop, length-take-le}
 use Rattle.lrs_measure.specs.Texts.{Name, same_name}
+use Rattle.lrs_measure.proofs.Members.{any_found, any_of}
 use Rattle.lrs_element.specs.declared.link.Ground.{Ground}
 use Rattle.lrs_events.specs.declared.side.LinkSide.{LinkSide}
 use Rattle.lrs_events.specs.declared.side.LinkSide.TheVariants.{Left, Right}
@@ -17,7 +18,6 @@ use Rattle.lrs_events.specs.Row.CourseMembers.{is_held, is_picked}
 use Rattle.lrs_events.specs.Row.Cuts.{IsCut}
 use Rattle.lrs_events.specs.Row.Joins.{IsJoin}
 use Rattle.lrs_events.proofs.Row.Picked.{rows_hold}
-use Rattle.lrs_machine.proofs.Members.{any_found, any_of}
 
 -- ---- what is said of each class is said of all
 

@@ -8,9 +8,8 @@ use Rattle.std.specs.Cmp.Lexicographic.{bytes_decides}
 use Rattle.std.proofs.lemmas.Bool.{both_ways, and_parts, and_from, leb-true, or_left, cases_Bool, cases_lt, lt-ltb, le-ltb, le-leb, lt-leb, eq-eqb}
 use Rattle.std.proofs.lemmas.List.{append-nil}
 use Rattle.std.proofs.lemmas.List.Folds.{list_all-append, list_any-append}
-use Rattle.lrs_measure.specs.Lists.{each_two}
+use Rattle.lrs_measure.specs.Lists.{In, each_two}
 use Rattle.lrs_measure.specs.Texts.{Name, name_cmp, same_name}
-use Rattle.lrs_ordered.proofs.Places.{two_front, two_rear}
 use Rattle.lrs_element.specs.declared.link.Piece.{Piece}
 use Rattle.lrs_element.specs.declared.link.Ground.{Ground}
 use Rattle.lrs_element.specs.declared.marks.Mark.{Mark}
@@ -33,14 +32,14 @@ use Rattle.lrs_machine.specs.declared.command.Command.TheVariants as verb
 use Rattle.lrs_machine.specs.declared.image.RouteRow.{RouteRow}
 use Rattle.lrs_machine.specs.declared.image.Image.{Image}
 use Rattle.lrs_measure.specs.Limits.{most_routes}
+use Rattle.lrs_measure.proofs.Members.{any_found, any_of, all_at, all_of, In-take, In-drop, In-append_right, In-append_cases, In-flat_map, flat_map_found}
+use Rattle.lrs_measure.proofs.EachTwo.{two_front, two_rear, joined, across_of}
 use Rattle.lrs_machine.specs.Register.{put}
 use Rattle.lrs_machine.specs.State.{State, Abandoned}
 use Rattle.lrs_machine.specs.Image.{state_of, holds_on, referents_on, referent_entry, route_entry}
 use Rattle.lrs_machine.specs.Machine.{attempt, abandon, set_route, do_realign}
 use Rattle.lrs_machine.specs.Sound.{is_on_a_link, is_span, are_spans_of, IsSound}
-use Rattle.lrs_machine.proofs.Members.{In, any_found, any_of, all_at, all_of, In-take, In-drop, In-append_right, In-append_cases, In-flat_map, flat_map_found}
 use Rattle.lrs_image_laws.specs.CommandChanges.{Makes}
-use Rattle.lrs_image_sound.proofs.Coursed.{joined, across_of}
 use Rattle.lrs_image.proofs.Tables.{routes_in_order}
 use Rattle.lrs_image_laws.specs.Rewrites.{routes_named, routes_left, rewritten, has_referent, runs_at, IsLeft, AreFit}
 use Rattle.lrs_image_laws.proofs.Apart.{at_same}

@@ -5,9 +5,10 @@ use Rattle.std.specs.Option.{ok_or}
 use Rattle.std.specs.List.{list_any, list_all, filter_map}
 use Rattle.std.proofs.lemmas.Bool.{false≢true, both_ways}
 use Rattle.std.specs.Cmp.Lexicographic.{bytes_decides}
-use Rattle.lrs_measure.specs.Lists.{each_two}
+use Rattle.lrs_measure.specs.Lists.{In, each_two}
 use Rattle.lrs_measure.specs.OrderedLists.{insert_by}
 use Rattle.lrs_measure.specs.Texts.{name_cmp, same_name}
+use Rattle.lrs_measure.proofs.Members.{any_of, all_at, all_of, In-filter}
 use Rattle.lrs_element.specs.Course.{runs_over}
 use Rattle.lrs_element.specs.Marks.{bad_mark}
 use Rattle.lrs_position.specs.declared.route.Referent.{Referent}
@@ -23,7 +24,6 @@ use Rattle.lrs_machine.specs.State.{State}
 use Rattle.lrs_machine.specs.Image.{state_of, referent_entry, route_entry}
 use Rattle.lrs_machine.specs.Machine.{attempt, refuse_if, refuse_at, check_marks, ◌>>=◌, ◌>>◌, set_route, drop_route}
 use Rattle.lrs_machine.specs.Sound.{is_on_a_link, are_spans_of, route_before, IsSound}
-use Rattle.lrs_machine.proofs.Members.{In, any_of, all_at, all_of}
 use Rattle.lrs_image_laws.specs.CommandChanges.{Makes}
 use Rattle.lrs_image_sound.proofs.Fitting.{fits}
 use Rattle.lrs_image.specs.Change.{is_named}
@@ -34,7 +34,6 @@ use Rattle.lrs_image_laws.specs.Renames.{HasSame, RenumberMakes, RecalibrateMake
 use Rattle.lrs_image_laws.proofs.Alike.{IsAlike, named_ours, put_there, makes}
 pub use Rattle.lrs_image_laws.proofs.Alike.{own_names}
 use Rattle.lrs_image_laws.proofs.InOrder.{is_false}
-use Rattle.lrs_image_laws.proofs.Listed.{In-filter}
 use Rattle.lrs_image_laws.proofs.Naming.{same_either, removed, route_found, route_none, put_rewrites, left_in_order}
 use Rattle.lrs_image_laws.proofs.Rewriting.{its_course, old_spans}
 

@@ -6,20 +6,20 @@ use Rattle.std.specs.Cmp.Lexicographic.{bytes_decides}
 use Rattle.std.proofs.lemmas.Bool.{both_ways, not-true, and_parts, and_from, leb-true, le-leb}
 use Rattle.std.proofs.lemmas.List.{length-map}
 use Rattle.std.proofs.lemmas.List.Folds.{list_all-map, flat_map-map}
-use Rattle.lrs_measure.specs.Lists.{each_two}
+use Rattle.lrs_measure.specs.Lists.{In, each_two}
 use Rattle.lrs_measure.specs.Texts.{Name, same_name}
 use Rattle.lrs_element.specs.declared.link.Ground.{Ground}
 use Rattle.lrs_element.specs.Course.{runs_over, meets}
 use Rattle.lrs_position.specs.declared.route.Referent.{Referent}
 use Rattle.lrs_position.specs.Routes.{is_route_course, are_referents}
 use Rattle.lrs_events.specs.Places.{differs}
-use Rattle.lrs_events.proofs.LaneLists.Inserted.{length-insert_all}
-use Rattle.lrs_events.proofs.LaneLists.Members.{each_two-filter}
 use Rattle.lrs_machine.specs.declared.image.RouteRow.{RouteRow}
 use Rattle.lrs_machine.specs.declared.image.Image.{Image}
 use Rattle.lrs_measure.specs.Limits.{most_routes}
+use Rattle.lrs_measure.proofs.Members.{any_found, any_of, all_at, all_of, two_at, flat_map_found, In-filter}
+use Rattle.lrs_measure.proofs.Filters.{each_two-filter}
+use Rattle.lrs_measure.proofs.Insertions.{length-insert_all}
 use Rattle.lrs_machine.specs.Sound.{are_courses, courses_of, course_before, is_course, are_all_referents, referents_of, are_spans_of, spans_of, is_on_a_link, route_before, IsSound, RouteCourse, RouteReferents, RouteSpans}
-use Rattle.lrs_machine.proofs.Members.{In, any_found, any_of, all_at, all_of, two_at, flat_map_found}
 use Rattle.lrs_machine.proofs.Pairs.{each_two-map}
 use Rattle.lrs_machine.proofs.SoundImages.{and_three}
 use Rattle.lrs_image_laws.specs.Orderly.{IsOrderly}
@@ -29,7 +29,7 @@ use Rattle.lrs_image.proofs.Tables.{routes_in_order}
 use Rattle.lrs_image_laws.specs.Rewrites.{routes_named, routes_left, rewritten, with_routes, has_referent, runs_at, IsLeft, AreFit, RewritingIsOrderly}
 use Rattle.lrs_image_laws.proofs.InOrder.{is_false}
 use Rattle.lrs_image_laws.proofs.Apart.{apart_too, meet_at}
-use Rattle.lrs_image_laws.proofs.Listed.{In-filter, all-insert_all, each_two-insert_all, made_two, made_some, made-insert_all}
+use Rattle.lrs_image_laws.proofs.Listed.{all-insert_all, each_two-insert_all, made_two, made_some, made-insert_all}
 use Rattle.lrs_image_laws.proofs.Naming.{same_either, left_in_order, in_order}
 
 -- the courses of two routes have no millimetre in common

@@ -4,19 +4,20 @@ use Rattle.std.specs.Prelude.{◌||◌, not}
 use Rattle.std.specs.List.{list_any, find}
 use Rattle.std.specs.Option.{option_map, option_or}
 use Rattle.std.proofs.lemmas.Bool.{both_ways, not-true, cases_Bool}
-use Rattle.lrs_measure.specs.Lists.{each_two}
+use Rattle.lrs_measure.specs.Lists.{In, each_two}
 use Rattle.lrs_measure.specs.Texts.{Name, same_name}
+use Rattle.lrs_measure.proofs.Members.{any_found, any_of, two_at, In-filter}
+use Rattle.lrs_measure.proofs.Insertions.{insert_all-In}
 use Rattle.lrs_element.specs.Course.{Millimetre, is_at, meets}
 use Rattle.lrs_events.proofs.Row.Changing.{any_insert_all}
 use Rattle.lrs_machine.specs.declared.image.RouteRow.{RouteRow}
 use Rattle.lrs_machine.specs.declared.image.Image.{Image}
 use Rattle.lrs_machine.specs.Sound.{route_before, IsSound}
-use Rattle.lrs_machine.proofs.Members.{In, any_found, any_of, two_at}
 use Rattle.lrs_image_laws.specs.Rewrites.{routes_named, routes_left, rewritten, AreFit}
 use Rattle.lrs_image_laws.specs.RoutesOver.{runs_on, is_run_by, RewritingMovesGround}
 use Rattle.lrs_image_laws.proofs.InOrder.{is_false, none_found}
 use Rattle.lrs_image_laws.proofs.Apart.{at_is, meet_at}
-use Rattle.lrs_image_laws.proofs.Listed.{In-filter, insert_all-In, any-parted}
+use Rattle.lrs_image_laws.proofs.Listed.{any-parted}
 use Rattle.lrs_image_laws.proofs.Rewriting.{are_far, old_far, new_far, stays_far}
 
 -- what passes is found, where some does

@@ -8,7 +8,7 @@ use Rattle.std.specs.FinMap.{find}
 use Rattle.std.proofs.lemmas.Bool.{false≢true, not-false, and_parts, and_from, or_left, or_right, or_parts, cases_Bool, eqb-true, eq-eqb, leb-true, leb-false, ltb-true, le-leb, lt-ltb}
 use Rattle.std.proofs.lemmas.List.{length-map}
 use Rattle.std.proofs.lemmas.Map.Lookups.{exact_unsigned}
-use Rattle.lrs_measure.specs.Lists.{each_two, same_bool}
+use Rattle.lrs_measure.specs.Lists.{In, each_two, same_bool}
 use Rattle.lrs_measure.specs.Texts.{name_cmp, same_name}
 use Rattle.lrs_element.specs.declared.link.Link.{Link}
 use Rattle.lrs_events.specs.declared.class.Class.{Class}
@@ -28,15 +28,17 @@ use Rattle.lrs_machine.specs.State.{Reason, Retired, Abandoned, same_reason}
 use Rattle.lrs_machine.specs.State as state
 use Rattle.lrs_machine.specs.Image.{state_of, holds_on, link_entry, asset_entry, reason_of}
 use Rattle.lrs_measure.specs.Limits.{most_edits, most_pairs}
+use Rattle.lrs_measure.proofs.Members.{any_found, any_of, all_at, all_of, In-map, list_any-map, map_found}
+use Rattle.lrs_measure.proofs.Counts.{at_most_one}
+use Rattle.lrs_measure.proofs.EachTwo.{each_two_from}
 use Rattle.lrs_machine.specs.Laws.{IsLawful}
 use Rattle.lrs_machine.specs.Sound.{asset_before, are_spans_of, spans_of, gone_before, are_balanced, parts_of, places_of, has_asset_place, holds_in, holders_of, is_asset, keeps_exclusive, is_part, share_nothing, pairs_of, is_balanced_at, is_named_by, are_parts, is_origin}
-use Rattle.lrs_machine.proofs.Members.{In, any_found, any_of, all_at, all_of, In-map, list_any-map, map_found, find_found, find_member, find_numbered}
 use Rattle.lrs_machine.proofs.Pairs.{pair_had, entered_by, has_entered, gone_by, has_gone, takes_away, is_same_reason, is_same_side, same_side_is, each_two-map}
 use Rattle.lrs_machine.proofs.Registers.{some_if_known}
+use Rattle.lrs_machine.proofs.Finding.{find_found, find_member, find_numbered}
 use Rattle.lrs_image.proofs.Tables.{Passes}
 use Rattle.lrs_image_laws.proofs.Tables.{sound}
 use Rattle.lrs_image_laws.specs.Orderly.{IsOrderly, OrderlyLawfulIsSound, is_filled, share_nothing_in_an_edit, share_nothing_for_a_reason}
-use Rattle.lrs_image_laws.proofs.Found.{each_two_from, at_most_one}
 use Rattle.lrs_image_laws.proofs.Counted.{is_on_its_link, fewer}
 
 -- ---- a place of a part

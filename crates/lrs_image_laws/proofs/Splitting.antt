@@ -8,10 +8,9 @@ use Rattle.std.specs.Cmp.Lexicographic.{bytes_decides}
 use Rattle.std.proofs.lemmas.Bool.{both_ways, not-true, and_parts, and_from, or_left, cases_Bool, cases_lt, ltb-true, lt-ltb, eq-eqb, false≢true}
 use Rattle.std.proofs.lemmas.List.Folds.{list_any-append}
 use Rattle.std.proofs.lemmas.List.{append-nil, take-append-drop}
-use Rattle.lrs_measure.specs.Lists.{each_two, is_nothing}
+use Rattle.lrs_measure.specs.Lists.{In, each_two, is_nothing}
 use Rattle.lrs_measure.specs.OrderedLists.{insert_by}
 use Rattle.lrs_measure.specs.Texts.{Name, name_cmp, same_name}
-use Rattle.lrs_ordered.proofs.Places.{two_front, two_rear}
 use Rattle.lrs_element.specs.declared.link.Ground.{Ground}
 use Rattle.lrs_element.specs.Course.{Millimetre, is_at, runs_over, meets, is_too_long}
 use Rattle.lrs_element.specs.Marks.{is_inner_mark, marks_to, marks_from}
@@ -19,21 +18,21 @@ use Rattle.lrs_position.specs.declared.route.Referent.{Referent}
 use Rattle.lrs_position.specs.Locations.{Alignment}
 use Rattle.lrs_events.specs.Places.{Place, differs}
 use Rattle.lrs_events.specs.Spans.{holds_by_spans}
-use Rattle.lrs_events.proofs.LaneLists.Members.{each_two-filter}
 use Rattle.lrs_machine.specs.declared.answer.Cause.TheVariants as cause
 use Rattle.lrs_machine.specs.declared.command.Command.TheVariants as verb
 use Rattle.lrs_machine.specs.declared.image.RouteRow.{RouteRow}
 use Rattle.lrs_machine.specs.declared.image.Image.{Image}
 use Rattle.lrs_measure.specs.Limits.{most_routes}
+use Rattle.lrs_measure.proofs.Members.{any_found, any_of, all_at, all_of, two_at, In-take, In-drop, In-map, In-flat_map, flat_map_found, map_found, In-filter, filter-In}
+use Rattle.lrs_measure.proofs.Filters.{each_two-filter}
+use Rattle.lrs_measure.proofs.EachTwo.{two_front, two_rear, joined, across_of}
 use Rattle.lrs_machine.specs.Register.{put}
 use Rattle.lrs_machine.specs.State.{State}
 use Rattle.lrs_machine.specs.Image.{state_of, holds_on, referents_on, referent_entry, route_entry}
 use Rattle.lrs_machine.specs.Machine.{attempt, refuse_if, ◌>>=◌, ◌>>◌, set_route}
 use Rattle.lrs_machine.specs.Sound.{is_on_a_link, are_spans_of, route_before, IsSound}
-use Rattle.lrs_machine.proofs.Members.{In, any_found, any_of, all_at, all_of, two_at, In-take, In-drop, In-map, In-flat_map, flat_map_found, map_found}
 use Rattle.lrs_machine.proofs.Pairs.{each_two-map}
 use Rattle.lrs_image_laws.specs.CommandChanges.{Makes}
-use Rattle.lrs_image_sound.proofs.Coursed.{joined, across_of}
 use Rattle.lrs_image_sound.proofs.Fitting.{fits}
 use Rattle.lrs_image.specs.Change.{is_named}
 use Rattle.lrs_image.proofs.PutBack.{none_goes}
@@ -45,7 +44,7 @@ use Rattle.lrs_image_laws.specs.Splits.{back_by, is_ahead, IsSplit, SplitMakes}
 use Rattle.lrs_image_laws.proofs.Apart.{meet_at}
 use Rattle.lrs_image_laws.proofs.Differences.{filter-insert_by}
 use Rattle.lrs_image_laws.proofs.InOrder.{is_false}
-use Rattle.lrs_image_laws.proofs.Listed.{In-filter, filter-In, length-parted}
+use Rattle.lrs_image_laws.proofs.Listed.{length-parted}
 use Rattle.lrs_image_laws.proofs.Naming.{same_either, route_chain, only_one, route_found, route_none, put_rewrites, in_order, order_stays, insert_swap, one_way}
 use Rattle.lrs_image_laws.proofs.Parted.{cut_rows_hold}
 use Rattle.lrs_image_laws.proofs.Renaming.{own_names}

@@ -9,22 +9,23 @@ use Rattle.std.specs.Cmp.{tied_itself}
 use Rattle.std.specs.Cmp.Lexicographic.{nat_list_cmp_total, texts_ties}
 use Rattle.std.proofs.lemmas.Bool.{not-true, and_parts, and_from, cases_Bool}
 use Rattle.std.proofs.lemmas.Map.Lookups.{exact_bytes}
-use Rattle.lrs_measure.specs.Lists.{each_two}
+use Rattle.lrs_measure.specs.Lists.{In, each_two}
 use Rattle.lrs_measure.specs.Texts.{Name, name_cmp, same_name}
+use Rattle.lrs_measure.proofs.Members.{all_at, all_of, In-flat_map, flat_map_found, In-filter, filter-In}
+use Rattle.lrs_measure.proofs.Insertions.{In-insert_all, insert_all-In}
+use Rattle.lrs_measure.proofs.EachTwo.{two_front, two_rear, joined, across_of}
 use Rattle.lrs_element.specs.declared.link.Ground.{Ground}
 use Rattle.lrs_element.specs.Course.{Millimetre, ground_at}
 use Rattle.lrs_position.specs.declared.route.Referent.{Referent}
 use Rattle.lrs_events.proofs.Row.Changing.{any_insert_all}
-use Rattle.lrs_ordered.proofs.Places.{two_front, two_rear}
 use Rattle.lrs_machine.specs.declared.image.RouteRow.{RouteRow}
 use Rattle.lrs_machine.specs.declared.image.Image.{Image}
 use Rattle.lrs_machine.specs.Image.{state_of, holds_on, referents_on, referent_entry, route_entry}
 use Rattle.lrs_machine.specs.Sound.{route_before, IsSound}
-use Rattle.lrs_machine.proofs.Members.{In, all_at, all_of, In-flat_map, flat_map_found, find_found}
-use Rattle.lrs_image_sound.proofs.Coursed.{joined, across_of}
+use Rattle.lrs_machine.proofs.Finding.{find_found}
 use Rattle.lrs_image_laws.specs.Rewrites.{routes_named, routes_left, rewritten, with_routes, AreFit}
 use Rattle.lrs_image_laws.specs.SameGround.{SayTheSame, RewritingKeepsState}
-use Rattle.lrs_image_laws.proofs.Listed.{In-filter, filter-In, In-insert_all, insert_all-In, any-parted}
+use Rattle.lrs_image_laws.proofs.Listed.{any-parted}
 use Rattle.lrs_image_laws.proofs.Naming.{same_either}
 use Rattle.lrs_image_laws.proofs.Rewriting.{are_unlike, refs_at, old_unlike, new_unlike}
 

@@ -5,8 +5,10 @@ use Rattle.std.specs.Option.{option_map}
 use Rattle.std.specs.List.{list_all, filter_map, cons_option}
 use Rattle.std.proofs.lemmas.Bool.{and_parts, lt-ltb, ltb-true}
 use Rattle.std.proofs.lemmas.List.Folds.{list_any-append}
-use Rattle.lrs_measure.specs.Lists.{each_two}
+use Rattle.lrs_measure.specs.Lists.{In, each_two}
 use Rattle.lrs_measure.specs.Texts.{Name}
+use Rattle.lrs_measure.proofs.Members.{all_at, all_of, In-append_cases}
+use Rattle.lrs_measure.proofs.EachTwo.{joined}
 use Rattle.lrs_element.specs.declared.link.Ground.{Ground}
 use Rattle.lrs_element.specs.Course.{Millimetre, is_at, runs_over, turned}
 use Rattle.lrs_element.proofs.Expanding.{back, turned-append, length-turned}
@@ -21,8 +23,6 @@ use Rattle.lrs_events.specs.Row.CourseMembers.{is_held, is_picked}
 use Rattle.lrs_events.specs.Row.Turns.{IsTurned}
 use Rattle.lrs_events.proofs.Row.Picked.{rows_hold}
 use Rattle.lrs_machine.specs.Image.{referent_entry}
-use Rattle.lrs_machine.proofs.Members.{In, all_at, all_of, In-append_cases}
-use Rattle.lrs_image_sound.proofs.Coursed.{joined}
 use Rattle.lrs_image_laws.specs.Turns.{from_end}
 use Rattle.lrs_image_laws.proofs.Apart.{at_same}
 use Rattle.lrs_image_laws.proofs.Joining.{get_first, get_last}

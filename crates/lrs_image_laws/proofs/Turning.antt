@@ -6,8 +6,9 @@ use Rattle.std.specs.List.{list_all, filter_map}
 use Rattle.std.specs.Cmp.Lexicographic.{bytes_decides}
 use Rattle.std.proofs.lemmas.Bool.{and_parts, and_from, ltb-true, lt-ltb}
 use Rattle.std.proofs.lemmas.List.Folds.{list_all-map}
-use Rattle.lrs_measure.specs.Lists.{each_two, is_nothing}
+use Rattle.lrs_measure.specs.Lists.{In, each_two, is_nothing}
 use Rattle.lrs_measure.specs.Texts.{name_cmp, same_name}
+use Rattle.lrs_measure.proofs.Members.{any_of, all_at, all_of, map_found}
 use Rattle.lrs_element.specs.Course.{runs_over, turned, is_too_long}
 use Rattle.lrs_element.specs.Marks.{bad_mark, mirrored}
 use Rattle.lrs_element.proofs.Expanding.{length-turned}
@@ -27,7 +28,6 @@ use Rattle.lrs_machine.specs.State.{State}
 use Rattle.lrs_machine.specs.Image.{state_of, referent_entry, route_entry}
 use Rattle.lrs_machine.specs.Machine.{attempt, ◌>>=◌, set_route}
 use Rattle.lrs_machine.specs.Sound.{is_on_a_link, is_span, IsSound}
-use Rattle.lrs_machine.proofs.Members.{In, any_of, all_at, all_of, map_found}
 use Rattle.lrs_machine.proofs.Pairs.{each_two-map}
 use Rattle.lrs_image_laws.specs.CommandChanges.{Makes}
 use Rattle.lrs_image.proofs.Tables.{routes_in_order}

@@ -11,11 +11,11 @@ use Rattle.lrs_machine.specs.declared.command.Command.TheVariants as verb
 use Rattle.lrs_machine.specs.declared.image.RouteRow.{RouteRow}
 use Rattle.lrs_machine.specs.declared.image.Image.{Image}
 use Rattle.lrs_measure.specs.Limits.{most_routes}
+use Rattle.lrs_measure.specs.Lists.{In}
 use Rattle.lrs_machine.specs.Image.{state_of, holds_on, referents_on, route_entry}
 use Rattle.lrs_machine.specs.Machine.{abandon}
 use Rattle.lrs_machine.specs.Sound.{IsSound}
 use Rattle.lrs_machine.specs.State.{Reason, Abandoned}
-use Rattle.lrs_machine.proofs.Members.{In}
 use Rattle.lrs_image_laws.specs.CommandChanges.{Makes}
 use Rattle.lrs_image_laws.specs.Orderly.{IsOrderly}
 use Rattle.lrs_image_laws.specs.GoneRows.{AreGone}

@@ -5,6 +5,7 @@ use Rattle.lrs_measure.specs.Texts.{same_name}
 use Rattle.lrs_element.specs.declared.link.Ground.{Ground}
 use Rattle.lrs_element.specs.Course.{is_too_long}
 use Rattle.lrs_measure.specs.Limits.{most_marks}
+use Rattle.lrs_measure.specs.Lists.{In}
 use Rattle.lrs_element.specs.Marks.{joined_marks, is_out_of_range}
 use Rattle.lrs_position.specs.declared.route.Referent.{Referent}
 use Rattle.lrs_position.specs.Routes.{is_route, referent_before}
@@ -18,7 +19,6 @@ use Rattle.lrs_machine.specs.declared.image.Image.{Image}
 use Rattle.lrs_machine.specs.Machine.{do_join, set_route, drop_route}
 use Rattle.lrs_machine.specs.Image.{state_of}
 use Rattle.lrs_machine.specs.Sound.{are_spans_of, IsSound}
-use Rattle.lrs_machine.proofs.Members.{In}
 use Rattle.lrs_image_laws.specs.CommandChanges.{Makes}
 use Rattle.lrs_image_laws.specs.Rewrites.{rewritten, with_routes}
 

@@ -1,7 +1,7 @@
 -- What a realignment makes of a route.
 use Rattle.std.specs.Prelude.{◌≡◌, ℕ, ◌+◌, ◌-◌, ◌≤◌, Bool, true, false, not, nat_lt, if◌then◌else◌, List, [], ◌∷◌, ◌++◌, take, drop, length, slice_range, Option, Ok, unwrap_or}
 use Rattle.std.specs.List.{list_all}
-use Rattle.lrs_measure.specs.Lists.{each_two}
+use Rattle.lrs_measure.specs.Lists.{In, each_two}
 use Rattle.lrs_element.specs.declared.link.Ground.{Ground}
 use Rattle.lrs_element.specs.declared.link.Piece.{Piece}
 use Rattle.lrs_element.specs.declared.marks.Mark.{Mark}
@@ -21,7 +21,6 @@ use Rattle.lrs_machine.specs.Machine.{do_realign, set_route, abandon}
 use Rattle.lrs_machine.specs.Image.{state_of}
 use Rattle.lrs_machine.specs.Sound.{are_spans_of, is_on_a_link, IsSound}
 use Rattle.lrs_machine.specs.State.{Abandoned}
-use Rattle.lrs_machine.proofs.Members.{In}
 use Rattle.lrs_image_laws.specs.CommandChanges.{Makes}
 use Rattle.lrs_image_laws.specs.GoneRows.{AreGone}
 use Rattle.lrs_image_laws.specs.Closures.{with_left}

@@ -1,11 +1,11 @@
 -- What other marks or another name make of a route.
 use Rattle.std.specs.Prelude.{◌≡◌, false, [], ◌∷◌}
 use Rattle.std.specs.List.{list_any}
+use Rattle.lrs_measure.specs.Lists.{In}
 use Rattle.lrs_machine.specs.declared.command.Command.TheVariants as verb
 use Rattle.lrs_machine.specs.declared.image.RouteRow.{RouteRow}
 use Rattle.lrs_machine.specs.declared.image.Image.{Image}
 use Rattle.lrs_machine.specs.Sound.{IsSound}
-use Rattle.lrs_machine.proofs.Members.{In}
 use Rattle.lrs_image_laws.specs.CommandChanges.{Makes}
 use Rattle.lrs_image.specs.Change.{is_named}
 use Rattle.lrs_image_laws.specs.Rewrites.{rewritten, with_routes}

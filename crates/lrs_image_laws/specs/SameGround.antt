@@ -2,13 +2,13 @@
 use Rattle.std.specs.Prelude.{◌≡◌, ℕ, List, map}
 use Rattle.std.specs.List.{list_any, flat_map}
 use Rattle.lrs_measure.specs.Texts.{Name}
+use Rattle.lrs_measure.specs.Lists.{In}
 use Rattle.lrs_element.specs.Course.{Millimetre}
 use Rattle.lrs_events.specs.Places.{Place}
 use Rattle.lrs_machine.specs.declared.image.RouteRow.{RouteRow}
 use Rattle.lrs_machine.specs.declared.image.Image.{Image}
 use Rattle.lrs_machine.specs.Image.{state_of, holds_on, referents_on, route_entry}
 use Rattle.lrs_machine.specs.Sound.{IsSound}
-use Rattle.lrs_machine.proofs.Members.{In}
 use Rattle.lrs_image_laws.specs.Rewrites.{routes_named, rewritten, with_routes, AreFit}
 
 -- The routes that are written hold what those that are dropped held, and have their referents where these stood.

@@ -2,6 +2,7 @@
 use Rattle.std.specs.Prelude.{◌≡◌, ℕ, ◌-◌, ◌≤◌, Bool, true, false, not, nat_lt, List, [], ◌∷◌, take, drop, map, filter, length}
 use Rattle.std.specs.List.{list_any}
 use Rattle.lrs_measure.specs.Texts.{Name}
+use Rattle.lrs_measure.specs.Lists.{In}
 use Rattle.lrs_element.specs.declared.link.Ground.{Ground}
 use Rattle.lrs_element.specs.Course.{is_too_long}
 use Rattle.lrs_element.specs.Marks.{is_inner_mark, marks_to, marks_from}
@@ -16,7 +17,6 @@ use Rattle.lrs_machine.specs.declared.command.Command.TheVariants as verb
 use Rattle.lrs_machine.specs.declared.image.RouteRow.{RouteRow}
 use Rattle.lrs_machine.specs.declared.image.Image.{Image}
 use Rattle.lrs_machine.specs.Sound.{are_spans_of, IsSound}
-use Rattle.lrs_machine.proofs.Members.{In}
 use Rattle.lrs_image_laws.specs.CommandChanges.{Makes}
 use Rattle.lrs_image.specs.Change.{is_named}
 use Rattle.lrs_image_laws.specs.Rewrites.{rewritten, with_routes}

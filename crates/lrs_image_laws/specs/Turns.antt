@@ -1,5 +1,6 @@
 -- What a turn makes of a route.
 use Rattle.std.specs.Prelude.{◌≡◌, ℕ, ◌-◌, true, false, List, [], ◌∷◌, map, length}
+use Rattle.lrs_measure.specs.Lists.{In}
 use Rattle.lrs_element.specs.declared.link.Ground.{Ground}
 use Rattle.lrs_element.specs.Course.{turned, is_too_long}
 use Rattle.lrs_element.specs.Marks.{mirrored}
@@ -14,7 +15,6 @@ use Rattle.lrs_machine.specs.declared.command.Command.TheVariants as verb
 use Rattle.lrs_machine.specs.declared.image.RouteRow.{RouteRow}
 use Rattle.lrs_machine.specs.declared.image.Image.{Image}
 use Rattle.lrs_machine.specs.Sound.{are_spans_of, IsSound}
-use Rattle.lrs_machine.proofs.Members.{In}
 use Rattle.lrs_image_laws.specs.CommandChanges.{Makes}
 use Rattle.lrs_image_laws.specs.Rewrites.{rewritten, with_routes}
 

@@ -2,27 +2,24 @@
 use Rattle.std.proofs.Common.{◌≡◌, ◌↔◌, ℕ, ◌+◌, Bool, true, false, cond, ◌⊎◌, inl, inr, List, [], ◌∷◌, ◌++◌, refl, sym, ap, subst, ◌∙◌, arith}
 use Rattle.std.specs.Prelude.{◌||◌, ◌&&◌, not}
 use Rattle.std.specs.List.{AllByRecursion, list_all}
-use Rattle.std.proofs.lemmas.Bool.{false≢true, and_parts, and_from, cases_Bool, ltb-true}
-use Rattle.lrs_measure.specs.Lists.{same_bool}
+use Rattle.std.proofs.lemmas.Bool.{false≢true, and_parts, cases_Bool, ltb-true}
+use Rattle.lrs_measure.specs.Lists.{In, same_bool}
+use Rattle.lrs_measure.proofs.Members.{any_found, all_at, all_of}
+use Rattle.lrs_measure.proofs.Counts.{count_append, some_counted, none_counted}
 use Rattle.lrs_element.specs.declared.link.Link.{Link}
 use Rattle.lrs_events.specs.declared.class.Asset.{Asset}
 use Rattle.lrs_events.specs.declared.part.Part.{Part}
 use Rattle.lrs_events.specs.Places.{Place}
 use Rattle.lrs_machine.specs.Sound.{RouteSpans, has_asset_place, is_part, are_balanced, is_balanced_at, places_of}
-use Rattle.lrs_machine.proofs.Members.{In, any_found, all_at}
 use Rattle.lrs_machine.proofs.Pairs.{place_had, part_on, part_asset}
 use Rattle.lrs_image_sound.specs.SweptParts.{IsFilled}
 use Rattle.lrs_events.specs.Parts.{has_for, times_had, IsHadOnce}
 use Rattle.lrs_image_sound.specs.Pairs.{AreHadAlike}
 use Rattle.lrs_image_sound.specs.Balance.{AreHeld, IsLedger, ApartIsOnce, BalancedIsAlike}
-use Rattle.lrs_image_sound.proofs.Had.{once_from_apart, apart_from_once, count_append, some_counted, none_counted}
+use Rattle.lrs_image_sound.proofs.Had.{once_from_apart, apart_from_once}
 
 pub apart_is_once : ApartIsOnce
 apart_is_once parts f = (once_from_apart parts, apart_from_once parts f)
-
-pub all_members : {X : Type 0} (p : X → Bool) (xs : List X) → ((x : X) → In x xs → p x ≡ true) → list_all p xs ≡ true
-all_members p [] w = refl
-all_members p (x ∷ xs) w = and_from (p x) (list_all p xs) (w x (inl refl)) (all_members p xs (λ y m. w y (inr m)))
 
 -- parts of known assets on known links are filled
 pub filled : (links : List Link) (assets : List Asset) (parts : List Part) → list_all (is_part links assets) parts ≡ true → AllByRecursion IsFilled parts
@@ -126,8 +123,8 @@ module _ (links : List Link) (assets : List Asset) (routes : List RouteSpans) (h
 
   balanced : AreHadAlike (held ++ gone) entered → are_balanced links assets routes entered gone ≡ true
   balanced k =
-      all_members (λ a. list_all (is_balanced_at routes entered gone a.number) (places_of links)) assets (λ a m.
-      all_members (is_balanced_at routes entered gone a.number) (places_of links) (λ p n. at_place a.number p (k a.number p)))
+      all_of (λ a. list_all (is_balanced_at routes entered gone a.number) (places_of links)) assets (λ a m.
+      all_of (is_balanced_at routes entered gone a.number) (places_of links) (λ p n. at_place a.number p (k a.number p)))
 
   pub balanced_alike : (are_balanced links assets routes entered gone ≡ true) ↔ AreHadAlike (held ++ gone) entered
   balanced_alike = (alike, balanced)

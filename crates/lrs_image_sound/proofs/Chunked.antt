@@ -3,12 +3,12 @@ use Rattle.std.proofs.Common.{◌≡◌, ℕ, ◌+◌, ◌%◌, ◌<◌, ◌≤�
 use Rattle.std.specs.Prelude.{◌&&◌, nat_eq, filter}
 use Rattle.std.specs.List.{AllByRecursion}
 use Rattle.std.proofs.lemmas.Bool.{false≢true, cases_Bool, eqb-true, eq-eqb, cases_lt}
+use Rattle.lrs_measure.proofs.Counts.{count_cons, count_no}
 use Rattle.lrs_events.specs.declared.part.Part.{Part}
 use Rattle.lrs_events.specs.Places.{Place}
 use Rattle.lrs_events.specs.Parts.{has_place, has_for, times_had}
 use Rattle.lrs_image_sound.specs.SweptParts.{IsFilled}
 use Rattle.lrs_image_sound.specs.Pairs.{is_in, AreHadAlike, AreHadAlikeIn}
-use Rattle.lrs_image_sound.proofs.Had.{count_cons, count_no}
 
 abbrev parts_in : ℕ → List Part → List Part
 parts_in chunk xs = filter (is_in chunk) xs

@@ -1,56 +1,21 @@
 -- One search for repeats over the pieces of all routes decides that courses have each millimetre once and do not meet.
-use Rattle.std.proofs.Common.{◌≡◌, ℕ, ◌+◌, ◌-◌, ◌<◌, suc, Bool, true, false, cond, inl, inr, List, [], ◌∷◌, ◌++◌, length, get_or, Option, Some, None, refl, sym, ap, subst, ◌∙◌, arith, append_assoc}
+use Rattle.std.proofs.Common.{◌≡◌, ℕ, ◌+◌, ◌-◌, ◌<◌, Bool, true, false, cond, List, [], ◌∷◌, ◌++◌, get_or, Option, Some, None, refl, sym, ap, subst, ◌∙◌, arith, append_assoc}
 use Rattle.std.specs.Prelude.{nat_eq, not, ◌&&◌, is_some}
 use Rattle.std.specs.List.{list_any, list_all, flat_map}
 use Rattle.std.specs.Option.{option_map}
 use Rattle.std.proofs.lemmas.Bool.{false≢true, both_ways, not-true, and_parts, and_from, false_from_ne_true, eq-eqb, eqb-true, ne_eqb}
 use Rattle.std.proofs.lemmas.List.{append-nil}
-use Rattle.std.proofs.lemmas.List.Folds.{list_all-append}
-use Rattle.lrs_measure.specs.Lists.{each_two}
+use Rattle.lrs_measure.specs.Lists.{In, each_two}
+use Rattle.lrs_measure.proofs.Members.{any_found, any_of, all_at, In-flat_map, flat_map_found, all_of}
+use Rattle.lrs_measure.proofs.Places.{two_places}
+use Rattle.lrs_measure.proofs.EachTwo.{joined, two_front, two_rear, across_of}
 use Rattle.lrs_element.specs.declared.link.Piece.{Piece}
 use Rattle.lrs_element.specs.declared.link.Ground.{Ground}
 use Rattle.lrs_element.specs.Course.{expand, course_of, is_at, runs_over, meets, first_repeated}
 use Rattle.lrs_element.specs.Pieces.{piece_len, ground_of}
 use Rattle.lrs_element.proofs.Expanding.{length-expand, get_or-expand}
 use Rattle.lrs_events.specs.Places.{differs}
-use Rattle.lrs_machine.proofs.Members.{In, any_found, any_of, all_at, In-append_left, In-append_right, In-flat_map, flat_map_found}
 use Rattle.lrs_image_sound.specs.CourseRepeats.{CoursesAreApart}
-use Rattle.lrs_image_sound.proofs.Balancing.{all_members}
-use Rattle.lrs_image_sound.proofs.Keyed.{place_in}
-
-module _ {X : Type 0} (test : X → X → Bool) where
-  from_places : (xs : List X) → ((i j : ℕ) (d : X) → i < j → j < length xs → test (get_or xs i d) (get_or xs j d) ≡ true) → each_two test xs ≡ true
-  from_places [] h = refl
-  from_places (x ∷ xs) h =
-      and_from (list_all (test x) xs) (each_two test xs)
-      (all_members (test x) xs (λ y m. let at = place_in y xs m in subst (λ z. test x z ≡ true) (at.2 x) (h 0 (suc at.0) x (omega arith) (omega (arith, at.1)))))
-      (from_places xs (λ i j d less inside. h (suc i) (suc j) d (omega (arith, less)) (omega (arith, inside))))
-
-  pub joined : (xs ys : List X) → each_two test xs ≡ true → each_two test ys ≡ true → ((x y : X) → In x xs → In y ys → test x y ≡ true) → each_two test (xs ++ ys) ≡ true
-  joined [] ys h k across = k
-  joined (x ∷ xs) ys h k across =
-      let both = and_parts (list_all (test x) xs) (each_two test xs) h in
-      and_from (list_all (test x) (xs ++ ys)) (each_two test (xs ++ ys))
-      (list_all-append (test x) xs ys ∙ and_from (list_all (test x) xs) (list_all (test x) ys) both.0 (all_members (test x) ys (λ y m. across x y (inl refl) m)))
-      (joined xs ys both.1 k (λ z y n m. across z y (inr n) m))
-
-  -- and apart again
-  pub first_of : (xs ys : List X) → each_two test (xs ++ ys) ≡ true → each_two test xs ≡ true
-  first_of [] ys h = refl
-  first_of (x ∷ xs) ys h =
-      let both = and_parts (list_all (test x) (xs ++ ys)) (each_two test (xs ++ ys)) h in
-      and_from (list_all (test x) xs) (each_two test xs) (all_members (test x) xs (λ y m. all_at (test x) y (xs ++ ys) both.0 (In-append_left y xs ys m))) (first_of xs ys both.1)
-
-  rest_of : (xs ys : List X) → each_two test (xs ++ ys) ≡ true → each_two test ys ≡ true
-  rest_of [] ys h = h
-  rest_of (x ∷ xs) ys h = rest_of xs ys (and_parts (list_all (test x) (xs ++ ys)) (each_two test (xs ++ ys)) h).1
-
-  pub across_of : (xs ys : List X) → each_two test (xs ++ ys) ≡ true → (x y : X) → In x xs → In y ys → test x y ≡ true
-  across_of [] ys h x y m n = absurd m
-  across_of (z ∷ zs) ys h x y (inl e) n =
-      let both = and_parts (list_all (test z) (zs ++ ys)) (each_two test (zs ++ ys)) h in
-      ap (λ w. test w y) e ∙ all_at (test z) y (zs ++ ys) both.0 (In-append_right y zs ys n)
-  across_of (z ∷ zs) ys h x y (inr m) n = across_of zs ys (and_parts (list_all (test z) (zs ++ ys)) (each_two test (zs ++ ys)) h).1 x y m n
 
 -- ---- millimetres
 
@@ -76,7 +41,7 @@ differs-comm x y h = ap not (sym (at_same x y)) ∙ h
 
 -- a piece has each of its millimetres once
 piece_once : (p : Piece) → each_two differs (expand p) ≡ true
-piece_once p = from_places differs (expand p) (λ i j d less inside.
+piece_once p = two_places differs (expand p) (λ i j d less inside.
     let last : j < piece_len p = omega (arith, length-expand p, inside) in
     let first : i < piece_len p = omega (arith, last, less) in
     subst (λ g. differs g (get_or (expand p) j d) ≡ true) (sym (get_or-expand p i d first))
@@ -118,7 +83,7 @@ no_repeat : (before : List Ground) (pieces : List Piece) → each_two differs (b
 no_repeat before [] h = refl
 no_repeat before (p ∷ ps) h =
     let again : each_two differs ((before ++ expand p) ++ course_of ps) ≡ true = subst (λ xs. each_two differs xs ≡ true) (sym (append_assoc before (expand p) (course_of ps))) h in
-    let here = first_of differs (before ++ expand p) (course_of ps) again in
+    let here = two_front differs (before ++ expand p) (course_of ps) again in
     step_back (meets (expand p) before) (first_repeated (before ++ expand p) ps)
     (apart_from_differ (expand p) before (λ x y m n. differs-comm y x (across_of differs before (expand p) here y x n m))) (no_repeat (before ++ expand p) ps again)
 
@@ -136,11 +101,11 @@ joined_courses courses = flat_map (λ course. course) courses
 each_once : (courses : List (List Ground)) → each_two differs (joined_courses courses) ≡ true → (list_all own courses ≡ true) × (each_two apart courses ≡ true)
 each_once [] h = (refl, refl)
 each_once (c ∷ rest) h =
-    let more = each_once rest (rest_of differs c (joined_courses rest) h) in
+    let more = each_once rest (two_rear differs c (joined_courses rest) h) in
     let across = across_of differs c (joined_courses rest) h in (
-      and_from (own c) (list_all own rest) (first_of differs c (joined_courses rest) h) more.0,
+      and_from (own c) (list_all own rest) (two_front differs c (joined_courses rest) h) more.0,
       and_from (list_all (apart c) rest) (each_two apart rest)
-          (all_members (apart c) rest (λ d m. ap not (apart_from_differ c d (λ x y i j. across x y i (In-flat_map (λ course. course) d y rest m j))))) more.1,
+          (all_of (apart c) rest (λ d m. ap not (apart_from_differ c d (λ x y i j. across x y i (In-flat_map (λ course. course) d y rest m j))))) more.1,
     )
 
 all_once : (courses : List (List Ground)) → list_all own courses ≡ true → each_two apart courses ≡ true → each_two differs (joined_courses courses) ≡ true

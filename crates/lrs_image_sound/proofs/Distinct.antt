@@ -8,9 +8,9 @@ use Rattle.std.specs.Cmp.Lexicographic.{nat_list_cmp_total, nat_list_eq_equiv, t
 use Rattle.std.proofs.lemmas.Bool.{false≢true, and_parts, and_from}
 use Rattle.lrs_measure.specs.Lists.{each_two}
 use Rattle.lrs_measure.specs.Texts.{Name, name_cmp, name_before, same_name}
+use Rattle.lrs_measure.proofs.Places.{two_pass}
 use Rattle.lrs_image_sound.proofs.Rising.{risen, rises, lt_chain}
 use Rattle.lrs_image_sound.proofs.Sweeping.{each_two-permutation}
-use Rattle.lrs_image_sound.proofs.Keyed.{two_pass}
 
 abbrev pub differ : Name → Name → Bool
 differ k l = not (same_name k l)

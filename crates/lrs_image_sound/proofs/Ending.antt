@@ -11,6 +11,7 @@ use Rattle.std.proofs.lemmas.Bool.Decides.{nat_tests}
 use Rattle.std.proofs.lemmas.Cmp.{upto, tied_itself}
 use Rattle.std.proofs.lemmas.List.Sorted.{sum_by-IsPermutation}
 use Rattle.lrs_measure.specs.Lists.{same_bool}
+use Rattle.lrs_measure.proofs.Counts.{count_cons, count_yes, count_no, count_append}
 use Rattle.lrs_events.specs.declared.part.Part.{Part}
 use Rattle.lrs_events.specs.declared.side.LinkSide.{LinkSide}
 use Rattle.lrs_events.specs.declared.side.LinkSide.TheVariants.{Left, Right}
@@ -21,7 +22,6 @@ use Rattle.lrs_events.specs.Parts.{has_for, times_had}
 use Rattle.lrs_image_sound.specs.Pairs.{AreHadAlike}
 use Rattle.lrs_image_sound.specs.Ends.{start_of, end_of, IsRising}
 use Rattle.lrs_image_sound.proofs.Along.{IsAscending, all_weaker}
-use Rattle.lrs_image_sound.proofs.Had.{count_cons, count_yes, count_no, count_append}
 
 -- ---- an end at or before another, on its line
 

@@ -4,8 +4,10 @@ use Rattle.std.specs.Prelude.{◌&&◌, not, nat_le, nat_eq}
 use Rattle.std.specs.List.{AllByRecursion, list_any, list_all, count_by}
 use Rattle.std.proofs.lemmas.List.{take_more}
 use Rattle.std.proofs.lemmas.Bool.{false≢true, and_parts, and_from, or_left, or_right, or_cases, both_ways, not-true, cases_Bool, ltb-true, leb-true, le-leb, eqb-true, eq-eqb}
-use Rattle.lrs_measure.specs.Lists.{each_two}
+use Rattle.lrs_measure.specs.Lists.{In, each_two}
 use Rattle.lrs_measure.specs.Texts.{Name, same_name}
+use Rattle.lrs_measure.proofs.Members.{any_found, any_of, all_at, all_of}
+use Rattle.lrs_measure.proofs.Counts.{one_at, count_append, count_cons, count_yes, count_no, none_counted, at_most_one}
 use Rattle.lrs_element.specs.declared.link.Link.{Link}
 use Rattle.lrs_events.specs.declared.class.Class.{Class}
 use Rattle.lrs_events.specs.declared.class.Asset.{Asset}
@@ -14,42 +16,16 @@ use Rattle.lrs_events.specs.Places.{Place}
 use Rattle.lrs_events.specs.Parts.{has_place}
 use Rattle.lrs_machine.specs.Segments.{is_exclusive}
 use Rattle.lrs_machine.specs.Sound.{RouteSpans, holds_in, has_asset_place, is_part, share_nothing, asset_before, keeps_exclusive, holders_of, places_of}
-use Rattle.lrs_machine.proofs.Members.{In, any_found, any_of, all_at, one_at}
 use Rattle.lrs_machine.proofs.Pairs.{place_had, part_on}
 use Rattle.lrs_image_sound.specs.SweptParts.{IsFilled}
 use Rattle.lrs_events.specs.Parts.{has_for, times_had, IsHadOnce}
 use Rattle.lrs_image_sound.specs.Balance.{AreHeld}
 use Rattle.lrs_image_sound.specs.Exclusive.{excludes, is_of_exclusive, AreKeyed, ExclusiveIsApart}
-use Rattle.lrs_image_sound.proofs.Had.{once_from_apart, apart_from_once, count_append, count_cons, count_yes, count_no, none_counted}
-use Rattle.lrs_image_sound.proofs.Balancing.{all_members}
+use Rattle.lrs_image_sound.proofs.Had.{once_from_apart, apart_from_once}
 
 -- ---- lists
 
 module _ {X : Type 0} where
-  none_passes : (p : X → Bool) (xs : List X) → ((x : X) → In x xs → p x ≡ true → ⊥) → count_by p xs ≡ 0
-  none_passes p [] w = refl
-  none_passes p (x ∷ xs) w = by (cases_Bool (p x)) (none_passes p xs (λ y m. w y (inr m)))
-    where
-      by : (p x ≡ true) ⊎ (p x ≡ false) → count_by p xs ≡ 0 → count_by p (x ∷ xs) ≡ 0
-      by (inl h) rest = absurd (w x (inl refl) h)
-      by (inr h) rest = count_no p x xs h ∙ rest
-
-  -- where no two members in their order both pass, at most one does
-  pub at_most_one : (p : X → Bool) (test : X → X → Bool) (xs : List X) → each_two test xs ≡ true → ((x y : X) → In x xs → In y xs → test x y ≡ true → p x ≡ true → p y ≡ true → ⊥) → count_by p xs ≤ 1
-  at_most_one p test [] h w = omega arith
-  at_most_one p test (x ∷ xs) h w =
-      by (cases_Bool (p x)) (at_most_one p test xs (and_parts (list_all (test x) xs) (each_two test xs) h).1 (λ y z m n. w y z (inr m) (inr n)))
-    where
-      ahead : list_all (test x) xs ≡ true
-      ahead = (and_parts (list_all (test x) xs) (each_two test xs) h).0
-
-      by : (p x ≡ true) ⊎ (p x ≡ false) → count_by p xs ≤ 1 → count_by p (x ∷ xs) ≤ 1
-      by (inl k) rest =
-          let none = none_passes p xs (λ y m l. w x y (inl refl) (inr m) (all_at (test x) y xs ahead m) k l) in
-          let one = count_yes p x xs k in
-          omega (arith, none, one)
-      by (inr k) rest = let same = count_no p x xs k in omega (arith, rest, same)
-
   count_weaker : (p q : X → Bool) (xs : List X) → ((x : X) → In x xs → p x ≡ true → q x ≡ true) → count_by p xs ≤ count_by q xs
   count_weaker p q [] w = omega arith
   count_weaker p q (x ∷ xs) w = by (cases_Bool (p x)) (count_weaker p q xs (λ y m. w y (inr m)))
@@ -152,7 +128,7 @@ module _ (links : List Link) (classes : List Class) (assets : List Asset) (route
           let place = place_of_member c classes m in
           let k = place.0 in
           or_right (not (is_exclusive c.kind)) (list_all (λ p. nat_le (holders_of assets routes c.name p) 1) (places_of links))
-          (all_members (λ p. nat_le (holders_of assets routes c.name p) 1) (places_of links) (λ p n.
+          (all_of (λ p. nat_le (holders_of assets routes c.name p) 1) (places_of links) (λ p n.
           le-leb (holders_of assets routes c.name p) 1 (at_most_one (is_holder c.name p) asset_before assets order (λ a b i j less s t.
           let x = picked c k p place.1 e a i s in
           let y = picked c k p place.1 e b j t in
@@ -165,7 +141,7 @@ module _ (links : List Link) (classes : List Class) (assets : List Asset) (route
           omega (arith, same, apart)))))
 
   pub exclusive_apart : (list_all (keeps_exclusive links assets routes) classes ≡ true) ↔ (each_two share_nothing keyed ≡ true)
-  exclusive_apart = (λ all. apart_from_once keyed key.filled (once all), λ apart. all_members (keeps_exclusive links assets routes) classes (keeps (once_from_apart keyed apart)))
+  exclusive_apart = (λ all. apart_from_once keyed key.filled (once all), λ apart. all_of (keeps_exclusive links assets routes) classes (keeps (once_from_apart keyed apart)))
 
 pub exclusive_is_apart : ExclusiveIsApart
 exclusive_is_apart = exclusive_apart

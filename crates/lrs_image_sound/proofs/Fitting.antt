@@ -17,12 +17,11 @@ use Rattle.lrs_events.specs.declared.part.Gone.{Gone}
 use Rattle.lrs_machine.specs.declared.image.RouteRow.{RouteRow}
 use Rattle.lrs_machine.specs.declared.image.Edit.{Edit}
 use Rattle.lrs_measure.specs.Limits.{most_pairs, most_edits}
+use Rattle.lrs_measure.proofs.Members.{any_found, all_at, all_of}
 use Rattle.lrs_machine.specs.Sound.{is_part, share_nothing, pairs_of, are_parts, parts_of, are_edits, is_named_by, RouteReferents, are_all_referents, are_all_marks}
-use Rattle.lrs_machine.proofs.Members.{any_found, all_at}
 use Rattle.lrs_machine.proofs.Pairs.{part_asset, each_two-map}
 use Rattle.lrs_machine.proofs.SoundImages.{and_three}
 use Rattle.lrs_image_sound.specs.Tables.{route_marks, route_referents}
-use Rattle.lrs_image_sound.proofs.Balancing.{all_members}
 use Rattle.lrs_image_sound.proofs.Distinct.{differ}
 
 pub ok_so : {X E : Type 0} (P Q : X → Type 0) (r : Result X E) → ((x : X) → P x → Q x) → IfOk r P → IfOk r Q
@@ -60,7 +59,7 @@ module _ (links : List Link) (assets : List Asset) (parts : List Part) where
   pub parts_answer : (few : Bool) → list_all (is_part links assets) parts ≡ true → each_two share_nothing parts ≡ true → (IsTrue few ↔ ((n : ℕ) → pairs_of n parts ≤ most_pairs)) → few ≡ are_parts links assets parts
   parts_answer few inside apart within =
       both_ways few (list_all is_few assets)
-      (λ t. all_members is_few assets (λ a m. le-leb (pairs_of a.number parts) most_pairs (within.0 t a.number)))
+      (λ t. all_of is_few assets (λ a m. le-leb (pairs_of a.number parts) most_pairs (within.0 t a.number)))
       (λ t. within.1 (λ n. few_of_all n inside t))
       ∙ sym (λ j. inside j && apart j && list_all is_few assets)
 

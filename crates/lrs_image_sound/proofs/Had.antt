@@ -1,10 +1,10 @@
 -- Two parts share nothing exactly where no pair is had twice.
-use Rattle.std.proofs.Common.{◌≡◌, ℕ, ◌+◌, ◌<◌, ◌≤◌, max, Bool, true, false, cond, ◌⊎◌, inl, inr, List, [], ◌∷◌, ◌++◌, refl, sym, ap, ◌∙◌, arith}
+use Rattle.std.proofs.Common.{◌≡◌, ℕ, ◌<◌, ◌≤◌, max, Bool, true, false, ◌⊎◌, inl, inr, List, [], ◌∷◌, refl, sym, ap, ◌∙◌, arith}
 use Rattle.std.specs.Prelude.{◌||◌, ◌&&◌, not, nat_eq, nat_le, nat_lt}
-use Rattle.std.specs.List.{AllByRecursion, list_any, list_all, count_by}
+use Rattle.std.specs.List.{AllByRecursion, list_all}
 use Rattle.std.proofs.lemmas.Bool.{false≢true, both_ways, not-false, not-true, and_parts, and_from, or_cases, or_parts, cases_Bool, eqb-true, eq-eqb, leb-true, leb-false, le-leb, lt-ltb}
-use Rattle.std.proofs.lemmas.List.Sums.{sum_by-cons}
 use Rattle.lrs_measure.specs.Lists.{each_two}
+use Rattle.lrs_measure.proofs.Counts.{count_cons, count_yes, count_no}
 use Rattle.lrs_events.specs.declared.part.Part.{Part}
 use Rattle.lrs_events.specs.declared.side.LinkSide.{LinkSide}
 use Rattle.lrs_events.specs.declared.side.LinkSide.TheVariants.{Left, Right}
@@ -31,38 +31,6 @@ has_it x a p f g h low high =
     (and_from ((nat_eq x.link p.link && nat_le x.from p.mm) && nat_lt p.mm x.to) (same_link_side x.side p.side)
     (and_from (nat_eq x.link p.link && nat_le x.from p.mm) (nat_lt p.mm x.to) (and_from (nat_eq x.link p.link) (nat_le x.from p.mm) (eq-eqb x.link p.link g) (le-leb x.from p.mm low)) (lt-ltb p.mm x.to high))
     (ap (same_link_side x.side) (sym h) ∙ same_refl x.side))
-
--- ---- counts
-
-module _ {X : Type 0} (p : X → Bool) where
-  pub count_cons : (x : X) (xs : List X) → count_by p (x ∷ xs) ≡ cond (p x) 1 0 + count_by p xs
-  count_cons x xs = sum_by-cons (λ y. cond (p y) 1 0) x xs
-
-  pub count_yes : (x : X) (xs : List X) → p x ≡ true → count_by p (x ∷ xs) ≡ 1 + count_by p xs
-  count_yes x xs h = count_cons x xs ∙ ap (λ b. cond b 1 0 + count_by p xs) h
-
-  pub count_no : (x : X) (xs : List X) → p x ≡ false → count_by p (x ∷ xs) ≡ count_by p xs
-  count_no x xs h = count_cons x xs ∙ ap (λ b. cond b 1 0 + count_by p xs) h ∙ omega arith
-
-  pub count_append : (xs ys : List X) → count_by p (xs ++ ys) ≡ count_by p xs + count_by p ys
-  count_append [] ys = omega arith
-  count_append (x ∷ xs) ys =
-      let e = count_cons x (xs ++ ys) in
-      let f = count_cons x xs in
-      let g = count_append xs ys in
-      omega (arith, e, f, g)
-
-  pub none_counted : (xs : List X) → list_any p xs ≡ false → count_by p xs ≡ 0
-  none_counted [] h = refl
-  none_counted (x ∷ xs) h = let both = or_parts (p x) (list_any p xs) h in count_no x xs both.0 ∙ none_counted xs both.1
-
-  pub some_counted : (xs : List X) → list_any p xs ≡ true → 1 ≤ count_by p xs
-  some_counted [] h = absurd (false≢true h)
-  some_counted (x ∷ xs) h = by (cases_Bool (p x)) (some_counted xs)
-    where
-      by : (p x ≡ true) ⊎ (p x ≡ false) → (list_any p xs ≡ true → 1 ≤ count_by p xs) → 1 ≤ count_by p (x ∷ xs)
-      by (inl k) more = let e = count_yes x xs k in omega (arith, e)
-      by (inr k) more = let e = count_no x xs k in let m = more (ap (λ b. b || list_any p xs) (sym k) ∙ h) in omega (arith, e, m)
 
 -- ---- two parts
 

@@ -1,7 +1,7 @@
 -- Where a binary search finds the class of an asset, and the place of an exclusive class.
 use Rattle.std.proofs.Common.{◌≡◌, ℕ, ◌+◌, ◌<◌, ◌≤◌, zero, suc, Bool, true, false, cond, List, [], ◌∷◌, length, get_or, refl, sym, ap, subst, ◌∙◌, arith, Result, Ok, Err, Option, Some, None, slice_get, Ordering, Less, Equal, Greater, ◌⊎◌, inl, inr}
 use Rattle.std.specs.Prelude.{◌&&◌, ◌||◌, nat_eq, nat_lt}
-use Rattle.std.specs.List.{AllByRecursion, list_any, list_all, count_by}
+use Rattle.std.specs.List.{AllByRecursion, list_any, count_by}
 use Rattle.std.specs.List.Sorted.{IsPartitionPoint, IsBinarySearchResult, IsSearchInRange}
 use Rattle.std.specs.Ordering.{nat_cmp, is_lt, is_eq, ordering_reverse}
 use Rattle.std.specs.Cmp.{IsTotalOrder, nat_cmp_total, nat_eq_equiv, unsigned_ties}
@@ -10,39 +10,17 @@ use Rattle.std.proofs.lemmas.Bool.{false≢true, and_parts, and_from, and_right,
 use Rattle.std.proofs.lemmas.List.Sorted.{searchable_from_sorted}
 use Rattle.lrs_measure.specs.Lists.{each_two}
 use Rattle.lrs_measure.specs.Texts.{Name, name_cmp, same_name}
+use Rattle.lrs_measure.proofs.Members.{any_found, any_of}
+use Rattle.lrs_measure.proofs.Places.{two_pass, place_in, member_at}
 use Rattle.lrs_events.specs.declared.class.Class.{Class}
 use Rattle.lrs_events.specs.declared.class.Asset.{Asset}
 use Rattle.lrs_machine.specs.Segments.{is_exclusive}
 use Rattle.lrs_machine.specs.Sound.{class_before}
-use Rattle.lrs_machine.proofs.Members.{In, any_found, any_of}
 use Rattle.lrs_image_sound.specs.Exclusive.{excludes, is_exclusive_at}
 
 -- ---- rows in the order of their keys, searched
 
 module _ {X : Type 0} where
-  passes_at : (p : X → Bool) (xs : List X) (i : ℕ) (d : X) → list_all p xs ≡ true → i < length xs → p (get_or xs i d) ≡ true
-  passes_at p [] i d h within = absurd (omega (arith, within))
-  passes_at p (x ∷ xs) zero d h within = (and_parts (p x) (list_all p xs) h).0
-  passes_at p (x ∷ xs) (suc i) d h within = passes_at p xs i d (and_parts (p x) (list_all p xs) h).1 (omega (arith, within))
-
-  pub two_pass : (test : X → X → Bool) (xs : List X) (i j : ℕ) (d : X) → each_two test xs ≡ true → i < j → j < length xs → test (get_or xs i d) (get_or xs j d) ≡ true
-  two_pass test [] i j d h less within = absurd (omega (arith, within))
-  two_pass test (x ∷ xs) zero zero d h less within = absurd (omega (arith, less))
-  two_pass test (x ∷ xs) zero (suc j) d h less within = passes_at (test x) xs j d (and_parts (list_all (test x) xs) (each_two test xs) h).0 (omega (arith, within))
-  two_pass test (x ∷ xs) (suc i) zero d h less within = absurd (omega (arith, less))
-  two_pass test (x ∷ xs) (suc i) (suc j) d h less within = two_pass test xs i j d (and_parts (list_all (test x) xs) (each_two test xs) h).1 (omega (arith, less)) (omega (arith, within))
-
-  -- a member stands at some place
-  pub place_in : (x : X) (xs : List X) → In x xs → (k : ℕ) × (k < length xs) × ((d : X) → get_or xs k d ≡ x)
-  place_in x [] m = absurd m
-  place_in x (y ∷ ys) (inl e) = (zero, omega arith, λ d. sym e)
-  place_in x (y ∷ ys) (inr m) = let later = place_in x ys m in (suc later.0, omega (arith, later.1), later.2)
-
-  pub member_at : (xs : List X) (i : ℕ) (d : X) → i < length xs → In (get_or xs i d) xs
-  member_at [] i d h = absurd (omega (arith, h))
-  member_at (x ∷ xs) zero d h = inl refl
-  member_at (x ∷ xs) (suc i) d h = inr (member_at xs i d (omega (arith, h)))
-
   slice_get_within : (xs : List X) (k : ℕ) (d : X) → k < length xs → slice_get xs k ≡ Some (get_or xs k d)
   slice_get_within [] k d h = absurd (omega (arith, h))
   slice_get_within (x ∷ xs) zero d h = refl

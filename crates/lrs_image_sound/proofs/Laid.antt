@@ -16,16 +16,15 @@ use Rattle.lrs_element.proofs.Expanding.{length-expand, get_or-expand}
 use Rattle.lrs_position.specs.Routes.{is_route_course}
 use Rattle.lrs_machine.specs.declared.image.RouteRow.{RouteRow}
 use Rattle.lrs_measure.specs.Limits.{most_routes}
+use Rattle.lrs_measure.proofs.Members.{any_found, any_of, all_at, all_of}
+use Rattle.lrs_measure.proofs.Places.{place_in, member_at}
 use Rattle.lrs_events.specs.Places.{differs}
 use Rattle.lrs_machine.specs.Sound.{RouteCourse, is_on_a_link, is_course, course_before, are_courses}
-use Rattle.lrs_machine.proofs.Members.{any_found, any_of, all_at}
 use Rattle.lrs_machine.proofs.Pairs.{each_two-map}
 use Rattle.lrs_image_sound.specs.CourseRepeats.{ends_on_a_link, is_on_links}
 use Rattle.lrs_image_sound.specs.Tables.{route_before, route_courses}
-use Rattle.lrs_image_sound.proofs.Balancing.{all_members}
 use Rattle.lrs_image_sound.proofs.Coursed.{courses_are_apart}
 use Rattle.lrs_image_sound.proofs.Fitting.{fits}
-use Rattle.lrs_image_sound.proofs.Keyed.{place_in, member_at}
 
 module _ (links : List Link) where
   -- one piece
@@ -41,7 +40,7 @@ module _ (links : List Link) where
           let l = any_found (λ l. nat_eq l.number p.link && nat_le p.to l.length) links h in
           let both = and_parts (nat_eq l.0.number p.link) (nat_le p.to l.0.length) l.2 in
           let most = leb-true p.to l.0.length both.1 in
-          all_members (is_on_a_link links) (expand p) (λ g m.
+          all_of (is_on_a_link links) (expand p) (λ g m.
           let at = place_in g (expand p) m in
           let within : at.0 < piece_len p = omega (arith, at.1, length-expand p) in
           let is : ground_of p at.0 ≡ g = sym (get_or-expand p at.0 g within) ∙ at.2 g in

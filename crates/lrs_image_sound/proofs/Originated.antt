@@ -8,14 +8,15 @@ use Rattle.std.specs.Cmp.{both_ways, nat_cmp_total}
 use Rattle.std.specs.List.Sorted.{IsSorted, IsBinarySearchResult, IsPartitionPoint}
 use Rattle.std.proofs.lemmas.List.Sorted.{searchable_from_sorted}
 use Rattle.std.proofs.lemmas.Bool.{and_parts, and_from, cases_lt, false_from_ne_true, eq-eqb, eqb-true}
+use Rattle.lrs_measure.specs.Lists.{In}
+use Rattle.lrs_measure.proofs.Members.{any_found, any_of, all_at, all_of}
+use Rattle.lrs_measure.proofs.Places.{place_in, member_at}
 use Rattle.lrs_events.specs.declared.class.Asset.{Asset}
 use Rattle.lrs_events.specs.declared.part.Part.{Part}
 use Rattle.lrs_machine.specs.Sound.{is_origin, are_origins}
-use Rattle.lrs_machine.proofs.Members.{In, any_found, any_of, all_at}
 use Rattle.lrs_image_sound.specs.Origins.{has_number, is_named, agrees, agrees_with_all}
 use Rattle.lrs_image_sound.proofs.Along.{along_permutation}
-use Rattle.lrs_image_sound.proofs.Balancing.{all_members}
-use Rattle.lrs_image_sound.proofs.Keyed.{place_in, member_at, same_number, number_ties}
+use Rattle.lrs_image_sound.proofs.Keyed.{same_number, number_ties}
 
 -- ---- one part
 
@@ -86,8 +87,8 @@ module _ (entered : List Part) (assets : List Asset) (numbers : List ℕ) (same 
   pub origins_answer : (list_all (is_named numbers) assets && list_all (agrees_with_all assets) entered) ≡ are_origins entered assets
   origins_answer = both_ways (list_all (is_named numbers) assets && list_all (agrees_with_all assets) entered) (are_origins entered assets)
       (λ t. let both = and_parts (list_all (is_named numbers) assets) (list_all (agrees_with_all assets) entered) t in
-      all_members (is_origin entered) assets (λ a m. is_it a ∙ and_from (is_named numbers a) (list_all (agrees a) entered) (all_at (is_named numbers) a assets both.0 m)
-      (all_members (agrees a) entered (λ p n. all_at (λ b. agrees b p) a assets (all_at (agrees_with_all assets) p entered both.1 n) m))))
+      all_of (is_origin entered) assets (λ a m. is_it a ∙ and_from (is_named numbers a) (list_all (agrees a) entered) (all_at (is_named numbers) a assets both.0 m)
+      (all_of (agrees a) entered (λ p n. all_at (λ b. agrees b p) a assets (all_at (agrees_with_all assets) p entered both.1 n) m))))
       (λ t. let one : (a : Asset) → In a assets → (is_named numbers a ≡ true) × (list_all (agrees a) entered ≡ true) = λ a m. and_parts (is_named numbers a) (list_all (agrees a) entered) (sym (is_it a) ∙ all_at (is_origin entered) a assets t m) in
-      and_from (list_all (is_named numbers) assets) (list_all (agrees_with_all assets) entered) (all_members (is_named numbers) assets (λ a m. (one a m).0))
-      (all_members (agrees_with_all assets) entered (λ p n. all_members (λ a. agrees a p) assets (λ a m. all_at (agrees a) p entered (one a m).1 n))))
+      and_from (list_all (is_named numbers) assets) (list_all (agrees_with_all assets) entered) (all_of (is_named numbers) assets (λ a m. (one a m).0))
+      (all_of (agrees_with_all assets) entered (λ p n. all_of (λ a. agrees a p) assets (λ a m. all_at (agrees a) p entered (one a m).1 n))))

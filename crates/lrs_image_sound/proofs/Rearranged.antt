@@ -1,7 +1,7 @@
 -- What is asked of parts does not turn on their order.
-use Rattle.std.proofs.Common.{◌≡◌, ℕ, Bool, true, false, cond, List, [], ◌∷◌, refl, sym, ap, ◌∙◌, IsPermutation}
+use Rattle.std.proofs.Common.{◌≡◌, ℕ, Bool, cond, List, sym, ap, ◌∙◌, IsPermutation}
 use Rattle.std.specs.Prelude.{◌&&◌, ◌||◌, not, nat_eq, nat_le, ◌-◌}
-use Rattle.std.specs.List.{AllByRecursion, list_any, list_all}
+use Rattle.std.specs.List.{AllByRecursion, list_all}
 use Rattle.std.proofs.lemmas.List.Elements.{All-from_recursion, recursion_from_All}
 use Rattle.std.proofs.lemmas.List.Sorted.{All-permutation, list_any-IsPermutation, sum_by-IsPermutation}
 use Rattle.lrs_element.specs.declared.link.Link.{Link}
@@ -9,18 +9,11 @@ use Rattle.lrs_events.specs.declared.class.Asset.{Asset}
 use Rattle.lrs_events.specs.declared.part.Part.{Part}
 use Rattle.lrs_events.specs.Parts.{has_for, has_place}
 use Rattle.lrs_measure.specs.Limits.{most_pairs}
+use Rattle.lrs_measure.proofs.Members.{not_any}
 use Rattle.lrs_machine.specs.Sound.{RouteSpans, is_part, share_nothing, pairs_of, are_parts, is_origin, are_origins}
 use Rattle.lrs_image_sound.specs.SweptParts.{IsFilled}
 use Rattle.lrs_image_sound.specs.Balance.{AreHeld}
 use Rattle.lrs_image_sound.proofs.Sweeping.{each_two-permutation, share_nothing-comm}
-
-not_any : {X : Type 0} (p : X → Bool) (xs : List X) → list_all p xs ≡ not (list_any (λ x. not (p x)) xs)
-not_any p [] = refl
-not_any p (x ∷ xs) = by (p x) (not_any p xs)
-  where
-    by : (b : Bool) → list_all p xs ≡ not (list_any (λ y. not (p y)) xs) → (b && list_all p xs) ≡ not (not b || list_any (λ y. not (p y)) xs)
-    by true more = more
-    by false more = refl
 
 pub all_alike : {X : Type 0} (p : X → Bool) (xs ys : List X) → IsPermutation xs ys → list_all p xs ≡ list_all p ys
 all_alike p xs ys same = not_any p xs ∙ ap not (list_any-IsPermutation (λ x. not (p x)) xs ys same) ∙ sym (not_any p ys)

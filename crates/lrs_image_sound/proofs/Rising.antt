@@ -5,7 +5,7 @@ use Rattle.std.specs.List.{list_all, IsAllAdjacentAnswer}
 use Rattle.std.specs.Cmp.{IsTotalOrder}
 use Rattle.std.proofs.lemmas.Bool.{false≢true, and_parts, and_from, false_from_ne_true, ltb-true, lt-ltb}
 use Rattle.lrs_measure.specs.Lists.{each_two}
-use Rattle.lrs_image_sound.proofs.Keyed.{two_pass}
+use Rattle.lrs_measure.proofs.Places.{two_pass}
 
 module _ {X : Type 0} (test : X → X → Bool) (trans : (x y z : X) → test x y ≡ true → test y z ≡ true → test x z ≡ true) where
   below : (x y : X) (zs : List X) → test x y ≡ true → list_all (test y) zs ≡ true → list_all (test x) zs ≡ true

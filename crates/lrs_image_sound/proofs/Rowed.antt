@@ -5,7 +5,7 @@ use Rattle.std.specs.List.{AllByRecursion, list_any, list_all}
 use Rattle.std.proofs.lemmas.Bool.{both_ways, not-true, and_parts, and_from, cases_Bool, eqb-true, eq-eqb, lt-ltb, le-leb, ltb-true, false_from_ne_true}
 use Rattle.std.proofs.lemmas.List.{take_more, map-append}
 use Rattle.std.proofs.lemmas.List.Folds.{list_any-append, list_all-append}
-use Rattle.lrs_measure.specs.Lists.{each_two}
+use Rattle.lrs_measure.specs.Lists.{In, each_two}
 use Rattle.lrs_element.specs.declared.link.Link.{Link}
 use Rattle.lrs_element.specs.declared.link.Ground.{Ground}
 use Rattle.lrs_element.specs.Course.{is_at, runs_over, meets}
@@ -19,7 +19,9 @@ use Rattle.lrs_machine.specs.declared.image.RouteRow.{RouteRow}
 use Rattle.lrs_events.specs.Places.{differs}
 use Rattle.lrs_machine.specs.Sound.{RouteSpans, holds_in, has_asset_place, is_part, is_span, is_on_a_link, is_course, are_courses, course_before}
 use Rattle.lrs_measure.specs.Limits.{most_routes}
-use Rattle.lrs_machine.proofs.Members.{In, any_found, any_of, all_at, map_found}
+use Rattle.lrs_measure.proofs.Members.{any_found, any_of, all_at, map_found, all_of}
+use Rattle.lrs_measure.proofs.Counts.{count_append, none_counted}
+use Rattle.lrs_measure.proofs.EachTwo.{two_front, across_of}
 use Rattle.lrs_machine.proofs.Pairs.{held, held_asset, each_two-map, entered_by, has_entered}
 use Rattle.lrs_image_sound.specs.SweptParts.{IsFilled}
 use Rattle.lrs_events.specs.Parts.{has_for, times_had}
@@ -27,9 +29,7 @@ use Rattle.lrs_image_sound.specs.Balance.{AreHeld}
 use Rattle.lrs_image_sound.specs.HeldParts.{AreRoutes, AreOfRoute, AreOfRoutes}
 use Rattle.lrs_image_sound.specs.CourseRepeats.{is_on_links}
 use Rattle.lrs_image_sound.specs.Tables.{route_courses, route_spans, fits_route}
-use Rattle.lrs_image_sound.proofs.Had.{count_append, none_counted, has_it}
-use Rattle.lrs_image_sound.proofs.Coursed.{first_of, across_of}
-use Rattle.lrs_image_sound.proofs.Balancing.{all_members}
+use Rattle.lrs_image_sound.proofs.Had.{has_it}
 use Rattle.lrs_image_sound.proofs.Laid.{off_is, all-append}
 
 -- courses that do not meet hold no place in common
@@ -67,7 +67,7 @@ module _ (routes : List RouteSpans) (s : RouteSpans) where
   front : AreRoutes (routes ++ s ∷ []) → AreRoutes routes
   front are = record {
     once = (and_parts (list_all (λ t. each_two differs t.course) routes) (list_all (λ t. each_two differs t.course) (s ∷ [])) (sym (list_all-append (λ t. each_two differs t.course) routes (s ∷ [])) ∙ are.once)).0;
-    apart = first_of apart routes (s ∷ []) are.apart;
+    apart = two_front apart routes (s ∷ []) are.apart;
     rows = (and_parts (list_all (λ t. are_rows t.rows) routes) (list_all (λ t. are_rows t.rows) (s ∷ [])) (sym (list_all-append (λ t. are_rows t.rows) routes (s ∷ [])) ∙ are.rows)).0;
   }
 
@@ -200,7 +200,7 @@ module _ (links : List Link) (assets : List Asset) (routes : List RouteRow) (cou
 
     pub are_held : AreHeld links assets (route_spans routes) parts
     are_held = record {
-      inside = all_members (is_part links assets) parts inside;
+      inside = all_of (is_part links assets) parts inside;
       once = are.once are_routes;
       shows = λ a p. sym (are.shows a p);
     }

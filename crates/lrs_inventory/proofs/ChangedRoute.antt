@@ -2,8 +2,8 @@
 use Rattle.std.proofs.Common.{◌≡◌, [], ◌∷◌, Some, None, sym, ap, subst, ◌∙◌}
 use Rattle.std.specs.List.{find, cons_option}
 use Rattle.std.specs.Option.{option_map}
+use Rattle.lrs_measure.specs.Lists.{In}
 use Rattle.lrs_inventory.specs.Prelude.{each_two, Command, Image, RouteRow, state_of, route_before, IsSound, State, Makes, RouteChange, Difference, is_named, entry_after, with_difference, CanDiffer, rerouting}
-use Rattle.lrs_machine.proofs.Members.{In}
 use Rattle.lrs_image.specs.Change.{CanBecome}
 use Rattle.lrs_image_laws.specs.Differences.{KeepsFromDropped}
 use Rattle.lrs_image_laws.specs.Rewrites.{rewritten, with_routes, AreFit}

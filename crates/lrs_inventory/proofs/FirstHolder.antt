@@ -6,6 +6,8 @@ use Rattle.std.specs.Prelude.{◌&&◌, nat_eq, nat_le, slice_get, slice_range}
 use Rattle.std.specs.List.{list_any, list_all}
 use Rattle.std.specs.Option.{option_map}
 use Rattle.std.specs.Cmp.Lexicographic.{bytes_decides}
+use Rattle.lrs_measure.specs.Lists.{In}
+use Rattle.lrs_measure.proofs.Members.{any_found, any_of, all_at, two_at, In-map, In-flat_map, flat_map_found}
 use Rattle.lrs_inventory.specs.Prelude.{each_two, Name, same_name, Ground, Asset, B, Span, Place, places_on, are_rows, RouteRow, Image, state_of, asset_entry, IsSound, asset_before, is_span, are_spans_of}
 use Rattle.lrs_events.specs.declared.side.Side.{Side}
 use Rattle.lrs_events.specs.declared.side.Side.TheVariants.{L, R}
@@ -18,7 +20,6 @@ use Rattle.lrs_events.specs.RouteSpans.Search.{HoldsOver, IsOver}
 use Rattle.lrs_machine.specs.State as state
 use Rattle.lrs_machine.specs.Machine.{first_holder}
 use Rattle.lrs_machine.specs.Sound.{spans_of, keeps_exclusive, RouteSpans}
-use Rattle.lrs_machine.proofs.Members.{In, any_found, any_of, all_at, two_at, In-map, In-flat_map, flat_map_found}
 use Rattle.lrs_image.proofs.Tables.{passes, assets_in_order}
 use Rattle.lrs_image_laws.proofs.FromReferents.{ground_there}
 use Rattle.lrs_image_laws.proofs.Holding.{held_at}

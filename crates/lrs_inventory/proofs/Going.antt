@@ -3,14 +3,13 @@ use Rattle.std.proofs.Common.{◌≡◌, Bool, true, inl, inr, List, [], ◌∷�
 use Rattle.std.proofs.lemmas.Bool.{and_from}
 use Rattle.std.specs.List.{list_any, list_all}
 use Rattle.std.specs.Cmp.Lexicographic.{bytes_decides}
+use Rattle.lrs_measure.specs.Lists.{In}
+use Rattle.lrs_measure.proofs.Members.{In-filter, any_of}
 use Rattle.lrs_inventory.specs.Prelude.{Referent, Span, span_before, has_row, IsPlan, RouteChange, spans_after}
 use Rattle.lrs_events.specs.Changes.{changed, changed_rows}
 use Rattle.lrs_events.specs.declared.change.SpanChange.{SpanChange}
-use Rattle.lrs_events.specs.Row.Order.{In}
 use Rattle.lrs_events.proofs.Row.Differing.{has_in}
-use Rattle.lrs_machine.proofs.Members as members
 use Rattle.lrs_image.specs.Change.{refers_to}
-use Rattle.lrs_image_laws.proofs.Listed.{In-filter}
 
 -- each row that was there is one of the rows
 pub rows_there : (rows gone : List Span) → ((r : Span) → In r gone → In r rows) → list_all (has_row rows) gone ≡ true
@@ -26,11 +25,11 @@ pub rows_by : (rows : List Span) (c : RouteChange) (plan : SpanChange) → c.spa
 rows_by rows c plan gone come = λ j. changed span_before (sym gone j) (sym come j) rows
 
 -- each referent of some is named by them
-pub names_there : (refs some : List Referent) → ((q : Referent) → members.In q some → members.In q refs) → list_all (λ name. list_any (refers_to name) refs) (map (λ q. q.name) some) ≡ true
+pub names_there : (refs some : List Referent) → ((q : Referent) → In q some → In q refs) → list_all (λ name. list_any (refers_to name) refs) (map (λ q. q.name) some) ≡ true
 names_there refs [] were = refl
 names_there refs (q ∷ qs) were =
     and_from (list_any (refers_to q.name) refs) (list_all (λ name. list_any (refers_to name) refs) (map (λ p. p.name) qs))
-    (members.any_of (refers_to q.name) q refs (were q (inl refl)) ((bytes_decides q.name q.name).1 refl)) (names_there refs qs (λ p m. were p (inr m)))
+    (any_of (refers_to q.name) q refs (were q (inl refl)) ((bytes_decides q.name q.name).1 refl)) (names_there refs qs (λ p m. were p (inr m)))
 
 -- ... and so those that pass a test
 pub names_kept : (test : Referent → Bool) (refs : List Referent) → list_all (λ name. list_any (refers_to name) refs) (map (λ q. q.name) (filter test refs)) ≡ true

@@ -15,9 +15,9 @@ use Rattle.lrs_position.proofs.Index.Sharing.{same_test}
 use Rattle.lrs_position.proofs.Index.Once.{once_both, front}
 use Rattle.lrs_position.proofs.Index.Pieces.{across, behind}
 use Rattle.lrs_measure.specs.Limits.{most_routes}
+use Rattle.lrs_measure.proofs.Members.{any_found, any_of, list_any-map}
 use Rattle.lrs_machine.specs.Machine.{is_taken}
 use Rattle.lrs_machine.specs.Sound.{course_before, is_course, courses_of}
-use Rattle.lrs_machine.proofs.Members.{any_found, any_of, list_any-map}
 use Rattle.lrs_image.proofs.Tables.{passes}
 use Rattle.lrs_inventory.specs.declared.plan.GroundChange.{GroundChange}
 use Rattle.lrs_inventory.specs.Changes.{CanChange, route_on}

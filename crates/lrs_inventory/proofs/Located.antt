@@ -8,6 +8,7 @@ use Rattle.std.proofs.lemmas.Int.{ints}
 use Rattle.std.specs.Option.{ok_or}
 use Rattle.lrs_inventory.specs.Prelude.{Name, Alignment, alignment_of, Cause, RouteRow, Image, State, Extent, extent_of, ◌>>◌, ◌>>=◌, state_of, IsSound, is_named}
 use Rattle.lrs_measure.specs.Fraction.{Fraction, IsLowest}
+use Rattle.lrs_measure.specs.Lists.{In}
 use Rattle.lrs_position.specs.declared.expression.Expr.{Expr}
 use Rattle.lrs_position.specs.declared.expression.Expr.TheVariants.{Abs, Rel, Int}
 use Rattle.lrs_position.specs.declared.location.PlaceFault.{PlaceFault}
@@ -20,7 +21,6 @@ use Rattle.lrs_position.proofs.Answering.{IsSound-from_route}
 use Rattle.lrs_position.proofs.Whole.{rounded_limit}
 use Rattle.lrs_machine.specs.declared.answer.Cause.TheVariants as cause
 use Rattle.lrs_machine.specs.Machine.{extent_between, located_chainage, referent_chainage, refuse_if}
-use Rattle.lrs_machine.proofs.Members.{In}
 use Rattle.lrs_inventory.specs.declared.plan.Stop.{Stop}
 use Rattle.lrs_inventory.specs.declared.plan.Stop.TheVariants.{Refused, Memory}
 use Rattle.lrs_inventory.specs.Plans.{Answers}

@@ -1,5 +1,5 @@
 -- Checks of pieces and marks, and what they say of an image's links.
-use Rattle.std.proofs.Common.{◌≡◌, ℕ, ◌+◌, ◌-◌, ◌<◌, ◌≤◌, suc, Bool, true, false, cond, inl, inr, List, [], ◌∷◌, ◌++◌, map, length, Option, Some, None, Result, Ok, Err, refl, sym, ap, subst, ◌∙◌, arith, get_or, append_assoc}
+use Rattle.std.proofs.Common.{◌≡◌, ℕ, ◌+◌, ◌-◌, ◌<◌, ◌≤◌, Bool, true, false, cond, List, [], ◌∷◌, ◌++◌, map, length, Option, Some, None, Result, Ok, Err, refl, sym, ap, subst, ◌∙◌, arith, get_or, append_assoc}
 use Rattle.std.specs.Prelude.{is_none, nat_eq, nat_lt, nat_le, not, ◌||◌, ◌&&◌, unwrap_or}
 use Rattle.std.specs.List as list
 use Rattle.std.specs.Option.{option_map_or, option_map}
@@ -12,8 +12,10 @@ use Rattle.std.proofs.lemmas.List.Quantifiers.{position-Some}
 use Rattle.std.specs.List.{list_any, list_all, position}
 use Rattle.std.specs.Ordering.{nat_cmp, eq_by_cmp}
 use Rattle.lrs_inventory.specs.Prelude.{each_two, Link, Piece, Ground, Mark, is_route, is_route_course, have_marks, are_referents, expand, course_of, runs_over, meets, is_too_long, Cause, Image, state_of, ◌>>◌, refuse_at, differs, is_on_a_link}
-use Rattle.lrs_measure.specs.Lists.{is_nothing}
+use Rattle.lrs_measure.specs.Lists.{In, is_nothing}
 use Rattle.lrs_measure.specs.Limits.{most_marks, greatest_measure}
+use Rattle.lrs_measure.proofs.Members.{any_found, any_of, all_of, flat_map_found}
+use Rattle.lrs_measure.proofs.Places.{place_in, two_places}
 use Rattle.lrs_element.specs.Marks.{is_out_of_order, misses_the_end, first_bad_mark, bad_mark}
 use Rattle.lrs_element.specs.Course.{is_at, lacks_link, length_of, is_bad_piece, first_repeated, AreGood}
 use Rattle.lrs_element.specs.Pieces.{piece_len, ground_of}
@@ -23,7 +25,6 @@ use Rattle.lrs_machine.specs.Image.{link_entry}
 use Rattle.lrs_machine.specs.Machine.{refuse_if}
 use Rattle.lrs_inventory.specs.NewCourses.{new_course, new_marks}
 use Rattle.lrs_image_laws.proofs.Appended.{each_two-append}
-use Rattle.lrs_machine.proofs.Members.{In, any_found, any_of, all_of, flat_map_found}
 use Rattle.lrs_inventory.proofs.Positions.{none_passes}
 use Rattle.lrs_image_laws.proofs.InOrder.{is_false}
 use Rattle.lrs_image_laws.proofs.Apart.{nat_eq-comm, at_same}
@@ -90,21 +91,6 @@ module _ {X : Type 0} (p : X → Bool) where
   pub fails_at : (x : X) (xs : List X) → list_any p xs ≡ false → In x xs → p x ≡ false
   fails_at x xs h m = is_false (p x) (λ t. both_ways (list_any p xs) h (any_of p x xs m t))
 
--- ---- members by their places
-
-module _ {X : Type 0} where
-  place_in : (x d : X) (xs : List X) → In x xs → (k : ℕ) × (k < length xs) × (get_or xs k d ≡ x)
-  place_in x d [] m = absurd m
-  place_in x d (y ∷ ys) (inl e) = (0, omega arith, sym e)
-  place_in x d (y ∷ ys) (inr m) = let at = place_in x d ys m in (suc at.0, omega (arith, at.1), at.2)
-
-  each_two-from_places : (test : X → X → Bool) (xs : List X) → ((i j : ℕ) (d : X) → i < j → j < length xs → test (get_or xs i d) (get_or xs j d) ≡ true) → each_two test xs ≡ true
-  each_two-from_places test [] h = refl
-  each_two-from_places test (x ∷ xs) h =
-      and_from (list_all (test x) xs) (each_two test xs)
-      (all_of (test x) xs (λ y m. let at = place_in y x xs m in subst (λ z. test x z ≡ true) at.2 (h 0 (suc at.0) x (omega arith) (omega (arith, at.1)))))
-      (each_two-from_places test xs (λ i j d less inside. h (suc i) (suc j) d (omega (arith, less)) (omega (arith, inside))))
-
 -- ---- the millimetres of pieces
 
 -- a millimetre of a piece
@@ -114,9 +100,9 @@ record IsOf (p : Piece) (g : Ground) : Type 0 where
 
 is_of : (p : Piece) (g : Ground) → In g (expand p) → IsOf p g
 is_of p g m =
-    let at = place_in g g (expand p) m in
+    let at = place_in g (expand p) m in
     let inside : at.0 < piece_len p = omega (arith, length-expand p, at.1) in
-    let is : g ≡ ground_of p at.0 = sym at.2 ∙ get_or-expand p at.0 g inside in
+    let is : g ≡ ground_of p at.0 = sym (at.2 g) ∙ get_or-expand p at.0 g inside in
     let there : IsOf p (ground_of p at.0) = record { link = refl; below = by p.forward p.from p.to at.0 inside } in
     subst (IsOf p) (sym is) there
   where
@@ -126,7 +112,7 @@ is_of p g m =
 
 -- a piece has each of its millimetres once
 piece_once : (p : Piece) → each_two differs (expand p) ≡ true
-piece_once p = each_two-from_places differs (expand p) (λ i j d less inside.
+piece_once p = two_places differs (expand p) (λ i j d less inside.
     let last : j < piece_len p = omega (arith, length-expand p, inside) in
     let first : i < piece_len p = omega (arith, last, less) in
     subst (λ g. differs g (get_or (expand p) j d) ≡ true) (sym (get_or-expand p i d first))

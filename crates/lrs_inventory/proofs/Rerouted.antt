@@ -3,8 +3,8 @@ use Rattle.std.proofs.Common.{◌≡◌, true, false, List, [], ◌∷◌, filte
 use Rattle.std.specs.List.{find, list_all}
 use Rattle.std.proofs.lemmas.Bool.{and_from, and_parts}
 use Rattle.std.specs.Prelude.{◌&&◌, length, unwrap_or}
+use Rattle.lrs_measure.proofs.Members.{all_at}
 use Rattle.lrs_inventory.specs.Prelude.{Name, same_name, Mark, is_route, is_route_course, have_marks, are_referents, are_rows, Image, RouteRow, is_span, are_spans_of, IsSound, RouteChange, RouteKeys, keys_of, is_named, changed_refs, fits_after, route_after, spans_after, entry_after}
-use Rattle.lrs_machine.proofs.Members.{all_at}
 use Rattle.lrs_machine.proofs.SoundImages.{and_three}
 use Rattle.lrs_image.specs.Change.{CanBecome}
 use Rattle.lrs_image.proofs.Becoming.{HasBecome, becomes}

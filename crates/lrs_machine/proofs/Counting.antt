@@ -1,13 +1,13 @@
 -- Totals count all members: what they look at has each pair of a lawful state once.
-use Rattle.std.proofs.Common.{◌≡◌, ℕ, ◌+◌, ◌<◌, ◌≤◌, Bool, true, false, cond, List, [], ◌∷◌, ◌++◌, map, filter, length, Some, refl, sym, ap, subst, ◌∙◌, arith}
+use Rattle.std.proofs.Common.{◌≡◌, ℕ, ◌+◌, ◌<◌, ◌≤◌, Bool, true, false, cond, List, [], ◌∷◌, map, filter, length, Some, refl, sym, ap, subst, ◌∙◌, arith}
 use Rattle.std.specs.Prelude.{◌&&◌, nat_eq, nat_lt, unwrap_or}
 use Rattle.std.specs.List.{list_all, flat_map, count_by, range_with_len}
 use Rattle.std.specs.Ordering.{nat_cmp}
 use Rattle.std.specs.Cmp.{unsigned_tied}
 use Rattle.std.specs.FinMap.{find}
 use Rattle.std.proofs.lemmas.Bool.{and_parts, eqb-true, eq-eqb, ne_eqb, ltb-true}
-use Rattle.std.proofs.lemmas.List.Sums.{sum_by-cons}
 use Rattle.lrs_measure.specs.Texts.{Name, same_name}
+use Rattle.lrs_measure.proofs.Counts.{count_cons, count-none, count_append}
 use Rattle.lrs_events.specs.declared.side.LinkSide.{LinkSide}
 use Rattle.lrs_events.specs.declared.side.LinkSide.TheVariants.{Left, Right}
 use Rattle.lrs_events.specs.Places.{Place, same_link_side, same_place, places_of_link}
@@ -16,19 +16,6 @@ use Rattle.lrs_machine.specs.State.{State, Asset}
 use Rattle.lrs_machine.specs.Laws.{IsLawful, are_numbered, IsCounted, LawfulCountsAll}
 use Rattle.lrs_machine.proofs.Registers.{some_if_known}
 use Rattle.lrs_machine.proofs.Totals.{count-one}
-
-module _ {X : Type 0} where
-  pub one_more : (p : X → Bool) (x : X) (xs : List X) → count_by p (x ∷ xs) ≡ cond (p x) 1 0 + count_by p xs
-  one_more p x xs = sum_by-cons (λ y. cond (p y) 1 0) x xs
-
-  pub count-none : (xs : List X) → count_by (λ x. false) xs ≡ 0
-  count-none [] = refl
-  count-none (x ∷ xs) = one_more (λ x. false) x xs ∙ ap (λ n. 0 + n) (count-none xs)
-
-  pub count-append : (p : X → Bool) (xs ys : List X) → count_by p (xs ++ ys) ≡ count_by p xs + count_by p ys
-  count-append p [] ys = omega arith
-  count-append p (x ∷ xs) ys =
-      let a = one_more p x (xs ++ ys) in let b = one_more p x xs in let c = count-append p xs ys in omega (arith, a, b, c)
 
 -- ---- the places of links
 
@@ -48,12 +35,12 @@ by_millimetre test over s n is (k ∷ ks) =
     let left : Place = record { link = n; mm = k; side = Left } in
     let right : Place = record { link = n; mm = k; side = Right } in
     let rest = flat_map (both_sides n) ks in
-    one_more test left (right ∷ rest)
-    ∙ ap (λ m. cond (test left) 1 0 + m) (one_more test right rest)
+    count_cons test left (right ∷ rest)
+    ∙ ap (λ m. cond (test left) 1 0 + m) (count_cons test right rest)
     ∙ (λ i. cond (is k Left i) 1 0 + (cond (is k Right i) 1 0 + count_by test rest))
     ∙ one_side (over k) s (count_by test rest)
     ∙ ap (λ m. cond (over k) 1 0 + m) (by_millimetre test over s n is ks)
-    ∙ sym (one_more over k ks)
+    ∙ sym (count_cons over k ks)
 
 -- the millimetres of the place, on a link
 is_at_millimetre : (p : Place) (n len : ℕ) → count_by (same_place p) (places_of_link n len) ≡ count_by (λ k. nat_eq p.link n && nat_eq p.mm k) (range_with_len 0 len)
@@ -78,7 +65,7 @@ no_link p (l ∷ ls) n e h =
     let less = ltb-true n l.0 both.0 in
     let here = other_link p l.0 l.1 (ne_eqb p.link l.0 (λ same. omega (arith, less, same, e))) in
     let rest = no_link p ls n e both.1 in
-    let all = count-append (same_place p) (places_of_link l.0 l.1) (places_in ls) in
+    let all = count_append (same_place p) (places_of_link l.0 l.1) (places_in ls) in
     omega (arith, here, rest, all)
 
 place_once : (p : Place) (rows : List (ℕ × ℕ)) → are_numbered rows ≡ true → nat_lt p.mm (unwrap_or (find nat_cmp p.link rows) 0) ≡ true → count_by (same_place p) (places_in rows) ≡ 1
@@ -89,7 +76,7 @@ place_once p (l ∷ ls) order h = by (nat_eq p.link l.0) refl (place_once p ls b
     both = and_parts (list_all (λ k. nat_lt l.0 k.0) ls) (are_numbered ls) order
 
     all : count_by (same_place p) (places_in (l ∷ ls)) ≡ count_by (same_place p) (places_of_link l.0 l.1) + count_by (same_place p) (places_in ls)
-    all = count-append (same_place p) (places_of_link l.0 l.1) (places_in ls)
+    all = count_append (same_place p) (places_of_link l.0 l.1) (places_in ls)
 
     known : (b : Bool) → nat_eq p.link l.0 ≡ b → nat_lt p.mm (unwrap_or (cond b (Some l.1) (find nat_cmp p.link ls)) 0) ≡ true
     known b e = ap (λ c. nat_lt p.mm (unwrap_or (cond c (Some l.1) (find nat_cmp p.link ls)) 0)) (sym e ∙ sym (unsigned_tied p.link l.0)) ∙ h
@@ -115,7 +102,7 @@ step n class a rows = by (same_name a.1.class class)
   where
     by : (b : Bool) → count_by (nat_eq n) (map (λ a. a.0) (cond b (a ∷ filter (λ a. same_name a.1.class class) rows) (filter (λ a. same_name a.1.class class) rows)))
         ≡ cond b (cond (nat_eq n a.0) 1 0) 0 + count_by (nat_eq n) (numbers_of class rows)
-    by true = one_more (nat_eq n) a.0 (numbers_of class rows)
+    by true = count_cons (nat_eq n) a.0 (numbers_of class rows)
     by false = omega arith
 
 none_if : (b : Bool) → ◌≡◌ {A = ℕ} (cond b 0 0) 0

@@ -20,9 +20,11 @@ use Rattle.lrs_element.specs.declared.marks.Mark.{Mark}
 use Rattle.lrs_element.specs.Course.{expand, course_of, turned, is_too_long, first_repeated}
 use Rattle.lrs_element.specs.Marks.{is_inner_mark, joined_marks, is_out_of_range, mirrored, marks_to, marks_from}
 use Rattle.lrs_measure.specs.Limits.{most_marks}
+use Rattle.lrs_measure.proofs.Members.{all_weaker, any_found, all_at, all_of, In-take, In-drop, flat_map_found}
+use Rattle.lrs_measure.proofs.Places.{all_places, passes_at}
+use Rattle.lrs_measure.proofs.Filters.{all-filter}
 use Rattle.lrs_element.specs.Pieces.{piece_len}
 use Rattle.lrs_element.proofs.Expanding.{length-expand, get_or-expand}
-use Rattle.lrs_events.proofs.LaneLists.Members.{all_places, passes_at, all-filter}
 use Rattle.lrs_position.specs.Locations.{Alignment}
 use Rattle.lrs_events.specs.declared.class.Kind.{Kind}
 use Rattle.lrs_events.specs.declared.side.Side.{Side}
@@ -40,9 +42,9 @@ use Rattle.lrs_machine.specs.Machine.{◌>>=◌, ◌>>◌, refuse_if, refuse_at,
 use Rattle.lrs_machine.specs.Machine.{extent_of, is_empty_extent, Wanted, wanted_of, first_holder, enter_asset, do_join_of, attempt, length_of_link}
 use Rattle.lrs_machine.specs.Laws.{IsGrounded, is_known, are_numbered}
 use Rattle.lrs_machine.proofs.Checks.{behind, bind, bind_known, unless, unless_at, given}
-use Rattle.lrs_machine.proofs.Members.{all_weaker, any_found, all_at, all_of, In-take, In-drop, flat_map_found, find_found}
 use Rattle.lrs_machine.proofs.Pairs.{beside_ground}
 use Rattle.lrs_machine.proofs.Registers.{find-put, same_key}
+use Rattle.lrs_machine.proofs.Finding.{find_found}
 
 -- ---- tests of all
 

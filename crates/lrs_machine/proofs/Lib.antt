@@ -7,7 +7,7 @@ pub mod Grounded
 pub mod Lawful
 pub mod Totals
 pub mod Counting
-pub mod Members
+pub mod Finding
 pub mod Pairs
 pub mod SoundImages
 pub mod Joined

@@ -4,7 +4,8 @@ use Rattle.std.specs.Prelude.{◌||◌, ◌&&◌, not, nat_eq, nat_le, nat_lt, s
 use Rattle.std.specs.List.{list_any, list_all, range_with_len}
 use Rattle.std.proofs.lemmas.Bool.{false≢true, both_ways, not-true, and_parts, and_from, or_cases, eqb-true, eq-eqb, leb-true, ltb-true}
 use Rattle.std.proofs.lemmas.List.Folds.{list_all-map}
-use Rattle.lrs_measure.specs.Lists.{each_two, same_bool}
+use Rattle.lrs_measure.specs.Lists.{In, each_two, same_bool}
+use Rattle.lrs_measure.proofs.Members.{any_found, any_of, all_at, two_at, In-take, In-drop, In-range_with_len, In-flat_map, flat_map_found, list_any-map}
 use Rattle.lrs_element.specs.declared.link.Link.{Link}
 use Rattle.lrs_element.specs.declared.link.Ground.{Ground}
 use Rattle.lrs_events.specs.declared.class.Asset.{Asset}
@@ -21,7 +22,6 @@ use Rattle.lrs_events.specs.Parts.{has_place, has_pair}
 use Rattle.lrs_machine.specs.State.{Reason, Retired, Abandoned, same_reason}
 use Rattle.lrs_machine.specs.Image.{reason_of}
 use Rattle.lrs_machine.specs.Sound.{share_nothing, is_part, places_of, is_on_a_link, is_span, has_asset_place, parts_of}
-use Rattle.lrs_machine.proofs.Members.{In, any_found, any_of, all_at, two_at, In-take, In-drop, In-range_with_len, In-flat_map, flat_map_found, list_any-map}
 
 pub same_side_is : (s t : LinkSide) → same_link_side s t ≡ true → s ≡ t
 same_side_is Left Left h = refl

@@ -9,7 +9,7 @@ use Rattle.std.proofs.lemmas.Bool.{false≢true, both_ways, not-true, and_parts,
 use Rattle.std.proofs.lemmas.Cmp.{nat_cmp_total}
 use Rattle.std.proofs.lemmas.List.{length-map}
 use Rattle.std.proofs.lemmas.Map.Lookups.{exact_unsigned, exact_bytes}
-use Rattle.lrs_measure.specs.Lists.{each_two}
+use Rattle.lrs_measure.specs.Lists.{In, each_two}
 use Rattle.lrs_measure.specs.Texts.{Name, name_cmp, same_name}
 use Rattle.lrs_element.specs.declared.link.Link.{Link}
 use Rattle.lrs_position.specs.Locations.{Alignment}
@@ -30,13 +30,15 @@ use Rattle.lrs_machine.specs.declared.image.Edit.{Edit}
 use Rattle.lrs_machine.specs.declared.table.Table.TheVariants as table
 use Rattle.lrs_machine.specs.EnteredNumbers.{is_asset_number, is_lateral_offset}
 use Rattle.lrs_measure.specs.Limits.{most_assets, most_routes, most_edits, most_pairs}
+use Rattle.lrs_measure.proofs.Members.{any_found, any_of, all_at, all_of, In-map, map_found, list_any-map}
+use Rattle.lrs_measure.proofs.Counts.{one_at}
 use Rattle.lrs_machine.specs.State.{Reason, same_reason}
 use Rattle.lrs_machine.specs.State as state
 use Rattle.lrs_machine.specs.Image.{state_of, holds_on, link_entry, asset_entry, route_entry, reason_of}
 use Rattle.lrs_machine.specs.Sound.{link_before, are_links, asset_before, are_assets, course_before, are_courses, are_spans, are_entered, gone_before, are_gone, are_balanced, are_edits, Test, IsSound, first_unsound, first_failed, tests, courses_of, spans_of, parts_of, places_of, has_asset_place, holds_in, holders_of, is_asset, is_course, is_on_a_link, is_span, are_spans_of, keeps_exclusive, is_part, share_nothing, pairs_of, is_balanced_at, is_named_by, are_parts, is_origin, are_origins}
 use Rattle.lrs_machine.specs.Laws.{IsBalanced, IsExclusive, IsNamed, IsGrounded, SoundIsLawful}
-use Rattle.lrs_machine.proofs.Members.{In, any_found, any_of, all_at, all_of, find_numbered, In-map, map_found, list_any-map, one_at, find_found, find_known}
 use Rattle.lrs_machine.proofs.Pairs.{HasPlace, place_had, pair_had, one_row, each_two-map, part_on, part_asset, held, held_on, held_asset, Balance, balance, entered_by, has_entered, gone_by, has_gone, takes_away, same_reason_is, is_same_side}
+use Rattle.lrs_machine.proofs.Finding.{find_numbered, find_found, find_known}
 
 -- ---- the tests that a sound image passes
 

@@ -1,10 +1,15 @@
 -- Words on lists.
-use Rattle.std.specs.Prelude.{ℕ, Bool, true, false, ◌&&◌, not, nat_le, List, [], ◌∷◌}
+use Rattle.std.specs.Prelude.{◌≡◌, ◌⊎◌, ℕ, Bool, true, false, ◌&&◌, not, nat_le, List, [], ◌∷◌}
 use Rattle.std.specs.List.{list_all}
 
 -- a number from low to high, both included
 abbrev pub is_from_to : ℕ → ℕ → ℕ → Bool
 is_from_to low high n = nat_le low n && nat_le n high
+
+-- x is one of these
+abbrev pub In : {X : Type 0} → X → List X → Type 0
+In x [] = ⊥
+In x (y ∷ ys) = (x ≡ y) ⊎ In x ys
 
 -- each two elements pass the test, in their order
 abbrev pub each_two : {X : Type 0} → (X → X → Bool) → List X → Bool

@@ -8,8 +8,9 @@ use Rattle.std.specs.Ordering.{is_lt, is_eq, is_gt, is_ge}
 use Rattle.std.proofs.lemmas.Bool.{false≢true, and_parts, and_from, not-true}
 use Rattle.lrs_measure.specs.Lists.{each_two}
 use Rattle.lrs_measure.specs.OrderedLists.{place_by}
+use Rattle.lrs_measure.proofs.Members.{all_weaker}
+use Rattle.lrs_measure.proofs.EachTwo.{two_passing}
 use Rattle.lrs_ordered.specs.SearchedLists.{is_parted, joined, first_passes, rises_by, none_by, are_filled}
-use Rattle.lrs_ordered.proofs.Places.{all_passing, two_passing}
 use Rattle.lrs_ordered.proofs.Joins.{place_first, place_later, target_parts, two_rear_at, joined_at}
 
 above_parted : (r s : Ordering) → (is_lt r || is_gt s) ≡ true → (not (is_gt r) || is_gt s) ≡ true
@@ -81,7 +82,7 @@ module _ {X : Type 0} (order : X → Ordering) where
       let from = place_first (is_ge (order x)) (place_by (λ y. is_ge (order y)) xs) (sym e) in
       let later = (and_parts (list_all (λ b. is_lt (order x) || is_gt (order b)) xs) (rises_by order xs) rises).0 in
       ap (λ b. cond b (Some x) (find is_at xs)) here
-      ∙ find_none xs (all_passing (λ b. is_lt (order x) || is_gt (order b)) (λ b. not (is_eq (order b))) (λ b k. over (order x) (order b) from here k) xs later)
+      ∙ find_none xs (all_weaker (λ b. is_lt (order x) || is_gt (order b)) (λ b. not (is_eq (order b))) xs (λ b k. over (order x) (order b) from here k) later)
   missed (x ∷ xs) (suc k) d rises e within here =
       let later = place_later (is_ge (order x)) (place_by (λ y. is_ge (order y)) xs) k (sym e) in
       let rest = (and_parts (list_all (λ b. is_lt (order x) || is_gt (order b)) xs) (rises_by order xs) rises).1 in
@@ -115,7 +116,7 @@ module _ {X : Type 0} (order : X → Ordering) where
   all_above (x ∷ xs) rises h =
       let later = (and_parts (list_all (λ b. is_lt (order x) || is_gt (order b)) xs) (rises_by order xs) rises).0 in
       and_from (not (is_at x)) (none_by order xs) (above_other (order x) h)
-      (all_passing (λ b. is_lt (order x) || is_gt (order b)) (λ b. not (is_eq (order b))) (λ b k. over (order x) (order b) (above_from (order x) h) (above_off (order x) h) k) xs later)
+      (all_weaker (λ b. is_lt (order x) || is_gt (order b)) (λ b. not (is_eq (order b))) xs (λ b k. over (order x) (order b) (above_from (order x) h) (above_off (order x) h) k) later)
     where
       above_from : (r : Ordering) → is_gt r ≡ true → is_ge r ≡ true
       above_from Less k = absurd (false≢true k)
@@ -132,7 +133,7 @@ module _ {X : Type 0} (order : X → Ordering) where
       → (none_by order (joined (take j xss)) ≡ true) × (none_by order (joined (drop (j + 1) xss)) ≡ true)
   elsewhere xss k j d filled rises e is within =
       let both = target_parts (λ x. is_lt (order x)) (λ x. is_gt (order x)) xss k j filled rises (parted_above (joined xss) rises) e is in (
-        all_passing (λ x. is_lt (order x)) (λ x. not (is_eq (order x))) (λ x h. below_other (order x) h) (joined (take j xss)) both.0,
+        all_weaker (λ x. is_lt (order x)) (λ x. not (is_eq (order x))) (joined (take j xss)) (λ x h. below_other (order x) h) both.0,
         all_above (joined (drop (j + 1) xss)) (two_rear_at (λ a b. is_lt (order a) || is_gt (order b)) xss j d within rises) both.1,
       )
 
@@ -146,7 +147,7 @@ module _ {X : Type 0} (order : X → Ordering) where
       let from = place_first (is_ge (order x)) (place_by (λ y. is_ge (order y)) xs) (sym e) in
       let later = (and_parts (list_all (λ b. is_lt (order x) || is_gt (order b)) xs) (rises_by order xs) rises).0 in
       and_from (not (is_at x)) (none_by order xs) (ap not here)
-      (all_passing (λ b. is_lt (order x) || is_gt (order b)) (λ b. not (is_eq (order b))) (λ b k. over (order x) (order b) from here k) xs later)
+      (all_weaker (λ b. is_lt (order x) || is_gt (order b)) (λ b. not (is_eq (order b))) xs (λ b k. over (order x) (order b) from here k) later)
   missed_all (x ∷ xs) (suc k) d rises e within here =
       let later = place_later (is_ge (order x)) (place_by (λ y. is_ge (order y)) xs) k (sym e) in
       let rest = (and_parts (list_all (λ b. is_lt (order x) || is_gt (order b)) xs) (rises_by order xs) rises).1 in

@@ -7,8 +7,8 @@ use Rattle.std.proofs.lemmas.List.{take-append-drop, take-set, drop-set, take_mo
 use Rattle.std.proofs.lemmas.List.Folds.{list_all-append}
 use Rattle.lrs_measure.specs.Lists.{each_two}
 use Rattle.lrs_measure.specs.OrderedLists.{place_by, insert_by}
+use Rattle.lrs_measure.proofs.EachTwo.{two_front, two_rear}
 use Rattle.lrs_ordered.specs.SearchedLists.{is_parted, joined, first_passes, is_filled, are_filled}
-use Rattle.lrs_ordered.proofs.Places.{two_front, two_rear}
 
 add_two : (i : ℕ) → suc (i + 1) ≡ suc i + 1
 add_two i = omega arith

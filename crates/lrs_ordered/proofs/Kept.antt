@@ -8,7 +8,8 @@ use Rattle.std.specs.Cmp.{unsigned_tied}
 use Rattle.std.proofs.lemmas.Bool.{false≢true, and_parts, and_from, lt-ltb, ltb-true, ltb-false, eq-eqb}
 use Rattle.lrs_measure.specs.Lists.{each_two}
 use Rattle.lrs_measure.specs.OrderedLists.{insert_by}
-use Rattle.lrs_ordered.proofs.Places.{all_passing}
+use Rattle.lrs_measure.proofs.Members.{all_weaker}
+use Rattle.lrs_measure.proofs.Insertions.{all-insert_by}
 
 module _ {X : Type 0} where
   -- what is not found fails everywhere
@@ -19,15 +20,6 @@ module _ {X : Type 0} where
       by : (b : Bool) → (find p xs ≡ None → list_all (λ y. not (p y)) xs ≡ true) → cond b (Some x) (find p xs) ≡ None → (not b && list_all (λ y. not (p y)) xs) ≡ true
       by true rest h = absurd (cc h)
       by false rest h = rest h
-
-  all-insert_by : (p : X → Bool) (before : X → X → Bool) (x : X) (xs : List X) → p x ≡ true → list_all p xs ≡ true → list_all p (insert_by before x xs) ≡ true
-  all-insert_by p before x [] here h = and_from (p x) true here refl
-  all-insert_by p before x (y ∷ ys) here h =
-      let both = and_parts (p y) (list_all p ys) h in
-      elim (before x y) as (λ b. list_all p (cond b (x ∷ y ∷ ys) (y ∷ insert_by before x ys)) ≡ true) [
-        | true ↦ and_from (p x) (list_all p (y ∷ ys)) here h
-        | false ↦ and_from (p y) (list_all p (insert_by before x ys)) both.0 (all-insert_by p before x ys here both.1)
-      ]
 
 pub nothing_found : {A X : Type 0} (f : A → X) (o : Option A) (b : Bool) (found : Option X) → is_some o ≡ not b → b ≡ true → option_map f o ≡ found → found ≡ None
 nothing_found f None b found none is e = sym e
@@ -59,7 +51,7 @@ module _ {X : Type 0} (number : X → ℕ) where
       by : (b : Bool) → before_by x y ≡ b → list_all (before_by y) ys ≡ true → each_two before_by ys ≡ true → number x ≢ number y → each_two before_by (insert_by before_by x ys) ≡ true
           → each_two before_by (cond b (x ∷ y ∷ ys) (y ∷ insert_by before_by x ys)) ≡ true
       by true e later rest ne inner = and_from (list_all (before_by x) (y ∷ ys)) (each_two before_by (y ∷ ys))
-          (and_from (before_by x y) (list_all (before_by x) ys) e (all_passing (before_by y) (before_by x) (λ z. chain x y z e) ys later))
+          (and_from (before_by x y) (list_all (before_by x) ys) e (all_weaker (before_by y) (before_by x) ys (λ z. chain x y z e) later))
           (and_from (list_all (before_by y) ys) (each_two before_by ys) later rest)
       by false e later rest ne inner =
           let from = ltb-false (number x) (number y) e in

@@ -8,7 +8,7 @@ use Rattle.std.proofs.Math.Bool.{Bool-set}
 use Rattle.std.proofs.lemmas.Bool.{and_parts, both_ways, cases_Bool}
 use Rattle.std.proofs.lemmas.List.Sorted.{ranks_by}
 use Rattle.lrs_measure.specs.Limits.{is_link}
-use Rattle.lrs_measure.specs.Lists.{each_two}
+use Rattle.lrs_measure.specs.Lists.{In, each_two}
 use Rattle.lrs_measure.specs.Texts.{Name, name_before, same_name}
 use Rattle.lrs_element.specs.declared.link.Ground.{Ground}
 use Rattle.lrs_element.specs.declared.link.Link.{Link}
@@ -28,7 +28,6 @@ use Rattle.lrs_machine.specs.Sound.{IsSound}
 use Rattle.lrs_machine.specs.State.{State}
 use Rattle.lrs_machine.specs.declared.image.Image.{Image}
 use Rattle.lrs_machine.specs.declared.image.RouteRow.{RouteRow}
-use Rattle.lrs_machine.proofs.Members.{In}
 use Rattle.lrs_image_laws.proofs.FromReferents.{referents_found}
 use Rattle.lrs_image_laws.proofs.Naming.{later_name}
 use Rattle.lrs_promises.specs.DeskLaws.Rows.{class_of_asset, courses_by_name}

@@ -12,8 +12,9 @@ use Rattle.std.proofs.lemmas.Bool.{and_parts, both_ways, cases_Bool, cases_lt, f
 use Rattle.std.proofs.lemmas.List.Sums.{sum_by-cons}
 use Rattle.std.proofs.lemmas.List.Sorted.{sum_by-IsPermutation}
 use Rattle.lrs_measure.specs.Limits.{longest_route}
-use Rattle.lrs_measure.specs.Lists.{each_two}
+use Rattle.lrs_measure.specs.Lists.{In, each_two}
 use Rattle.lrs_measure.specs.Texts.{Name, same_name}
+use Rattle.lrs_measure.proofs.Members.{all_at, any_found}
 use Rattle.lrs_element.specs.declared.link.Ground.{Ground}
 use Rattle.lrs_element.specs.declared.marks.Mark.{Mark}
 use Rattle.lrs_position.specs.declared.route.Referent.{Referent}
@@ -27,7 +28,6 @@ use Rattle.lrs_events.specs.declared.span.Span.{Span}
 use Rattle.lrs_events.specs.LaneLists.Lane.{is_met}
 use Rattle.lrs_events.specs.LaneLists.Order.{place_before}
 use Rattle.lrs_events.specs.declared.lanes.order.RowOrder.TheVariants.{ByPlace}
-use Rattle.lrs_events.proofs.LaneLists.Members.{In, all_at, any_found}
 use Rattle.lrs_events.proofs.LaneLists.Ranks.{itself, row_is, row_itself, row_ranks}
 use Rattle.lrs_events.proofs.LaneLists.Strict.{sorted_two}
 use Rattle.lrs_machine.specs.declared.image.Image.{Image}

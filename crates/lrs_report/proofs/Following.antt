@@ -5,8 +5,8 @@ use Rattle.std.specs.List.{find}
 use Rattle.std.specs.Option.{option_and_then}
 use Rattle.std.proofs.lemmas.Bool.{lt-ltb, le-ltb, le-leb, lt-leb, cases_lt}
 use Rattle.lrs_measure.specs.Texts.{Name}
+use Rattle.lrs_measure.specs.Lists.{In}
 use Rattle.lrs_events.specs.declared.span.Span.{Span}
-use Rattle.lrs_events.specs.Row.Order.{In}
 use Rattle.lrs_report.specs.declared.columns.ValueStretch.{ValueStretch}
 use Rattle.lrs_report.specs.SideValues.{FollowOn, is_at}
 use Rattle.lrs_report.specs.Columns.{IsColumn, value_at, gap, stretches_from, stretches_behind}

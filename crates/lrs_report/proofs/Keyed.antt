@@ -8,8 +8,8 @@ use Rattle.std.specs.Ordering.{is_lt, is_eq, is_ge}
 use Rattle.std.proofs.lemmas.Bool.{false≢true, and_parts}
 use Rattle.lrs_measure.specs.Lists.{each_two}
 use Rattle.lrs_measure.specs.OrderedLists.{place_by}
+use Rattle.lrs_measure.proofs.EachTwo.{two_passing}
 use Rattle.lrs_ordered.specs.SearchedLists.{is_parted}
-use Rattle.lrs_ordered.proofs.Places.{two_passing}
 
 pub place_first : (b : Bool) (n : ℕ) → cond b 0 (n + 1) ≡ 0 → b ≡ true
 place_first true n h = refl

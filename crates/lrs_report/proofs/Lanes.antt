@@ -5,16 +5,15 @@ use Rattle.std.specs.List.{find, list_any, list_all}
 use Rattle.std.specs.Option.{option_map, option_and_then}
 use Rattle.std.specs.Cmp.Lexicographic.{bytes_decides}
 use Rattle.std.proofs.lemmas.Bool.{both_ways, and_parts, and_from, or_cases, eqb-true, eq-eqb, ltb-true, leb-true, lt-ltb, le-leb, cases_lt, cases_Bool}
-use Rattle.lrs_measure.specs.Lists.{each_two}
+use Rattle.lrs_measure.specs.Lists.{In, each_two}
 use Rattle.lrs_measure.specs.Texts.{Name, same_name}
+use Rattle.lrs_measure.proofs.Members.{any_found, any_of, all_at, two_at}
 use Rattle.lrs_events.specs.declared.class.Asset.{Asset}
 use Rattle.lrs_events.specs.declared.side.LinkSide.{LinkSide}
 use Rattle.lrs_events.specs.declared.span.Span.{Span}
 use Rattle.lrs_events.specs.Changes.{has_row}
 use Rattle.lrs_events.specs.Members.{has_side, between, stands_for, has_member, is_member}
 use Rattle.lrs_events.specs.Spans.{are_rows, are_apart, is_row, span_before}
-use Rattle.lrs_events.specs.Row.Order.{In}
-use Rattle.lrs_events.proofs.Row.Members.{any_found, any_of, all_at, two_at}
 use Rattle.lrs_events.proofs.Row.Rows.{rows_from, IsFull}
 use Rattle.lrs_events.proofs.Row.Differing.{has_found, has_in}
 use Rattle.lrs_events.proofs.Row.Unique.{IsOver, its_sides, one_over}

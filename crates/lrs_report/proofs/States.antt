@@ -6,6 +6,7 @@ use Rattle.std.specs.Cmp.Lexicographic.{nat_list_cmp_total, bytes_decides}
 use Rattle.std.proofs.lemmas.Bool.{and_parts, eqb-true, leb-true, ltb-true}
 use Rattle.lrs_measure.specs.Lists.{each_two}
 use Rattle.lrs_measure.specs.Texts.{Name, same_name}
+use Rattle.lrs_measure.proofs.Members.{any_found, any_of, all_at}
 use Rattle.lrs_element.specs.declared.link.Ground.{Ground}
 use Rattle.lrs_events.specs.declared.class.Asset.{Asset}
 use Rattle.lrs_events.specs.declared.class.Class.{Class}
@@ -23,8 +24,8 @@ use Rattle.lrs_machine.specs.Readings.{asset_of}
 use Rattle.lrs_machine.specs.Register.{get}
 use Rattle.lrs_machine.specs.Sound.{asset_before, class_before, is_span}
 use Rattle.lrs_machine.specs.State as state
-use Rattle.lrs_machine.proofs.Members.{any_found, any_of, all_at, find_member, find_numbered}
 use Rattle.lrs_machine.specs.Segments.{is_exclusive, is_exclusive_class, segments_of}
+use Rattle.lrs_machine.proofs.Finding.{find_member, find_numbered}
 use Rattle.lrs_report.specs.SideValues.{is_holder, AreExclusive}
 use Rattle.lrs_report.specs.StateSegments.{TellHolders, SegmentsAreOfState, ExclusiveByRows}
 

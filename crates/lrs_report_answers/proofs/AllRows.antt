@@ -1,5 +1,5 @@
 -- The rows of an asset on a route are its canonical rows in the state.
-use Rattle.std.proofs.Common.{arith, ◌≡◌, ℕ, zero, suc, Bool, true, false, cond, ◌⊎◌, inl, inr, List, [], ◌∷◌, ◌++◌, map, length, Option, Some, None, Result, Ok, Err, subst, refl, sym, ap, ◌∙◌}
+use Rattle.std.proofs.Common.{arith, ◌≡◌, ℕ, zero, suc, true, false, ◌⊎◌, inl, inr, List, [], ◌∷◌, ◌++◌, map, length, Option, Some, None, Result, Ok, Err, subst, refl, sym, ap, ◌∙◌}
 use Rattle.std.specs.Prelude.{◌&&◌, nat_eq, nat_le, nat_lt, slice_get, filter, MatchOption}
 use Rattle.std.specs.List.{list_any, list_all, flat_map, filter_map}
 use Rattle.std.specs.Option.{option_map, option_map_or}
@@ -11,6 +11,9 @@ use Rattle.std.proofs.lemmas.Bool.{both_ways, and_parts, and_from, cases_Bool, e
 use Rattle.std.proofs.lemmas.List.Folds.{flat_map-map}
 use Rattle.lrs_measure.specs.Runs.{runs_of, same_option}
 use Rattle.lrs_measure.specs.Texts.{same_name}
+use Rattle.lrs_measure.specs.Lists.{In}
+use Rattle.lrs_measure.proofs.Members.{any_found, all_at, all_weaker, two_at}
+use Rattle.lrs_measure.proofs.Filters.{filter_alike}
 use Rattle.lrs_element.specs.declared.link.Ground.{Ground}
 use Rattle.lrs_position.specs.Locations.{Alignment}
 use Rattle.lrs_events.specs.declared.class.Asset.{Asset}
@@ -27,7 +30,6 @@ use Rattle.lrs_machine.specs.Image.{state_of, route_entry}
 use Rattle.lrs_machine.specs.Readings.{rows_of}
 use Rattle.lrs_machine.specs.Register.{get}
 use Rattle.lrs_machine.specs.Sound.{IsSound, asset_before, is_span}
-use Rattle.lrs_machine.proofs.Members.{In, any_found, all_at, all_weaker, two_at, find_member}
 use Rattle.lrs_image.proofs.Tables.{assets_in_order, routes_in_order}
 use Rattle.lrs_report_answers.specs.declared.rows.FoundRow.{FoundRow}
 use Rattle.lrs_report_answers.specs.AssetStretches.{found_row, all_rows_of, rows_on}
@@ -35,6 +37,7 @@ use Rattle.lrs_image_laws.proofs.Holding.{alone, held_at, rows_held_at}
 use Rattle.lrs_ordered.proofs.Keys.{finds_number}
 use Rattle.lrs_machine.specs.Image.{asset_entry}
 use Rattle.lrs_machine.specs.State as state
+use Rattle.lrs_machine.proofs.Finding.{find_member}
 use Rattle.lrs_report_answers.specs.declared.fault.AskFault.{AskFault}
 use Rattle.lrs_report_answers.specs.declared.fault.AskFault.TheVariants.{Memory}
 use Rattle.lrs_report_answers.specs.Answers.{UnlessMemory, asset_missing}
@@ -46,10 +49,6 @@ use Rattle.lrs_report_answers.proofs.OfState.{row_tests, rows_fit}
 flat_map-same : {X Y : Type 0} (f h : X → List Y) (xs : List X) → ((x : X) → In x xs → f x ≡ h x) → flat_map f xs ≡ flat_map h xs
 flat_map-same f h [] same = refl
 flat_map-same f h (x ∷ xs) same = λ i. same x (inl refl) i ++ flat_map-same f h xs (λ y m. same y (inr m)) i
-
-filter-same : {X : Type 0} (p q : X → Bool) (xs : List X) → ((x : X) → In x xs → p x ≡ q x) → filter p xs ≡ filter q xs
-filter-same p q [] same = refl
-filter-same p q (x ∷ xs) same = λ i. cond (same x (inl refl) i) (x ∷ filter-same p q xs (λ y m. same y (inr m)) i) (filter-same p q xs (λ y m. same y (inr m)) i)
 
 -- what is read at each entry of a course
 map-entries : {X : Type 0} (f h : Ground → X) (c : List Ground) → ((j : ℕ) (g : Ground) → slice_get c j ≡ Some g → f g ≡ h g) → map f c ≡ map h c
@@ -106,7 +105,7 @@ module _ (i : Image) (sound : IsSound i) (a : Asset) (known : In a i.assets) whe
         let ends : end_within (length r.route.course) r.spans ≡ true =
         all_weaker (is_span i.assets (length r.route.course)) (λ q. nat_le q.to (length r.route.course)) r.spans
         (λ q t. (and_parts (nat_le q.to (length r.route.course)) (list_any (λ (b : Asset). nat_eq b.number q.asset && same_name b.class q.class) i.assets) t).0) (rows_fit i r sound m) in
-        ap (map row_run) (sym (filter-same (λ q. nat_eq q.asset a.number) (is_of a.class a.number) r.spans of_class))
+        ap (map row_run) (sym (filter_alike (λ q. nat_eq q.asset a.number) (is_of a.class a.number) r.spans of_class))
         ∙ rows_are_canonical r.route.course r.spans it.once rows ends a.number
         ∙ ap (λ sides. filter_map held_run (runs_of (same_option same_side) sides)) held_alike
         ∙ ap (λ o. option_map_or (λ (al : Alignment). canonical_rows ((state_of i).holds a.number) al.course) o []) (sym route_get)

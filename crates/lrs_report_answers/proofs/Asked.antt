@@ -11,6 +11,7 @@ use Rattle.std.specs.FinMap.{find}
 use Rattle.std.specs.Ordering.{eq_by_cmp}
 use Rattle.std.proofs.lemmas.Bool.{cases_Bool}
 use Rattle.lrs_measure.specs.Texts.{Name, name_cmp}
+use Rattle.lrs_measure.specs.Lists.{In}
 use Rattle.lrs_position.specs.declared.location.PlaceFault.{PlaceFault}
 use Rattle.lrs_position.specs.Locations.{Alignment}
 use Rattle.lrs_position.specs.Translations.{alignment_of, referent_at}
@@ -21,7 +22,6 @@ use Rattle.lrs_machine.specs.Register.{get}
 use Rattle.lrs_machine.specs.Machine.{referent_chainage}
 use Rattle.lrs_machine.specs.Image.{state_of, route_entry}
 use Rattle.lrs_machine.specs.Sound.{IsSound}
-use Rattle.lrs_machine.proofs.Members.{In}
 use Rattle.lrs_image.specs.Change.{is_named}
 use Rattle.lrs_report_answers.specs.declared.fault.AskFault.{AskFault}
 use Rattle.lrs_report_answers.specs.Answers.{IsRouteIn, OnRoute, AsksRoute, as_asked, route_missing}

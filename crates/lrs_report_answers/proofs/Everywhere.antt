@@ -6,13 +6,13 @@ use Rattle.std.specs.BTreeSet.{BTreeSet, IsOrdered}
 use Rattle.std.specs.Cmp.Lexicographic.{texts_ties}
 use Rattle.std.proofs.lemmas.Bool.{both_ways}
 use Rattle.lrs_measure.specs.Texts.{Name, name_cmp}
+use Rattle.lrs_measure.specs.Lists.{In}
+use Rattle.lrs_measure.proofs.Places.{place_in}
 use Rattle.lrs_events.specs.declared.class.Asset.{Asset}
 use Rattle.lrs_events.specs.declared.part.Part.{Part}
 use Rattle.lrs_position.specs.Index.MetRoutes.{IsAmong}
 use Rattle.lrs_machine.specs.declared.image.Image.{Image}
 use Rattle.lrs_machine.specs.Sound.{IsSound}
-use Rattle.lrs_machine.proofs.Members.{In}
-use Rattle.lrs_image_sound.proofs.Keyed.{place_in}
 use Rattle.lrs_image.proofs.Tables.{routes_in_order}
 use Rattle.lrs_report_answers.specs.AssetStretches.{rows_on}
 use Rattle.lrs_inventory.specs.Changes.{route_on}

@@ -5,7 +5,8 @@ use Rattle.std.specs.List.{filter_map, cons_option}
 use Rattle.std.specs.List as list
 use Rattle.std.specs.Option.{option_map}
 use Rattle.std.proofs.lemmas.Bool.{both_ways, and_parts, and_from, cases_Bool, eqb-true, eq-eqb, ltb-true}
-use Rattle.lrs_measure.specs.Lists.{each_two}
+use Rattle.lrs_measure.specs.Lists.{In, each_two}
+use Rattle.lrs_measure.proofs.Members.{any_found, any_of, two_at}
 use Rattle.lrs_element.specs.declared.link.Ground.{Ground}
 use Rattle.lrs_events.specs.declared.class.Asset.{Asset}
 use Rattle.lrs_events.specs.declared.side.Side.{Side}
@@ -24,7 +25,6 @@ use Rattle.lrs_machine.specs.declared.hit.Hit.{Hit}
 use Rattle.lrs_machine.specs.Image.{state_of, asset_entry}
 use Rattle.lrs_machine.specs.Readings.{hits_on, hit_of, asset_of}
 use Rattle.lrs_machine.specs.Sound.{IsSound, asset_before}
-use Rattle.lrs_machine.proofs.Members.{In, any_found, any_of, two_at}
 use Rattle.lrs_image.proofs.Tables.{assets_in_order}
 use Rattle.lrs_report_answers.specs.Answers.{IsRouteIn}
 use Rattle.lrs_report_answers.specs.Hits.{hit_by}

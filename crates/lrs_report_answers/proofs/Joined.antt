@@ -5,8 +5,8 @@ use Rattle.std.specs.List.{filter_map, cons_option, list_all}
 use Rattle.std.specs.List as list
 use Rattle.std.specs.Option.{option_map}
 use Rattle.std.proofs.lemmas.Bool.{and_parts, cases_Bool, eqb-true, eq-eqb, ltb-true}
-use Rattle.lrs_measure.specs.Lists.{each_two}
-use Rattle.lrs_machine.proofs.Members.{In, all_at}
+use Rattle.lrs_measure.specs.Lists.{In, each_two}
+use Rattle.lrs_measure.proofs.Members.{all_at}
 
 pub filter_map-same : {X Z : Type 0} (f h : X → Option Z) (xs : List X) → ((x : X) → In x xs → f x ≡ h x) → filter_map f xs ≡ filter_map h xs
 filter_map-same f h [] same = refl

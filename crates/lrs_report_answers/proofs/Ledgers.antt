@@ -16,7 +16,6 @@ use Rattle.lrs_machine.specs.Laws.{IsCounted}
 use Rattle.lrs_machine.specs.State as state
 use Rattle.lrs_events.specs.declared.side.LinkSide.{LinkSide}
 use Rattle.lrs_events.specs.declared.side.LinkSide.TheVariants.{Left, Right}
-use Rattle.lrs_machine.proofs.Members.{In, any_of, all_at}
 use Rattle.lrs_machine.proofs.Totals.{count-one}
 use Rattle.lrs_machine.proofs.Totals.{totals_add_up}
 use Rattle.lrs_machine.proofs.Counting.{totals_count_all}
@@ -31,7 +30,8 @@ use Rattle.lrs_element.specs.declared.link.Link.{Link}
 use Rattle.lrs_events.specs.declared.class.Asset.{Asset}
 use Rattle.lrs_events.specs.declared.part.Gone.{Gone}
 use Rattle.lrs_events.specs.Parts.{part_before}
-use Rattle.lrs_measure.specs.Lists.{each_two}
+use Rattle.lrs_measure.specs.Lists.{In, each_two}
+use Rattle.lrs_measure.proofs.Members.{any_of, all_at}
 use Rattle.std.specs.List.{list_all}
 use Rattle.lrs_image.proofs.Tables.{passes}
 use Rattle.lrs_image_sound.proofs.Balancing.{apart_is_once, filled}

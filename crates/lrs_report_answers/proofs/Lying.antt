@@ -17,7 +17,9 @@ use Rattle.lrs_events.specs.Members.{has_side, between, stands_for}
 use Rattle.lrs_events.specs.Parts.{has_pair}
 use Rattle.lrs_events.specs.Places.{Place, beside}
 use Rattle.lrs_events.specs.Spans.{is_row, span_before, are_apart, are_rows}
-use Rattle.lrs_measure.specs.Lists.{each_two}
+use Rattle.lrs_measure.specs.Lists.{In, each_two}
+use Rattle.lrs_measure.proofs.Members.{any_found, any_of, all_at}
+use Rattle.lrs_measure.proofs.Places.{place_in}
 use Rattle.lrs_events.specs.Row.Members.{is_of}
 use Rattle.lrs_events.specs.Row.CourseMembers.{is_held}
 use Rattle.lrs_position.specs.Index.MetRoutes.{RunsBetween}
@@ -26,7 +28,6 @@ use Rattle.lrs_machine.specs.declared.image.Image.{Image}
 use Rattle.lrs_machine.specs.declared.image.RouteRow.{RouteRow}
 use Rattle.lrs_machine.specs.Image.{state_of}
 use Rattle.lrs_machine.specs.Sound.{IsSound, is_span, is_origin}
-use Rattle.lrs_machine.proofs.Members.{In, any_found, any_of, all_at}
 use Rattle.lrs_machine.proofs.Pairs.{HasPlace, pair_had}
 use Rattle.lrs_machine.proofs.SoundImages.{and_three, sound_is_lawful}
 use Rattle.lrs_image.proofs.Tables.{passes}
@@ -34,7 +35,6 @@ use Rattle.lrs_image_laws.proofs.FromReferents.{ground_there, run_over, courses_
 use Rattle.lrs_image_laws.proofs.Holding.{held_at}
 use Rattle.lrs_report_answers.specs.AssetStretches.{row_of_span, rows_on}
 use Rattle.lrs_report_answers.proofs.OfState.{row_tests}
-use Rattle.lrs_image_sound.proofs.Keyed.{place_in}
 use Rattle.lrs_inventory.specs.Changes.{route_on}
 use Rattle.lrs_report_answers.specs.Ground.{RunsOverPart}
 

@@ -12,12 +12,12 @@ use Rattle.std.specs.Cmp.Lexicographic.{nat_list_cmp_total, bytes_decides, texts
 use Rattle.std.specs.Ordering.{is_eq, ordering_reverse}
 use Rattle.std.proofs.lemmas.Bool.{both_ways, and_parts, and_from, false_from_ne_true}
 use Rattle.std.proofs.lemmas.List.Sorted.{ranks_by}
-use Rattle.lrs_measure.specs.Lists.{each_two}
+use Rattle.lrs_measure.specs.Lists.{In, each_two}
 use Rattle.lrs_measure.specs.Texts.{Name, name_cmp, name_before, same_name}
+use Rattle.lrs_measure.proofs.Members.{all_at}
 use Rattle.lrs_events.proofs.LaneLists.Ranks.{itself, before_trans}
 use Rattle.lrs_machine.specs.declared.image.RouteRow.{RouteRow}
 use Rattle.lrs_machine.specs.Sound.{route_before}
-use Rattle.lrs_machine.proofs.Members.{In, all_at}
 use Rattle.lrs_image.specs.Change.{is_named}
 use Rattle.lrs_position.specs.declared.route.Referent.{Referent}
 use Rattle.lrs_report_answers.specs.DrawnRows.{stands_before}

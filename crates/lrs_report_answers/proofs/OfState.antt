@@ -4,6 +4,8 @@ use Rattle.std.specs.Prelude.{MatchOption, not, position}
 use Rattle.std.specs.List.{list_all}
 use Rattle.std.proofs.lemmas.Bool.{and_parts}
 use Rattle.lrs_measure.specs.Texts.{Name}
+use Rattle.lrs_measure.specs.Lists.{In}
+use Rattle.lrs_measure.proofs.Members.{all_at, In-map}
 use Rattle.lrs_events.specs.declared.class.Class.{Class}
 use Rattle.lrs_events.specs.declared.side.Side.{Side}
 use Rattle.lrs_events.specs.Spans.{are_rows, same_side}
@@ -15,7 +17,6 @@ use Rattle.lrs_machine.specs.declared.image.RouteRow.{RouteRow}
 use Rattle.lrs_machine.specs.declared.image.Image.{Image}
 use Rattle.lrs_machine.specs.Image.{state_of}
 use Rattle.lrs_machine.specs.Sound.{IsSound, RouteSpans, are_spans_of, spans_of, is_span, keeps_exclusive}
-use Rattle.lrs_machine.proofs.Members.{In, all_at, In-map}
 use Rattle.lrs_machine.proofs.SoundImages.{sound_is_lawful}
 use Rattle.lrs_image.proofs.Tables.{passes, assets_in_order, classes_in_order}
 use Rattle.lrs_report.specs.SideValues.{IsAnswer, AreExclusive}

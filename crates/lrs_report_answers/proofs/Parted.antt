@@ -9,11 +9,11 @@ use Rattle.std.specs.Ordering.{nat_cmp, is_lt, ordering_then}
 use Rattle.std.proofs.lemmas.Bool.{both_ways, and_parts, cases_lt, ltb-true, ltb-false, leb-true, leb-false, eq-eqb, eqb-true, false_from_ne_true}
 use Rattle.std.proofs.lemmas.List.{take-append-drop, append-nil, take_all, length-drop}
 use Rattle.std.proofs.lemmas.List.Elements.{filter-append}
-use Rattle.lrs_measure.specs.Lists.{each_two}
+use Rattle.lrs_measure.specs.Lists.{In, each_two}
+use Rattle.lrs_measure.proofs.Places.{two_pass, all_first, all_last}
+use Rattle.lrs_measure.proofs.Filters.{filter_all, filter_none}
 use Rattle.lrs_events.specs.declared.part.Part.{Part}
 use Rattle.lrs_events.specs.Parts.{part_before, side_number}
-use Rattle.lrs_events.proofs.LaneLists.Members.{In, filter_all, filter_none, two_pass}
-use Rattle.lrs_events.proofs.LaneLists.Fronts.{all_first, all_last}
 use Rattle.lrs_machine.specs.declared.image.Image.{Image}
 use Rattle.lrs_machine.specs.Sound.{IsSound, are_parts}
 use Rattle.lrs_image.proofs.Tables.{passes}

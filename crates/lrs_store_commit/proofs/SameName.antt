@@ -5,8 +5,8 @@ use Rattle.std.proofs.lemmas.Bool.{and_parts}
 use Rattle.std.proofs.lemmas.List.Sorted.{IsPermutation-refl}
 use Rattle.std.proofs.lemmas.Slice.Eq.{bytes_eq-Decides}
 use Rattle.lrs_measure.specs.Texts.{Name, same_name}
+use Rattle.lrs_measure.proofs.Members.{any_found}
 use Rattle.lrs_events.specs.declared.span.Span.{Span}
-use Rattle.lrs_machine.proofs.Members.{any_found}
 use Rattle.lrs_image.specs.declared.change.RouteKeys.{RouteKeys}
 use Rattle.lrs_store_tables.specs.Contents.Tables.{Tables, PieceRow, MarkRow, RefRow, SpanRow}
 use Rattle.lrs_store_tables.specs.Contents.Tables.{AreSame}

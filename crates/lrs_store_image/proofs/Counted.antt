@@ -7,8 +7,8 @@ use Rattle.std.proofs.lemmas.Bool.{true≢false, false≢true, both_ways, and_fr
 use Rattle.std.proofs.lemmas.List.{append_assoc, append-nil, length-append}
 use Rattle.std.proofs.lemmas.List.Sorted.{IsPermutation-sym}
 use Rattle.lrs_measure.specs.Lists.{each_two}
+use Rattle.lrs_measure.proofs.Members.{all_weaker}
 use Rattle.lrs_machine.specs.declared.table.Table.{Table}
-use Rattle.lrs_machine.proofs.Members.{all_weaker}
 use Rattle.lrs_store_tables.specs.Contents.Decoders.{only_if, each_of, each_sorted, sorted, Numbered, number_before, counted}
 use Rattle.lrs_store_tables.specs.Contents.Decoders as option
 use Rattle.lrs_store_tables.specs.Contents.Content.{read}

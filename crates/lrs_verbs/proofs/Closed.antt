@@ -7,12 +7,13 @@ use Rattle.std.proofs.lemmas.List.{append-nil}
 use Rattle.std.specs.Prelude.{◌&&◌, is_some, nat_lt}
 use Rattle.std.specs.Option.{option_map, ok_or}
 use Rattle.std.specs.Cmp.Lexicographic.{bytes_decides}
+use Rattle.lrs_measure.specs.Lists.{In}
+use Rattle.lrs_measure.proofs.Members.{any_found, any_of, all_at, In-map, map_found}
 use Rattle.lrs_inventory.specs.Prelude.{each_two, Name, same_name, Ground, Piece, Millimetre, course_of, runs_over, IsFilled, Referent, Alignment, referent_before, Gone, holds_by_spans, Cause, Image, RouteRow, state_of, route_entry, referent_entry, referents_on, attempt, ◌>>=◌, is_route_course, have_marks, are_referents, IsSound, State, Makes, RouteKeys, keys_of, Difference, is_named, with_difference, AreGone}
 use Rattle.lrs_machine.specs.declared.answer.Cause.TheVariants as cause
 use Rattle.lrs_machine.specs.declared.command.Command.TheVariants as verb
 use Rattle.lrs_machine.specs.Machine.{abandon, drop_route}
 use Rattle.lrs_machine.specs.State.{Abandoned}
-use Rattle.lrs_machine.proofs.Members.{In, any_found, any_of, all_at, In-map, map_found}
 use Rattle.lrs_image.proofs.Tables.{routes_in_order}
 use Rattle.lrs_image_laws.specs.RoutesOver.{is_run_by}
 use Rattle.lrs_image_laws.proofs.Naming.{found_in, only_one, without_one}

@@ -10,14 +10,16 @@ use Rattle.std.proofs.lemmas.Map.Lookups.{exact_bytes}
 use Rattle.std.specs.Option.{option_map}
 use Rattle.std.specs.Ordering.{eq_by_cmp}
 use Rattle.std.specs.Cmp.Lexicographic.{bytes_decides}
+use Rattle.lrs_measure.specs.Lists.{In}
+use Rattle.lrs_measure.proofs.Members.{any_found, any_of, all_at, In-append_left, In-flat_map, flat_map_found}
+use Rattle.lrs_measure.proofs.Filters.{all-filter, each_two-filter}
 use Rattle.lrs_inventory.specs.Prelude.{each_two, Name, name_cmp, same_name, Ground, Millimetre, meets, runs_over, Referent, is_route, is_route_course, have_marks, are_referents, referent_before, Image, RouteRow, state_of, referent_entry, referents_on, attempt, ◌>>◌, IsSound, changed_refs}
 use Rattle.lrs_element.specs.Course.{ground_at, is_at}
 use Rattle.lrs_machine.specs.declared.answer.Cause.TheVariants as cause
 use Rattle.lrs_machine.specs.declared.command.Command.TheVariants as verb
 use Rattle.lrs_machine.specs.Machine.{refuse_if, set_referent}
-use Rattle.lrs_machine.proofs.Members.{In, any_found, any_of, all_at, In-append_left, In-flat_map, flat_map_found, find_found}
 use Rattle.lrs_machine.proofs.SoundImages.{and_three}
-use Rattle.lrs_events.proofs.LaneLists.Members.{all-filter, each_two-filter}
+use Rattle.lrs_machine.proofs.Finding.{find_found}
 use Rattle.lrs_image.specs.Change.{refers_to}
 use Rattle.lrs_inventory.specs.Changes.{route_on}
 use Rattle.lrs_inventory.specs.Plans.{IsPlanOf}

@@ -10,9 +10,10 @@ use Rattle.std.specs.Option.{option_map}
 use Rattle.std.specs.Cmp.Lexicographic.{bytes_decides}
 use Rattle.lrs_inventory.specs.Prelude.{each_two, insert_by, Name, Millimetre, runs_over, RouteRow, route_before, is_named, without}
 use Rattle.lrs_measure.specs.Texts.{name_before}
-use Rattle.lrs_machine.proofs.Members.{In, all_at, all_of}
+use Rattle.lrs_measure.specs.Lists.{In}
+use Rattle.lrs_measure.proofs.Members.{all_at, all_of}
+use Rattle.lrs_measure.proofs.Filters.{filter_all}
 use Rattle.lrs_machine.proofs.Pairs.{each_two-map}
-use Rattle.lrs_events.proofs.LaneLists.Members.{filter_all}
 use Rattle.lrs_image.proofs.Named.{name_apart}
 use Rattle.lrs_image.proofs.PutBack.{none_goes, found_passes}
 use Rattle.lrs_inventory.specs.Changes.{route_on}

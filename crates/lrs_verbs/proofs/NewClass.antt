@@ -10,11 +10,11 @@ use Rattle.lrs_events.specs.declared.class.Class.{Class}
 use Rattle.lrs_machine.specs.declared.answer.Cause.TheVariants as cause
 use Rattle.lrs_machine.specs.declared.command.Command.TheVariants as verb
 use Rattle.lrs_measure.specs.Limits.{most_assets}
+use Rattle.lrs_measure.proofs.Members.{all_weaker}
 use Rattle.lrs_machine.specs.EnteredNumbers.{is_asset_number, is_lateral_offset}
 use Rattle.lrs_machine.specs.Register.{insert}
 use Rattle.lrs_machine.specs.Machine.{refuse_if}
 use Rattle.lrs_machine.specs.Sound.{class_before, is_asset, are_assets}
-use Rattle.lrs_machine.proofs.Members.{all_weaker}
 use Rattle.lrs_image_laws.proofs.Ordering.{sound_is_orderly}
 use Rattle.lrs_inventory.specs.Plans.{plan_of, IsPlanOf}
 use Rattle.lrs_inventory.proofs.NamedEntries.{names_exact}

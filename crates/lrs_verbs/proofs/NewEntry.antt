@@ -12,7 +12,7 @@ use Rattle.std.specs.List.{list_any, list_all}
 use Rattle.std.specs.Ordering.{nat_cmp, eq_by_cmp}
 use Rattle.std.specs.Cmp.Lexicographic.{bytes_decides}
 use Rattle.lrs_inventory.specs.Prelude.{each_two, insert_by, name_cmp, same_name, longest_route, is_too_long, is_route_course, have_marks, are_referents, Asset, Kind, Part, Span, Place, is_among, places_on, span_before, are_rows, NewAsset, RouteRow, Image, Edit, state_of, holds_on, route_entry, referents_on, asset_entry, Extent, part_of, refuse_at, attempt, contains_key, route_before, asset_before, is_span, are_spans_of, is_on_a_link, are_courses, IsSound, RouteCourse, is_named, without, with_difference, IsOrderly}
-use Rattle.lrs_measure.specs.Lists.{is_nothing}
+use Rattle.lrs_measure.specs.Lists.{In, is_nothing}
 use Rattle.lrs_measure.specs.Limits.{most_pieces, most_pairs, most_assets, most_edits}
 use Rattle.lrs_element.specs.Course.{piece_count}
 use Rattle.lrs_events.specs.Changes.{changed}
@@ -25,13 +25,14 @@ use Rattle.lrs_machine.specs.declared.command.Command.TheVariants as verb
 use Rattle.lrs_machine.specs.Machine.{first_holder, enter_asset}
 use Rattle.lrs_machine.specs.EnteredNumbers.{is_asset_number, is_lateral_offset}
 use Rattle.lrs_machine.specs.Sound.{is_asset, are_assets, spans_of, is_part, share_nothing, pairs_of, are_parts, parts_of, is_named_by, are_all_marks, are_all_referents, RouteMarks, RouteReferents}
-use Rattle.lrs_machine.proofs.Members.{In, any_found, any_of, all_at, all_weaker, all_of}
 use Rattle.lrs_machine.proofs.SoundImages.{and_three}
 use Rattle.lrs_measure.specs.KeyOrder.{numbers_agree}
+use Rattle.lrs_measure.proofs.Members.{any_found, any_of, all_at, all_weaker, all_of}
+use Rattle.lrs_measure.proofs.Insertions.{length-insert_by, all-insert_by}
+use Rattle.lrs_measure.proofs.EachTwo.{each_two_from}
 use Rattle.lrs_image.specs.Change.{routes_after}
 use Rattle.lrs_image.proofs.Tables.{passes, routes_in_order}
 use Rattle.lrs_image_laws.specs.Orderly.{is_filled, share_nothing_in_an_edit}
-use Rattle.lrs_image_laws.proofs.Found.{each_two_from}
 use Rattle.lrs_image_laws.proofs.Ordering.{sound_is_orderly}
 use Rattle.lrs_verbs.specs.Entries.{asset_of, row_of, with_row, entering, AreInLimits, AreEntered, IsEntering}
 use Rattle.lrs_verbs.specs.EntryRequests.{IsWanted}
@@ -40,8 +41,7 @@ use Rattle.lrs_inventory.specs.declared.plan.Plan.{Plan}
 use Rattle.lrs_inventory.specs.Plans.{plan_of, IsPlanOf}
 use Rattle.lrs_verbs.proofs.EntryChecks.{then_held}
 use Rattle.lrs_inventory.proofs.Filed.{is_some-find_row, put-insert_by}
-use Rattle.lrs_events.proofs.LaneLists.Inserted.{length-insert_by}
-use Rattle.lrs_image_laws.proofs.InOrder.{and_weaker, all-insert_by, any-insert_by, each_two-insert_by, is_comparable}
+use Rattle.lrs_image_laws.proofs.InOrder.{and_weaker, any-insert_by, each_two-insert_by, is_comparable}
 use Rattle.lrs_image_laws.proofs.Apart.{nat_eq-comm}
 use Rattle.lrs_verbs.proofs.NewClass as new_class
 use Rattle.lrs_image_laws.proofs.Appended.{each_two-append}

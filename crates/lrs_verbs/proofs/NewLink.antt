@@ -17,11 +17,11 @@ use Rattle.lrs_machine.specs.Register.{insert}
 use Rattle.lrs_machine.specs.Image.{link_entry}
 use Rattle.lrs_machine.specs.Machine.{refuse_if}
 use Rattle.lrs_machine.specs.Sound.{link_before, is_course, course_before, courses_of}
-use Rattle.lrs_machine.proofs.Members.{all_weaker}
 use Rattle.lrs_image_laws.proofs.Ordering.{sound_is_orderly}
 use Rattle.lrs_inventory.specs.Plans.{plan_of, IsPlanOf}
 use Rattle.lrs_inventory.proofs.Filed.{is_some-find_row, put-insert_by}
 use Rattle.lrs_measure.specs.KeyOrder.{numbers_agree}
+use Rattle.lrs_measure.proofs.Members.{all_weaker}
 use Rattle.lrs_image_laws.proofs.InOrder.{and_weaker, any-insert_by, is_comparable, each_two-insert_by}
 use Rattle.lrs_verbs.proofs.Unmoved.{adding, can_differ, tells}
 

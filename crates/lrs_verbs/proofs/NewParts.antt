@@ -12,8 +12,9 @@ use Rattle.lrs_events.specs.Parts.{has_pair, has_place}
 use Rattle.lrs_events.specs.Places.{same_place, same_link_side, places_at}
 use Rattle.lrs_events.specs.Spans.{holds_by_span}
 use Rattle.lrs_measure.specs.Limits.{most_pairs}
+use Rattle.lrs_measure.specs.Lists.{In}
+use Rattle.lrs_measure.proofs.Members.{any_found, any_of, all_at, map_found, In-map, all_of}
 use Rattle.lrs_machine.specs.Sound.{link_before, pairs_of, has_asset_place}
-use Rattle.lrs_machine.proofs.Members.{In, any_found, any_of, all_at, map_found, In-map, all_of}
 use Rattle.lrs_machine.proofs.Pairs.{held, same_side_is, is_same_side}
 use Rattle.lrs_image_laws.proofs.Counted.{is_on_its_link, fewer}
 use Rattle.lrs_image_laws.proofs.Sounding.{has_its_pair}

@@ -10,6 +10,10 @@ use Rattle.std.specs.List.{list_any, list_all, flat_map, filter_map, cons_option
 use Rattle.std.specs.Option.{option_map, option_or, ok_or}
 use Rattle.std.specs.Ordering.{eq_by_cmp}
 use Rattle.std.specs.Cmp.Lexicographic.{nat_list_cmp_total, texts_ties, bytes_decides}
+use Rattle.lrs_measure.specs.Lists.{In}
+use Rattle.lrs_measure.proofs.Members.{any_found, all_at, all_of, In-flat_map, flat_map_found}
+use Rattle.lrs_measure.proofs.Filters.{filter_all}
+use Rattle.lrs_measure.proofs.Insertions.{all-insert_by}
 use Rattle.lrs_inventory.specs.Prelude.{each_two, insert_by, Name, name_cmp, same_name, Ground, Millimetre, Referent, Alignment, is_route, is_route_course, have_marks, are_referents, referent_before, Cause, Image, RouteRow, state_of, referent_entry, referents_on, attempt, ◌>>◌, ◌>>=◌, IsSound, State, changed_refs}
 use Rattle.lrs_element.specs.Course.{ground_at}
 use Rattle.lrs_position.specs.declared.expression.Expr.{Expr}
@@ -18,14 +22,13 @@ use Rattle.lrs_machine.specs.declared.answer.Cause.TheVariants as cause
 use Rattle.lrs_machine.specs.declared.command.Command.TheVariants as verb
 use Rattle.lrs_machine.specs.Machine.{refuse_if, route_named, located_chainage, set_referent}
 use Rattle.lrs_machine.specs.Register.{get}
-use Rattle.lrs_machine.proofs.Members.{In, any_found, all_at, all_of, In-flat_map, flat_map_found, find_known}
 use Rattle.lrs_machine.proofs.SoundImages.{and_three}
-use Rattle.lrs_events.proofs.LaneLists.Members.{filter_all}
+use Rattle.lrs_machine.proofs.Finding.{find_known}
 use Rattle.lrs_inventory.specs.Extents.{located_cell}
 use Rattle.lrs_inventory.specs.Plans.{IsPlanOf}
 use Rattle.lrs_verbs.specs.RouteReferents.{plan_of_referents, with_one, standing_at}
 use Rattle.lrs_image_laws.proofs.FromReferents.{ground_there, other_names, refs_of, names_once}
-use Rattle.lrs_image_laws.proofs.InOrder.{is_false, all-insert_by, each_two-insert_by, before-chain, before-comparable}
+use Rattle.lrs_image_laws.proofs.InOrder.{is_false, each_two-insert_by, before-chain, before-comparable}
 use Rattle.lrs_inventory.proofs.NamedEntries.{names_exact}
 use Rattle.lrs_verbs.proofs.InPlace.{DifferAt}
 use Rattle.lrs_verbs.proofs.RouteReferents.{new, became, after, in_its_place, is_plan}

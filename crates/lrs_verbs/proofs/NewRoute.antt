@@ -12,13 +12,14 @@ use Rattle.std.specs.Ordering.{eq_by_cmp}
 use Rattle.std.specs.Cmp.Lexicographic.{nat_list_cmp_total}
 use Rattle.lrs_inventory.specs.Prelude.{each_two, Name, name_cmp, same_name, insert_by, Piece, Ground, Mark, Millimetre, expand, course_of, runs_over, meets, is_too_long, IsFilled, is_route_course, have_marks, are_referents, Referent, Place, differs, holds_by_spans, Cause, Image, RouteRow, contains_key, state_of, route_entry, referent_entry, referents_on, holds_on, State, attempt, ◌>>◌, ◌>>=◌, set_route, RouteCourse, is_on_a_link, are_courses, are_spans_of, route_before, IsSound, no_difference, with_difference, IsOrderly, is_run_once}
 use Rattle.lrs_element.specs.Course.{is_at}
-use Rattle.lrs_events.proofs.LaneLists.Inserted.{length-insert_by}
 use Rattle.lrs_machine.specs.declared.answer.Cause.TheVariants as cause
 use Rattle.lrs_machine.specs.declared.command.Command.TheVariants as verb
 use Rattle.lrs_measure.specs.Limits.{most_routes}
+use Rattle.lrs_measure.specs.Lists.{In}
+use Rattle.lrs_measure.proofs.Members.{any_of, any_found, all_of, list_any-map}
+use Rattle.lrs_measure.proofs.Insertions.{length-insert_by, all-insert_by}
 use Rattle.lrs_machine.specs.Machine.{refuse_if, check_pieces, check_free, check_marks, is_taken}
 use Rattle.lrs_machine.specs.Sound.{course_before, is_course, courses_of, RouteMarks, RouteReferents, are_all_referents, referents_of, RouteSpans}
-use Rattle.lrs_machine.proofs.Members.{In, any_of, any_found, all_of, list_any-map}
 use Rattle.lrs_machine.proofs.SoundImages.{and_three}
 use Rattle.lrs_image_laws.proofs.Ordering.{sound_is_orderly}
 use Rattle.lrs_inventory.specs.Changes.{route_on, ground_after}
@@ -27,7 +28,7 @@ use Rattle.lrs_inventory.specs.NewCourses.{new_course, new_marks}
 use Rattle.lrs_inventory.specs.NewRoutes.{IsEntryOf, route_plan}
 use Rattle.lrs_inventory.proofs.NamedEntries.{names_exact}
 use Rattle.lrs_inventory.proofs.Filed.{put-insert_by}
-use Rattle.lrs_image_laws.proofs.InOrder.{none_found, is_false, and_weaker, all-insert_by, each_two-insert_by, before-chain, before-comparable, any-insert_by_other, find-insert_by, each_two-insert_among, made-insert_by_none, all_mapped-insert_by, map-insert_by}
+use Rattle.lrs_image_laws.proofs.InOrder.{none_found, is_false, and_weaker, each_two-insert_by, before-chain, before-comparable, any-insert_by_other, find-insert_by, each_two-insert_among, made-insert_by_none, all_mapped-insert_by, map-insert_by}
 use Rattle.lrs_image_laws.proofs.Apart.{at_is, apart_too}
 use Rattle.lrs_inventory.proofs.NewCourse.{no_place, fails_at, once, on_links, apart_from, IsMade, made_of, marks_of}
 use Rattle.lrs_inventory.proofs.KnownRoutes.{has_name, ties, knows, nothing_taken}

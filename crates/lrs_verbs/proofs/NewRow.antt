@@ -3,12 +3,14 @@ use Rattle.std.proofs.Common.{◌≡◌, ℕ, ◌<◌, Bool, true, ◌⊎◌, in
 use Rattle.std.proofs.lemmas.Bool.{and_parts, and_from, or_left, or_right, cases_order, ne_eqb}
 use Rattle.std.specs.Prelude.{◌||◌, ◌&&◌, not, nat_eq, nat_lt}
 use Rattle.std.specs.List.{list_all}
+use Rattle.lrs_measure.specs.Lists.{In}
+use Rattle.lrs_measure.proofs.Members.{all_of}
+use Rattle.lrs_measure.proofs.Insertions.{all-insert_by}
 use Rattle.lrs_inventory.specs.Prelude.{each_two, insert_by, same_name, Span, span_before, are_rows}
 use Rattle.lrs_events.specs.Spans.{same_side, are_apart, is_row}
 use Rattle.lrs_events.proofs.Row.Changing.{spans_strict}
 use Rattle.lrs_events.proofs.Row.Rows.{NameCases, name_cases, before, same, behind, begins_class, begins_asset, first_begins}
-use Rattle.lrs_machine.proofs.Members.{In, all_of}
-use Rattle.lrs_image_laws.proofs.InOrder.{all-insert_by, each_two-insert_by, each_two-insert_among, is_comparable}
+use Rattle.lrs_image_laws.proofs.InOrder.{each_two-insert_by, each_two-insert_among, is_comparable}
 
 -- rows of two assets are in an order
 rows_in_order : (r s : Span) → (r.asset ≡ s.asset → ⊥) → (span_before r s || span_before s r) ≡ true

@@ -4,12 +4,12 @@ use Rattle.std.specs.Prelude.{is_none, is_some}
 use Rattle.std.specs.List.{find, list_any, AllByRecursion}
 use Rattle.std.proofs.lemmas.Bool.{false≢true}
 use Rattle.std.specs.Option.{option_map, ok_or}
+use Rattle.lrs_measure.specs.Lists.{In}
 use Rattle.lrs_inventory.specs.Prelude.{Name, same_name, Piece, course_of, runs_over, IsFilled, is_route_course, have_marks, are_referents, Alignment, Cause, Image, RouteRow, state_of, route_entry, State, attempt, ◌>>◌, ◌>>=◌, set_route, contains_key, IsSound, Makes, RouteChange, RouteKeys, keys_of, is_named}
 use Rattle.lrs_element.specs.Marks.{bad_mark}
 use Rattle.lrs_machine.specs.declared.answer.Cause.TheVariants as cause
 use Rattle.lrs_machine.specs.declared.command.Command.TheVariants as verb
 use Rattle.lrs_machine.specs.Machine.{refuse_if, drop_route}
-use Rattle.lrs_machine.proofs.Members.{In}
 use Rattle.lrs_machine.proofs.SoundImages.{and_three}
 use Rattle.lrs_image_laws.specs.Renames.{HasSame}
 use Rattle.lrs_image_laws.proofs.Alike.{IsAlike, fit, same_state, moves}

@@ -7,7 +7,8 @@ use Rattle.std.specs.Prelude.{◌&&◌, not, nat_eq, nat_le, nat_lt, slice_get}
 use Rattle.std.specs.List.{list_any}
 use Rattle.std.specs.Cmp.Lexicographic.{bytes_decides}
 use Rattle.lrs_inventory.specs.Prelude.{same_name, Ground, Asset, B, Span, Place, places_on, holds_by_spans, Removal, is_within, IsRemoval, Image, RouteRow, state_of, asset_entry, holds_on, Extent, part_of, IsSound}
-use Rattle.lrs_measure.specs.Lists.{is_nothing}
+use Rattle.lrs_measure.specs.Lists.{In, is_nothing}
+use Rattle.lrs_measure.proofs.Members.{any_found, any_of, flat_map_found}
 use Rattle.lrs_element.specs.Course.{is_at}
 use Rattle.lrs_events.specs.declared.side.LinkSide.{LinkSide}
 use Rattle.lrs_events.specs.Members.{is_member}
@@ -18,8 +19,8 @@ use Rattle.lrs_machine.specs.State as state
 use Rattle.lrs_machine.specs.Register.{get}
 use Rattle.lrs_machine.specs.Machine.{belongs_to}
 use Rattle.lrs_machine.proofs.Ledgers.{among_passes}
-use Rattle.lrs_machine.proofs.Members.{In, any_found, any_of, flat_map_found, find_numbered}
 use Rattle.lrs_machine.proofs.Pairs.{beside_ground}
+use Rattle.lrs_machine.proofs.Finding.{find_numbered}
 use Rattle.lrs_image.proofs.Tables.{assets_in_order}
 use Rattle.lrs_image_laws.proofs.Halved.{side_at, its_end, filled_in}
 use Rattle.lrs_image_laws.proofs.Parted.{member_held}

@@ -4,14 +4,13 @@ use Rattle.std.specs.List.{find, list_any}
 use Rattle.std.specs.Option.{option_and_then, option_map}
 use Rattle.std.specs.Prelude.{◌||◌, not}
 use Rattle.lrs_inventory.specs.Prelude.{Name, alignment_of, Asset, Kind, B, places_on, Removal, IsRemoval, IsPlan, Cause, Image, RouteRow, state_of, asset_entry, route_entry, ◌>>◌, Extent, part_of, extent_of, attempt, IsSound, Retired, is_named}
-use Rattle.lrs_measure.specs.Lists.{is_nothing}
+use Rattle.lrs_measure.specs.Lists.{In, is_nothing}
 use Rattle.lrs_position.specs.Expressions.{Ends}
 use Rattle.lrs_machine.specs.declared.answer.Cause.TheVariants as cause
 use Rattle.lrs_machine.specs.declared.command.Command.TheVariants as verb
 use Rattle.lrs_machine.specs.Register.{get}
 use Rattle.lrs_machine.specs.Machine.{refuse_if, belongs_to, is_empty_extent, is_wrong_kind, kind_of_asset}
 use Rattle.lrs_machine.specs.State as state
-use Rattle.lrs_machine.proofs.Members.{In}
 use Rattle.lrs_inventory.specs.declared.plan.Plan.{Plan}
 use Rattle.lrs_inventory.specs.Plans.{IsPlanOf}
 use Rattle.lrs_verbs.specs.Removals.{of_asset_within, HasAsset, IsTaking}

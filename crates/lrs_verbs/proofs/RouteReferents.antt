@@ -8,10 +8,11 @@ use Rattle.std.proofs.lemmas.List.Folds.{list_all-map, flat_map-map}
 use Rattle.std.specs.Option.{option_map}
 use Rattle.lrs_inventory.specs.Prelude.{each_two, Name, name_cmp, insert_by, Millimetre, is_route, is_route_course, have_marks, are_referents, Place, are_rows, holds_by_spans, Command, Image, RouteRow, state_of, route_entry, referents_on, holds_on, attempt, are_courses, are_spans_of, is_span, route_before, IsSound, RouteChange, changed_refs, entry_after, is_named, without, with_difference, CanDiffer, are_names_of, IsOrderly}
 use Rattle.lrs_measure.specs.OrderedLists.{insert_some}
+use Rattle.lrs_measure.specs.Lists.{In}
+use Rattle.lrs_measure.proofs.Members.{In-map, all_at}
+use Rattle.lrs_measure.proofs.Filters.{filter_all}
 use Rattle.lrs_machine.specs.Sound.{RouteReferents, RouteSpans, are_all_marks, are_all_referents, referents_of, spans_of}
-use Rattle.lrs_machine.proofs.Members.{In, In-map, all_at}
 use Rattle.lrs_machine.proofs.SoundImages.{and_three}
-use Rattle.lrs_events.proofs.LaneLists.Members.{filter_all}
 use Rattle.lrs_image.specs.declared.change.ReferentChange.{ReferentChange}
 use Rattle.lrs_image.specs.Change.{CanBecome}
 use Rattle.lrs_image.proofs.Becoming.{HasBecome, becomes}

@@ -6,8 +6,8 @@ use Rattle.std.specs.List.{flat_map}
 use Rattle.std.specs.Option.{option_map}
 use Rattle.lrs_inventory.specs.Prelude.{each_two, insert_by, Name, name_cmp, is_route, Asset, Part, Gone, Span, span_before, are_rows, RouteRow, Image, state_of, referents_on, route_before, RouteChange, Difference, no_difference, is_named, without, entry_after, fits_after, CanDiffer}
 use Rattle.lrs_measure.specs.OrderedLists.{insert_some}
+use Rattle.lrs_measure.proofs.Filters.{filter_all}
 use Rattle.lrs_events.specs.Changes.{changed}
-use Rattle.lrs_events.proofs.LaneLists.Members.{filter_all}
 use Rattle.lrs_image.specs.Change.{routes_after, are_rows_of}
 use Rattle.lrs_image.proofs.Becoming.{has_become}
 use Rattle.lrs_image_laws.specs.Differences.{no_change}

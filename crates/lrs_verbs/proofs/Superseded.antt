@@ -8,12 +8,14 @@ use Rattle.std.specs.Prelude.{◌&&◌, not, slice_range}
 use Rattle.std.specs.Cmp.Lexicographic.{bytes_decides}
 use Rattle.lrs_inventory.specs.Prelude.{insert_by, Name, same_name, Ground, Asset, Kind, Part, Gone, Span, Place, is_among, places_on, span_before, holds_by_spans, Removal, is_within, IsRemoval, IsPlan, NewAsset, RouteRow, Image, Retired, state_of, asset_entry, Extent, attempt, route_before, asset_before, IsSound, Difference, is_named, without, with_difference, AreGone, IsOrderly}
 use Rattle.lrs_measure.specs.OrderedLists.{insert_all}
+use Rattle.lrs_measure.specs.Lists.{In}
+use Rattle.lrs_measure.proofs.Members.{In-append_right}
 use Rattle.lrs_events.specs.Changes.{changed, changed_rows, without_rows}
 use Rattle.lrs_events.specs.Members.{has_side}
 use Rattle.lrs_machine.specs.declared.command.Command.TheVariants as verb
 use Rattle.lrs_machine.specs.State as state
 use Rattle.lrs_machine.specs.Machine.{is_of_class, enter_asset}
-use Rattle.lrs_machine.proofs.Members.{In, In-append_right, find_numbered}
+use Rattle.lrs_machine.proofs.Finding.{find_numbered}
 use Rattle.lrs_image.specs.Change.{routes_after}
 use Rattle.lrs_image.proofs.Tables.{routes_in_order, assets_in_order}
 use Rattle.lrs_inventory.specs.declared.plan.Plan.{Plan}

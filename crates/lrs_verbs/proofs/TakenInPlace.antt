@@ -8,6 +8,8 @@ use Rattle.std.proofs.lemmas.List.Folds.{list_all-map, list_any-append}
 use Rattle.std.specs.Prelude.{◌||◌, ◌&&◌, not, nat_eq, slice_get, slice_range}
 use Rattle.std.specs.List.{list_any, list_all}
 use Rattle.std.specs.Cmp.Lexicographic.{bytes_decides}
+use Rattle.lrs_measure.specs.Lists.{In}
+use Rattle.lrs_measure.proofs.Members.{any_found, any_of, In-append_right, In-take, In-drop}
 use Rattle.lrs_inventory.specs.Prelude.{each_two, insert_by, Name, name_cmp, same_name, Ground, meets, Asset, Gone, B, Span, Place, places_on, is_among, differs, holds_by_spans, Removal, IsRemoval, IsPlan, Command, Image, RouteRow, state_of, holds_on, route_entry, referents_on, attempt, route_before, are_spans_of, are_courses, IsSound, RouteCourse, without, with_difference, IsOrderly, AreGone}
 use Rattle.lrs_element.specs.Course.{is_at}
 use Rattle.lrs_events.specs.declared.side.Side.{Side}
@@ -24,7 +26,6 @@ use Rattle.lrs_machine.specs.State.{Reason, same_reason}
 use Rattle.lrs_machine.specs.Image.{reason_of}
 use Rattle.lrs_machine.specs.Machine.{take_away}
 use Rattle.lrs_machine.specs.Sound.{spans_of, are_all_marks, are_all_referents, RouteMarks, RouteReferents}
-use Rattle.lrs_machine.proofs.Members.{In, any_found, any_of, In-append_right, In-take, In-drop}
 use Rattle.lrs_machine.proofs.Pairs.{held, each_two-map}
 use Rattle.lrs_image.proofs.Tables.{routes_in_order}
 use Rattle.lrs_image_laws.proofs.Ordering.{sound_is_orderly}

@@ -7,18 +7,19 @@ use Rattle.std.specs.Option.{option_map, ok_or}
 use Rattle.std.specs.Cmp.Lexicographic.{nat_list_cmp_total, bytes_decides}
 use Rattle.lrs_inventory.specs.Prelude.{each_two, Name, same_name, Referent, Alignment, is_route, is_route_course, have_marks, are_referents, referent_before, Asset, Span, has_row, are_rows, span_before, end_by, Image, RouteRow, state_of, route_entry, attempt, ◌>>=◌, set_route, is_span, are_spans_of, IsSound, Makes, RouteChange, is_named, changed_refs, fits_after, route_after, are_names_of, rerouting, IsPlan}
 use Rattle.lrs_measure.specs.OrderedLists.{insert_all}
+use Rattle.lrs_measure.specs.Lists.{In}
+use Rattle.lrs_measure.proofs.Members.{any_of, all_at, all_of, all_weaker, In-map}
+use Rattle.lrs_measure.proofs.Filters.{each_two-filter}
 use Rattle.lrs_element.specs.Course.{turned}
 use Rattle.lrs_element.specs.Marks.{mirrored}
 use Rattle.lrs_events.specs.declared.change.SpanChange.{SpanChange}
 use Rattle.lrs_events.specs.Changes.{changed_rows}
 use Rattle.lrs_events.specs.Row.Changes.{IsChange, missing}
-use Rattle.lrs_events.specs.Row.Order as order
 use Rattle.lrs_events.proofs.Row.Changing.{rows_sorted}
-use Rattle.lrs_events.proofs.Row.Sorted.{IsStrict, each_two-filter, one_list, put_all}
+use Rattle.lrs_events.proofs.Row.Sorted.{IsStrict, one_list, put_all}
 use Rattle.lrs_events.proofs.Row.Unique.{less_one}
 use Rattle.lrs_machine.specs.declared.answer.Cause.TheVariants as cause
 use Rattle.lrs_machine.specs.declared.command.Command.TheVariants as verb
-use Rattle.lrs_machine.proofs.Members.{In, any_of, all_at, all_of, all_weaker, In-map}
 use Rattle.lrs_image.proofs.Becoming.{HasBecome, becomes}
 use Rattle.lrs_image_laws.specs.Turns.{from_end, IsTurnedRoute}
 use Rattle.lrs_image_laws.proofs.InOrder.{before-chain}
@@ -63,7 +64,7 @@ all_come {X = X} before strict xs h =
     let put = put_all before strict xs xs [] h h refl (λ x m. m) (λ x m. absurd m) (λ x m n. n) in
     one_list before strict (insert_all before xs []) xs put.in_order h (λ x m. only x (put.from x m)) (λ x m. put.to x (inl m))
   where
-    only : (x : X) → order.In x xs ⊎ order.In x [] → order.In x xs
+    only : (x : X) → In x xs ⊎ In x [] → In x xs
     only x (inl m) = m
     only x (inr m) = absurd m
 

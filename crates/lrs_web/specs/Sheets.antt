@@ -1,19 +1,15 @@
 -- What a sheet over HTTP is answered.
 use Rattle.std.specs.Prelude.{◌≡◌, ◌⊎◌, ℕ, Bool, true, false, [], ◌∷◌, ◌++◌, Option, Some, None, Result, Ok, Err, codes}
-use Rattle.lrs_machine.specs.Image.{state_of}
 use Rattle.lrs_machine.specs.Lines.{Text}
-use Rattle.lrs_machine.specs.State.{State}
-use Rattle.lrs_machine.specs.declared.answer.Limits.{Limits}
 use Rattle.lrs_machine.specs.declared.image.Image.{Image}
 use Rattle.lrs_machine.specs.declared.table.Table.{Table}
 use Rattle.lrs_sheet.specs.DeskView.{DeskView}
-use Rattle.lrs_machine.specs.declared.stops.fault.Fault.TheVariants as stop
 use Rattle.lrs_sheet.specs.declared.reply.Tally.{Tally}
 use Rattle.lrs_sheet_records.specs.declared.fault.SheetFault.{SheetFault}
 use Rattle.lrs_sheet_records.specs.declared.fault.SheetFault.TheVariants as fault
 use Rattle.lrs_sheet_records.specs.declared.sheet.Sheet.{Sheet}
-use Rattle.lrs_sheet.specs.Resumption.{BreaksOffResumed, Resumes}
-use Rattle.lrs_sheet.specs.Sheets.{Runs, LeavesDesk, BreaksOff, records_together}
+use Rattle.lrs_sheet.specs.Runs.{IsResumedRun, IsWholeRun}
+use Rattle.lrs_sheet.specs.Sheets.{records_together}
 use Rattle.lrs_web_requests.specs.declared.response.ContentType.{ContentType}
 use Rattle.lrs_web_requests.specs.declared.response.ContentType.TheVariants.{Csv}
 use Rattle.lrs_web_requests.specs.Text.{Answer, empty_answer}
@@ -41,22 +37,10 @@ answer_after (Err fault.Write) lines = empty_answer 503
 answer_after (Err (fault.Desk e)) lines = empty_answer 503
 answer_after (Err fault.Memory) lines = empty_answer 503
 
--- what a run gives, of the whole sheet, or behind its last record that is an edit
-abbrev pub RunsSo : Bool → Bool → Sheet → ℕ → Limits → Text → State → State → Option Text → Option Text → Result Tally SheetFault → Type 0
-RunsSo false must_reopen = Runs
-RunsSo true must_reopen = Resumes must_reopen
-
--- after a failed commit: the keeper has the state of the records that have lines, or that after all in flight
-abbrev pub BreaksOffSo : Bool → Sheet → ℕ → Limits → Text → State → State → Option Text → Option Text → Result Image Table → Type 0
-BreaksOffSo false = BreaksOff
-BreaksOffSo true = BreaksOffResumed
-
--- a sheet is run at a desk, ends so and writes these lines
-pub record IsRun {K : Type 0} (holds : K → Result Image Table → Type 0) (sheet : Sheet) (resumes : Bool) (input : Text) (old new : DeskView K) (ended : Result Tally SheetFault) (lines : Text) : Type 0 where
-  pub runs : RunsSo resumes old.must_reopen sheet records_together old.limits input (state_of old.image) (state_of new.image) (Some []) (Some lines) ended
-  pub desk : LeavesDesk holds old new ended
-  pub broken : ended ≡ Err (fault.Desk stop.Keep) → (c : Result Image Table) → holds new.keeper c
-      → BreaksOffSo resumes sheet records_together old.limits input (state_of old.image) (state_of new.image) (Some []) (Some lines) c
+-- A sheet is run at a desk, as a whole, or behind its last record that is an edit.
+abbrev pub IsRunSo : {K : Type 0} → (K → Result Image Table → Type 0) → Sheet → Bool → Text → DeskView K → DeskView K → Text → Text → Result Tally SheetFault → Type 0
+IsRunSo holds sheet false input before after old new = IsWholeRun holds sheet records_together (Some input) before after (Some old) (Some new)
+IsRunSo holds sheet true input before after old new = IsResumedRun holds sheet records_together input before after (Some old) (Some new)
 
 -- the reply to such a run; where memory runs out for it, there is an empty 503 in its place
 abbrev pub IsAnswerAfter : {X : Type 0} → Result X SheetFault → Text → Answer → Type 0
@@ -65,4 +49,4 @@ IsAnswerAfter ended lines answer = (answer ≡ answer_after ended lines) ⊎ (an
 -- A sheet is done at a desk, or gone on with, and answered.
 abbrev pub DoesSheet : {K : Type 0} → (K → Result Image Table → Type 0) → Sheet → Bool → Text → DeskView K → Answer → DeskView K → Type 0
 DoesSheet holds sheet resumes input old answer new =
-    (ended : Result Tally SheetFault) × (lines : Text) × IsRun holds sheet resumes input old new ended lines × IsAnswerAfter ended lines answer
+    (ended : Result Tally SheetFault) × (lines : Text) × IsRunSo holds sheet resumes input old new [] lines ended × IsAnswerAfter ended lines answer

@@ -1,18 +1,11 @@
 //! Sheets are done at a desk, and what they are answered.
 
-ghost use Rattle.std.specs.Prelude.{◌≡◌, ◌⊎◌, Err, Result, Some, false, true};
-ghost use Rattle.lrs_machine.specs.Image.{state_of};
-ghost use Rattle.lrs_machine.specs.declared.image.Image.{Image as ImageRows};
-ghost use Rattle.lrs_machine.specs.declared.table.Table.{Table};
-ghost use Rattle.lrs_sheet.specs.Resumption.{BreaksOffResumed, Resumes};
-ghost use Rattle.lrs_sheet.specs.Sheets.{BreaksOff, LeavesDesk, Runs, records_together};
+ghost use Rattle.std.specs.Prelude.{◌≡◌, ◌⊎◌};
 ghost use Rattle.lrs_web_requests.specs.Text.{answer_of, empty_answer};
-ghost use Rattle.lrs_web.specs.Sheets.{DoesSheet, IsAnswerAfter, fault_answer, lines_answer};
+ghost use Rattle.lrs_web.specs.Sheets.{DoesSheet, IsAnswerAfter, IsRunSo, fault_answer, lines_answer};
 
 use http::StatusCode;
-use lrs_sheet::{
-    Desk, Fault, Keeper, RECORDS_TOGETHER, Sheet, SheetFault, Tally, resume_sheet, run_sheet,
-};
+use lrs_sheet::{Desk, Keeper, RECORDS_TOGETHER, Sheet, SheetFault, Tally, resume_sheet, run_sheet};
 use lrs_web_requests::{Content, ContentType, Response};
 use std::alloc::Global;
 
@@ -68,21 +61,8 @@ fn run<K: Keeper>(
     lines: &mut Vec<u8>,
     desk: &mut Desk<K>,
 ) -> Result<Tally, SheetFault>
-    ensures whole { resumes ≡ false → Runs sheet records_together desk.old.limits bytes.now
-        (state_of desk.old.image) (state_of desk.new.image) (Some lines.old.items)
-        (Some lines.new.items) result }
-    ensures behind { resumes ≡ true → Resumes desk.old.must_reopen sheet records_together
-        desk.old.limits bytes.now (state_of desk.old.image) (state_of desk.new.image)
-        (Some lines.old.items) (Some lines.new.items) result }
-    ensures desk { LeavesDesk K.may_hold desk.old desk.new result }
-    ensures whole_broken { resumes ≡ false → result ≡ Err (SheetFault.Desk Fault.Keep)
-        → (c : Result ImageRows Table) → K.may_hold desk.new.keeper c
-        → BreaksOff sheet records_together desk.old.limits bytes.now (state_of desk.old.image)
-        (state_of desk.new.image) (Some lines.old.items) (Some lines.new.items) c }
-    ensures behind_broken { resumes ≡ true → result ≡ Err (SheetFault.Desk Fault.Keep)
-        → (c : Result ImageRows Table) → K.may_hold desk.new.keeper c
-        → BreaksOffResumed sheet records_together desk.old.limits bytes.now (state_of desk.old.image)
-        (state_of desk.new.image) (Some lines.old.items) (Some lines.new.items) c }
+    ensures { IsRunSo K.may_hold sheet resumes bytes.now desk.old desk.new
+        lines.old.items lines.new.items result }
 {
     if resumes {
         resume_sheet(alloc, sheet, RECORDS_TOGETHER, bytes, lines, desk)

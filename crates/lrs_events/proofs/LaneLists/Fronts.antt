@@ -4,36 +4,24 @@ use Rattle.std.specs.List.{list_all, AllWithin}
 use Rattle.std.proofs.lemmas.Bool.{both_ways, not_from_false, false_from_ne_true, cases_lt}
 use Rattle.std.proofs.lemmas.List.{get_or_past, get_or_default, length-append, take_more, take_at, take-append-drop, length-take-le, drop_more, drop_all, append-nil}
 use Rattle.std.proofs.lemmas.List.Elements.{filter-append}
-use Rattle.lrs_measure.specs.Lists.{each_two}
+use Rattle.lrs_measure.specs.Lists.{In, each_two}
 use Rattle.lrs_measure.specs.OrderedLists.{insert_by, insert_all}
+use Rattle.lrs_measure.proofs.Members.{any_found, all_at, all_of, In-append_cases, In-shorter}
+use Rattle.lrs_measure.proofs.Places.{two_pass, all_first}
+use Rattle.lrs_measure.proofs.Filters.{filter_all}
 use Rattle.lrs_events.specs.declared.span.Span.{Span}
 use Rattle.lrs_events.specs.Changes.{same_row, has_row, without_rows, changed}
 use Rattle.lrs_events.specs.declared.lanes.order.RowOrder.TheVariants.{ByPlace}
 use Rattle.lrs_events.specs.LaneLists.Order.{place_before, stand_before}
 use Rattle.lrs_events.specs.LaneLists.Lane.{greatest_from, last_from}
-use Rattle.lrs_events.proofs.LaneLists.Members.{In, any_found, all_at, all_from, In-append_cases, In-shorter, filter_all, two_pass}
 use Rattle.lrs_events.proofs.LaneLists.Ranks.{itself, before_trans, row_ranks, row_is}
-
-module _ {X : Type 0} where
-  pub all_first : (P : X → Type 0) (xs : List X) (i : ℕ) → AllWithin P xs 0 i → (x : X) → In x (take i xs) → P x
-  all_first P xs zero h x m = absurd m
-  all_first P [] (suc i) h x m = absurd m
-  all_first P (y ∷ ys) (suc i) h x (inl e) = subst P (sym e) (h 0 y (omega arith) (omega arith))
-  all_first P (y ∷ ys) (suc i) h x (inr m) = all_first P ys i (λ k d low high. h (suc k) d (omega arith) (omega (arith, high))) x m
-
-  pub all_last : (P : X → Type 0) (xs : List X) (i : ℕ) → AllWithin P xs i (length xs) → (x : X) → In x (drop i xs) → P x
-  all_last P [] zero h x m = absurd m
-  all_last P [] (suc i) h x m = absurd m
-  all_last P (y ∷ ys) zero h x (inl e) = subst P (sym e) (h 0 y (omega arith) (omega arith))
-  all_last P (y ∷ ys) zero h x (inr m) = all_last P ys zero (λ k d low high. h (suc k) d (omega arith) (omega (arith, high))) x m
-  all_last P (y ∷ ys) (suc i) h x m = all_last P ys i (λ k d low high. h (suc k) d (omega (arith, low)) (omega (arith, high))) x m
 
 -- as words on members
 stands : (n : ℕ) (rows others : List Span) → stand_before n rows others ≡ true → (r s : Span) → In r (take n rows) → In s others → place_before r s ≡ true
 stands n rows others h r s m k = all_at (place_before r) s others (all_at (λ q. list_all (place_before q) others) r (take n rows) h m) k
 
 pub stands_is : (n : ℕ) (rows others : List Span) → ((r s : Span) → In r (take n rows) → In s others → place_before r s ≡ true) → stand_before n rows others ≡ true
-stands_is n rows others h = all_from (λ r. list_all (place_before r) others) (take n rows) (λ r m. all_from (place_before r) others (λ s k. h r s m k))
+stands_is n rows others h = all_of (λ r. list_all (place_before r) others) (take n rows) (λ r m. all_of (place_before r) others (λ s k. h r s m k))
 
 stands_fewer : (m n : ℕ) (rows others : List Span) → m ≤ n → stand_before n rows others ≡ true → stand_before m rows others ≡ true
 stands_fewer m n rows others le h = stands_is m rows others (λ r s k. stands n rows others h r s (In-shorter r m n rows le k))

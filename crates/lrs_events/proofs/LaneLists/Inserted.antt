@@ -1,69 +1,26 @@
 -- Lists in a strict order by one more element, or some.
-use Rattle.std.proofs.Common.{◌≡◌, ℕ, ◌+◌, ◌<◌, ◌≤◌, zero, suc, Bool, true, false, cond, not, ◌⊎◌, inl, inr, List, [], ◌∷◌, ◌++◌, length, get_or, insert, filter, drop, refl, sym, ap, subst, ◌∙◌, arith, add-one}
+use Rattle.std.proofs.Common.{◌≡◌, ℕ, ◌+◌, ◌<◌, ◌≤◌, zero, suc, Bool, true, false, cond, not, ◌⊎◌, inl, inr, List, [], ◌∷◌, ◌++◌, length, get_or, filter, drop, refl, sym, ap, subst, ◌∙◌, arith}
 use Rattle.std.specs.Prelude.{◌||◌}
 use Rattle.std.specs.List.{list_all}
-use Rattle.std.specs.List.Sorted.{IsPermutation, IsPartitionedBy, IsPartitionPoint, IsSortedBy}
+use Rattle.std.specs.List.Sorted.{IsPermutation, IsPartitionedBy, IsSortedBy}
 use Rattle.std.specs.Cmp.{IsStrictWeakOrder}
 use Rattle.std.proofs.lemmas.Bool.{false≢true, both_ways, and_parts, and_from, or_cases}
 use Rattle.std.proofs.lemmas.List.{drop_more, drop_all}
 use Rattle.std.proofs.lemmas.List.Sorted.{IsPermutation-refl, IsPermutation-sym, IsPermutation-trans, IsPermutation-insert, IsPermutation-middle, IsPermutation-append_right, IsPermutation-append_comm, sum_by-IsPermutation}
 use Rattle.lrs_measure.specs.Lists.{each_two}
 use Rattle.lrs_measure.specs.OrderedLists.{place_by, insert_by, insert_all}
+use Rattle.lrs_measure.proofs.Members.{all_of, all_weaker}
+use Rattle.lrs_measure.proofs.Places.{passes_at}
+use Rattle.lrs_measure.proofs.Filters.{filter_all, length-filter}
+use Rattle.lrs_measure.proofs.Insertions.{insert_by-place, all-insert_by, length-insert_all, order_of_first}
 use Rattle.lrs_events.specs.declared.span.Span.{Span}
 use Rattle.lrs_events.specs.Changes.{same_row, has_row, without_rows, changed}
 use Rattle.lrs_events.specs.declared.lanes.order.RowOrder.{RowOrder}
 use Rattle.lrs_events.specs.LaneLists.Order.{row_before}
-use Rattle.lrs_events.proofs.LaneLists.Members.{all_from, passes_at, filter_all, length-filter}
 use Rattle.lrs_events.proofs.LaneLists.Ranks.{before_trans, row_ranks, row_is, row_itself}
 use Rattle.lrs_events.proofs.LaneLists.Strict.{sorted_two, same_sorted}
 
 module _ {X : Type 0} (before : X → X → Bool) where
-  -- To put an element in its place is to insert it there.
-  pub insert_by-place : (x : X) (xs : List X) → insert_by before x xs ≡ insert xs (place_by (before x) xs) x
-  insert_by-place x [] = refl
-  insert_by-place x (y ∷ ys) =
-      elim (before x y) as (λ b. cond b (x ∷ y ∷ ys) (y ∷ insert_by before x ys) ≡ insert (y ∷ ys) (cond b 0 (place_by (before x) ys + 1)) x) [
-        | true ↦ refl
-        | false ↦ ap (λ t. y ∷ t) (insert_by-place x ys) ∙ ap (λ k. insert (y ∷ ys) k x) (sym (add-one _))
-      ]
-
-  pub length-insert_by : (x : X) (xs : List X) → length (insert_by before x xs) ≡ length xs + 1
-  length-insert_by x [] = refl
-  length-insert_by x (y ∷ ys) =
-      let rest = length-insert_by x ys in
-      elim (before x y) as (λ b. length (cond b (x ∷ y ∷ ys) (y ∷ insert_by before x ys)) ≡ length (y ∷ ys) + 1) [
-        | true ↦ omega arith
-        | false ↦ omega (arith, rest)
-      ]
-
-  pub length-insert_all : (xs ys : List X) → length (insert_all before xs ys) ≡ length xs + length ys
-  length-insert_all [] ys = omega arith
-  length-insert_all (x ∷ xs) ys = let rest = length-insert_all xs (insert_by before x ys) in let one = length-insert_by x ys in omega (arith, rest, one)
-
-  all_others : (p : X → Bool) (x : X) (xs : List X) → list_all p (insert_by before x xs) ≡ true → list_all p xs ≡ true
-  all_others p x [] h = refl
-  all_others p x (y ∷ ys) h =
-      elim (before x y) as (λ b. list_all p (cond b (x ∷ y ∷ ys) (y ∷ insert_by before x ys)) ≡ true → list_all p (y ∷ ys) ≡ true) [
-        | true ↦ λ k. (and_parts (p x) (list_all p (y ∷ ys)) k).1
-        | false ↦ λ k. let both = and_parts (p y) (list_all p (insert_by before x ys)) k in and_from (p y) (list_all p ys) both.0 (all_others p x ys both.1)
-      ] h
-
-  -- a list that is in order with one more element is in order
-  pub order_of_others : (x : X) (xs : List X) → each_two before (insert_by before x xs) ≡ true → each_two before xs ≡ true
-  order_of_others x [] h = refl
-  order_of_others x (y ∷ ys) h =
-      elim (before x y) as (λ b. each_two before (cond b (x ∷ y ∷ ys) (y ∷ insert_by before x ys)) ≡ true → each_two before (y ∷ ys) ≡ true) [
-        | true ↦ λ k. (and_parts (list_all (before x) (y ∷ ys)) (each_two before (y ∷ ys)) k).1
-        | false ↦ λ k.
-            let both = and_parts (list_all (before y) (insert_by before x ys)) (each_two before (insert_by before x ys)) k in
-            and_from (list_all (before y) ys) (each_two before ys) (all_others (before y) x ys both.0) (order_of_others x ys both.1)
-      ] h
-
-  -- ... or with more of them
-  pub order_of_first : (xs ys : List X) → each_two before (insert_all before xs ys) ≡ true → each_two before ys ≡ true
-  order_of_first [] ys h = h
-  order_of_first (x ∷ xs) ys h = order_of_others x ys (order_of_first xs (insert_by before x ys) h)
-
   -- ---- the place of an element
 
   -- whether an element does not come after x
@@ -94,28 +51,10 @@ module _ {X : Type 0} (before : X → X → Bool) where
             parted x ys (and_parts (list_all (before y) (insert_by before x ys)) (each_two before (insert_by before x ys)) k).1 i j d (omega (arith, le)) (omega (arith, within)) passes
       ] h
 
-  is_before : (b : Bool) → not b ≡ false → b ≡ true
-  is_before true h = refl
-  is_before false h = absurd (false≢true (sym h))
-
-  is_after : (b : Bool) → not b ≡ true → b ≡ false
-  is_after true h = absurd (false≢true h)
-  is_after false h = refl
-
-  -- The end of that front is the place of x.
-  pub placed : (x : X) (xs : List X) (k : ℕ) → k ≤ length xs → IsPartitionPoint (λ y. not_after x y ≡ true) (λ y. not_after x y ≡ false) xs k → k ≡ place_by (before x) xs
-  placed x [] k within point = omega (arith, within)
-  placed x (y ∷ ys) zero within point =
-      sym (ap (λ b. cond b 0 (place_by (before x) ys + 1)) (is_before (before x y) (point.1 0 y (omega arith) (omega arith))))
-  placed x (y ∷ ys) (suc k) within point =
-      let here = is_after (before x y) (point.0 0 y (omega arith) (omega arith)) in
-      let later = placed x ys k (omega (arith, within)) (λ i d from to. point.0 (suc i) d (omega arith) (omega (arith, to)), λ i d from to. point.1 (suc i) d (omega (arith, from)) (omega (arith, to))) in
-      ap suc later ∙ sym (add-one _) ∙ sym (ap (λ b. cond b 0 (place_by (before x) ys + 1)) here)
-
   -- ---- the same elements
 
   pub IsPermutation-insert_by : (x : X) (xs : List X) → IsPermutation (x ∷ xs) (insert_by before x xs)
-  IsPermutation-insert_by x xs = subst (IsPermutation (x ∷ xs)) (sym (insert_by-place x xs)) (IsPermutation-insert xs (place_by (before x) xs) x)
+  IsPermutation-insert_by x xs = subst (IsPermutation (x ∷ xs)) (sym (insert_by-place before x xs)) (IsPermutation-insert xs (place_by (before x) xs) x)
 
   pub IsPermutation-insert_all : (xs ys : List X) → IsPermutation (xs ++ ys) (insert_all before xs ys)
   IsPermutation-insert_all [] ys = IsPermutation-refl ys
@@ -132,18 +71,6 @@ module _ {X : Type 0} (before : X → X → Bool) where
   abbrev pub differs : X → X → Bool
   differs x y = before x y || before y x
 
-  all-insert_by : (p : X → Bool) (x : X) (xs : List X) → p x ≡ true → list_all p xs ≡ true → list_all p (insert_by before x xs) ≡ true
-  all-insert_by p x [] here h = and_from (p x) true here refl
-  all-insert_by p x (y ∷ ys) here h =
-      elim (before x y) as (λ b. list_all p (cond b (x ∷ y ∷ ys) (y ∷ insert_by before x ys)) ≡ true) [
-        | true ↦ and_from (p x) (list_all p (y ∷ ys)) here h
-        | false ↦ and_from (p y) (list_all p (insert_by before x ys)) (and_parts (p y) (list_all p ys) h).0 (all-insert_by p x ys here (and_parts (p y) (list_all p ys) h).1)
-      ]
-
-  all_weaker : (p q : X → Bool) → ((x : X) → p x ≡ true → q x ≡ true) → (xs : List X) → list_all p xs ≡ true → list_all q xs ≡ true
-  all_weaker p q w [] h = refl
-  all_weaker p q w (x ∷ xs) h = let both = and_parts (p x) (list_all p xs) h in and_from (q x) (list_all q xs) (w x both.0) (all_weaker p q w xs both.1)
-
   other_holds : (a b : Bool) → a ≡ false → (a || b) ≡ true → b ≡ true
   other_holds a b fails h = by (or_cases a b h)
     where
@@ -159,9 +86,9 @@ module _ {X : Type 0} (before : X → X → Bool) where
         let rises = and_parts (list_all (before y) ys) (each_two before ys) h in
         elim (before x y) as (λ b. before x y ≡ b → each_two before (cond b (x ∷ y ∷ ys) (y ∷ insert_by before x ys)) ≡ true) [
           | true ↦ λ first. and_from (list_all (before x) (y ∷ ys)) (each_two before (y ∷ ys))
-              (and_from (before x y) (list_all (before x) ys) first (all_weaker (before y) (before x) (λ z k. before_trans before o x y z first k) ys rises.0)) h
+              (and_from (before x y) (list_all (before x) ys) first (all_weaker (before y) (before x) ys (λ z k. before_trans before o x y z first k) rises.0)) h
           | false ↦ λ later. and_from (list_all (before y) (insert_by before x ys)) (each_two before (insert_by before x ys))
-              (all-insert_by (before y) x ys (other_holds (before x y) (before y x) later each.0) rises.0) (each_two-insert_by x ys each.1 rises.1)
+              (all-insert_by (before y) before x ys (other_holds (before x y) (before y x) later each.0) rises.0) (each_two-insert_by x ys each.1 rises.1)
         ] refl
 
     each_differs : (x : X) (xs ys : List X) → list_all (differs x) xs ≡ true → list_all (λ z. list_all (differs z) ys) xs ≡ true → list_all (λ z. list_all (differs z) (insert_by before x ys)) xs ≡ true
@@ -170,7 +97,7 @@ module _ {X : Type 0} (before : X → X → Bool) where
         let a = and_parts (differs x z) (list_all (differs x) zs) apart in
         let b = and_parts (list_all (differs z) ys) (list_all (λ w. list_all (differs w) ys) zs) h in
         and_from (list_all (differs z) (insert_by before x ys)) (list_all (λ w. list_all (differs w) (insert_by before x ys)) zs)
-        (all-insert_by (differs z) x ys (turned (before x z) (before z x) a.0) b.0) (each_differs x zs ys a.1 b.1)
+        (all-insert_by (differs z) before x ys (turned (before x z) (before z x) a.0) b.0) (each_differs x zs ys a.1 b.1)
       where
         turned : (a b : Bool) → (a || b) ≡ true → (b || a) ≡ true
         turned true true e = refl
@@ -201,7 +128,7 @@ sorted_rows order xs ys zs h perm up =
 pub sorted_apart : (order : RowOrder) (xs zs : List Span) → each_two (λ r s. row_before order r s || row_before order s r) xs ≡ true → IsPermutation xs zs → IsSortedBy (row_before order) zs → each_two (row_before order) zs ≡ true
 sorted_apart order xs zs apart perm up =
     let before = row_before order in
-    let all = each_two-insert_all before (row_ranks order) xs [] apart (all_from (λ r. list_all (differs before r) []) xs (λ r m. refl)) refl in
+    let all = each_two-insert_all before (row_ranks order) xs [] apart (all_of (λ r. list_all (differs before r) []) xs (λ r m. refl)) refl in
     ap (each_two before) (sorted_rows order xs [] zs all perm up) ∙ all
 
 -- ---- one after the other

@@ -8,10 +8,11 @@ use Rattle.std.proofs.lemmas.List.{take_more, take-append-drop, append-nil}
 use Rattle.std.proofs.lemmas.List.Elements.{filter-append}
 use Rattle.lrs_events.specs.declared.span.Span.{Span}
 use Rattle.lrs_events.specs.LaneLists.Lane.{greatest_from, is_met, IsLeast, least_with}
-use Rattle.lrs_measure.specs.Lists.{each_two}
+use Rattle.lrs_measure.specs.Lists.{In, each_two}
+use Rattle.lrs_measure.proofs.Members.{any_found, any_of, In-append_cases, In-append_left, In-append_right}
+use Rattle.lrs_measure.proofs.Places.{two_pass, in_three, all_first, all_last}
+use Rattle.lrs_measure.proofs.Filters.{filter_none, any-filter, any_is_some}
 use Rattle.lrs_events.specs.LaneLists.Order.{place_before}
-use Rattle.lrs_events.proofs.LaneLists.Members.{In, any_found, any_of, two_pass, filter_none, any-filter, any_is_some, In-append_cases, In-append_left, In-append_right, in_three}
-use Rattle.lrs_events.proofs.LaneLists.Fronts.{all_first, all_last}
 
 -- ---- tests of rows
 

@@ -3,12 +3,14 @@ use Rattle.std.proofs.Common.{◌≡◌, ℕ, ◌+◌, ◌<◌, ◌≤◌, Bool,
 use Rattle.std.specs.List.{list_any, list_all}
 use Rattle.std.specs.List.Sorted.{IsPartitionedBy, IsPartitionPoint, IsSortedBy}
 use Rattle.std.specs.Cmp.{IsStrictWeakOrder}
-use Rattle.std.proofs.lemmas.Bool.{both_ways, and_parts, or_parts, cases_lt, cases_eq, cases_Bool, false_from_ne_true, not_from_false, not-true}
+use Rattle.std.proofs.lemmas.Bool.{both_ways, and_parts, cases_lt, cases_eq, cases_Bool, false_from_ne_true, not_from_false, not-true}
 use Rattle.std.proofs.lemmas.List.{get_or_default}
-use Rattle.std.proofs.lemmas.List.Sums.{sum_by-cons}
 use Rattle.std.proofs.lemmas.List.Sorted.{sorted_far}
-use Rattle.lrs_measure.specs.Lists.{each_two}
-use Rattle.lrs_events.proofs.LaneLists.Members.{In, any_found, all_at, two_pass, two_places, none_any, filter_others, any_only, filter_only}
+use Rattle.lrs_measure.specs.Lists.{In, each_two}
+use Rattle.lrs_measure.proofs.Members.{any_found, all_at}
+use Rattle.lrs_measure.proofs.Places.{two_pass, two_places}
+use Rattle.lrs_measure.proofs.Filters.{none_any, filter_others, any_only, filter_only}
+use Rattle.lrs_measure.proofs.Counts.{count_cons, none_counted}
 use Rattle.lrs_events.proofs.LaneLists.Ranks.{itself, before_trans}
 
 abbrev weight : Bool → ℕ
@@ -62,15 +64,6 @@ module _ {X : Type 0} (before : X → X → Bool) (o : IsStrictWeakOrder before)
 
   -- ---- one list
 
-  counts_cons : (p : X → Bool) (x : X) (xs : List X) → count_by p (x ∷ xs) ≡ cond (p x) 1 0 + count_by p xs
-  counts_cons p x xs = sum_by-cons (λ y. cond (p y) 1 0) x xs
-
-  none_counted : (p : X → Bool) (xs : List X) → list_any p xs ≡ false → count_by p xs ≡ 0
-  none_counted p [] h = refl
-  none_counted p (x ∷ xs) h =
-      let both = or_parts (p x) (list_any p xs) h in
-      counts_cons p x xs ∙ ap (λ b. cond b 1 0 + count_by p xs) both.0 ∙ ap (λ n. 0 + n) (none_counted p xs both.1)
-
   -- no element comes before one in front of it
   abbrev pub not_behind : X → X → Bool
   not_behind x y = not (before y x)
@@ -87,7 +80,7 @@ module _ {X : Type 0} (before : X → X → Bool) (o : IsStrictWeakOrder before)
         by (inl h) = let f = any_found (same x) ys h in subst (λ z. In z ys) (sym (is x f.0 f.2)) f.1
         by (inr h) =
             let none = none_counted (same x) ys h in
-            let one = counts_cons (same x) x xs ∙ ap (λ b. cond b 1 0 + count_by (same x) xs) (own x) in
+            let one = count_cons (same x) x xs ∙ ap (λ b. cond b 1 0 + count_by (same x) xs) (own x) in
             absurd (omega (arith, e, none, one))
 
     pub same_sorted : (ys zs : List X) → each_two before ys ≡ true → each_two not_behind zs ≡ true → ((p : X → Bool) → count_by p zs ≡ count_by p ys) → zs ≡ ys
@@ -107,6 +100,6 @@ module _ {X : Type 0} (before : X → X → Bool) (o : IsStrictWeakOrder before)
 
         rest : (p : X → Bool) → z ≡ y → count_by p zs ≡ count_by p ys
         rest p e =
-            let both = sym (counts_cons p z zs) ∙ c p ∙ counts_cons p y ys in
+            let both = sym (count_cons p z zs) ∙ c p ∙ count_cons p y ys in
             let heads = ap (λ (x : X). weight (p x)) e in
             omega (arith, both, heads)

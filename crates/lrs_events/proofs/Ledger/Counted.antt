@@ -4,6 +4,7 @@ use Rattle.std.specs.Prelude.{◌&&◌, nat_eq, nat_le, nat_lt, slice_range, sum
 use Rattle.std.specs.List.{list_all, count_by, range_with_len}
 use Rattle.std.proofs.lemmas.Bool.{and_parts, and_from, cases_Bool, cases_lt, cases_order, eqb-true, eq-eqb, ne_eqb, leb-true, lt-ltb, le-ltb, le-leb, lt-leb}
 use Rattle.std.proofs.lemmas.List.Sums.{sum_by-cons}
+use Rattle.lrs_measure.proofs.Counts.{count_cons, count_append}
 use Rattle.lrs_element.specs.declared.link.Piece.{Piece}
 use Rattle.lrs_element.specs.declared.link.Ground.{Ground}
 use Rattle.lrs_element.specs.Course.{expand, course_of, millimetres}
@@ -23,7 +24,7 @@ use Rattle.lrs_events.specs.declared.ledgers.run.Run.{Run}
 use Rattle.lrs_events.specs.Ledger.Runs.{goes_on, with_run, with_row, runs_from}
 use Rattle.lrs_events.specs.Ledger.Cuts.{part_between, parts_in, parts_from, side_parts, all_parts}
 use Rattle.lrs_events.specs.Ledger.Ledger.{times_in_row, times_in_rows}
-use Rattle.lrs_events.proofs.Ledger.Counts.{count_cons, count_one, count_append, count_reverse, count_map, count_flat_map, count_both, sum_same, sum_two}
+use Rattle.lrs_events.proofs.Ledger.Counts.{count_one, count_reverse, count_map, count_flat_map, count_both, sum_same, sum_two}
 
 -- one of two numbers
 abbrev pub pick : Bool → ℕ → ℕ → ℕ

@@ -1,29 +1,18 @@
 -- Counts of lists.
-use Rattle.std.proofs.Common.{◌≡◌, ℕ, zero, suc, ◌+◌, Bool, true, false, cond, ◌⊎◌, inl, inr, List, [], ◌∷◌, ◌++◌, map, reverse, refl, sym, ap, ◌∙◌, arith}
+use Rattle.std.proofs.Common.{◌≡◌, ℕ, zero, suc, ◌+◌, Bool, true, false, cond, ◌⊎◌, inl, inr, List, [], ◌∷◌, map, reverse, refl, sym, ap, ◌∙◌, arith}
 use Rattle.std.specs.Prelude.{◌||◌, ◌&&◌, nat_lt, sum_by}
 use Rattle.std.specs.List.{list_any, count_by, flat_map}
 use Rattle.std.proofs.lemmas.Bool.{cases_Bool, lt-ltb}
-use Rattle.std.proofs.lemmas.List.Sums.{sum_by-cons, sum_by-append}
+use Rattle.std.proofs.lemmas.List.Sums.{sum_by-cons}
 use Rattle.std.proofs.lemmas.List.Sorted.{sum_by-IsPermutation, IsPermutation-reverse}
+use Rattle.lrs_measure.proofs.Counts.{count_cons, count_yes, count_no, count_append, count-none}
 
 module _ {X : Type 0} (p : X → Bool) where
-  pub count_cons : (x : X) (xs : List X) → count_by p (x ∷ xs) ≡ cond (p x) 1 0 + count_by p xs
-  count_cons x xs = sum_by-cons (λ y. cond (p y) 1 0) x xs
-
   pub count_one : (x : X) → count_by p (x ∷ []) ≡ cond (p x) 1 0
-  count_one x = count_cons x [] ∙ plus_nothing (cond (p x) 1 0)
+  count_one x = count_cons p x [] ∙ plus_nothing (cond (p x) 1 0)
     where
       plus_nothing : (n : ℕ) → n + 0 ≡ n
       plus_nothing n = omega arith
-
-  pub count_yes : (x : X) (xs : List X) → p x ≡ true → count_by p (x ∷ xs) ≡ 1 + count_by p xs
-  count_yes x xs h = count_cons x xs ∙ ap (λ b. cond b 1 0 + count_by p xs) h
-
-  pub count_no : (x : X) (xs : List X) → p x ≡ false → count_by p (x ∷ xs) ≡ count_by p xs
-  count_no x xs h = count_cons x xs ∙ ap (λ b. cond b 1 0 + count_by p xs) h ∙ omega arith
-
-  pub count_append : (xs ys : List X) → count_by p (xs ++ ys) ≡ count_by p xs + count_by p ys
-  count_append xs ys = sum_by-append (λ y. cond (p y) 1 0) xs ys
 
   pub count_reverse : (xs : List X) → count_by p (reverse xs) ≡ count_by p xs
   count_reverse xs = sum_by-IsPermutation (λ y. cond (p y) 1 0) xs (reverse xs) (IsPermutation-reverse xs)
@@ -33,8 +22,8 @@ module _ {X : Type 0} (p : X → Bool) where
   any_counted (x ∷ xs) = by (cases_Bool (p x)) (any_counted xs)
     where
       by : (p x ≡ true) ⊎ (p x ≡ false) → list_any p xs ≡ nat_lt 0 (count_by p xs) → (p x || list_any p xs) ≡ nat_lt 0 (count_by p (x ∷ xs))
-      by (inl h) rest = ap (λ b. b || list_any p xs) h ∙ sym (lt-ltb 0 (count_by p (x ∷ xs)) (let e = count_yes x xs h in omega (arith, e)))
-      by (inr h) rest = ap (λ b. b || list_any p xs) h ∙ rest ∙ sym (ap (nat_lt 0) (count_no x xs h))
+      by (inl h) rest = ap (λ b. b || list_any p xs) h ∙ sym (lt-ltb 0 (count_by p (x ∷ xs)) (let e = count_yes p x xs h in omega (arith, e)))
+      by (inr h) rest = ap (λ b. b || list_any p xs) h ∙ rest ∙ sym (ap (nat_lt 0) (count_no p x xs h))
 
 module _ {X Y : Type 0} where
   pub count_map : (p : Y → Bool) (f : X → Y) (xs : List X) → count_by p (map f xs) ≡ count_by (λ x. p (f x)) xs
@@ -53,10 +42,6 @@ module _ {X : Type 0} where
   pub count_same : (p q : X → Bool) (xs : List X) → ((x : X) → p x ≡ q x) → count_by p xs ≡ count_by q xs
   count_same p q xs h = λ i. count_by (λ x. h x i) xs
 
-  pub count_false : (xs : List X) → count_by (λ x. false) xs ≡ 0
-  count_false [] = refl
-  count_false (x ∷ xs) = count_no (λ x. false) x xs refl ∙ count_false xs
-
   -- a test between two that do not change
   pub count_both : (a b : Bool) (f : X → Bool) (xs : List X) → count_by (λ x. (a && f x) && b) xs ≡ cond (a && b) (count_by f xs) 0
   count_both true true f xs = count_same (λ x. f x && true) f xs (λ x. kept (f x))
@@ -64,12 +49,12 @@ module _ {X : Type 0} where
       kept : (c : Bool) → (c && true) ≡ c
       kept true = refl
       kept false = refl
-  count_both true false f xs = count_same (λ x. f x && false) (λ x. false) xs (λ x. lost (f x)) ∙ count_false xs
+  count_both true false f xs = count_same (λ x. f x && false) (λ x. false) xs (λ x. lost (f x)) ∙ count-none xs
     where
       lost : (c : Bool) → (c && false) ≡ false
       lost true = refl
       lost false = refl
-  count_both false b f xs = count_false xs
+  count_both false b f xs = count-none xs
 
   pub sum_same : (f g : X → ℕ) (xs : List X) → ((x : X) → f x ≡ g x) → sum_by f xs ≡ sum_by g xs
   sum_same f g xs h = λ i. sum_by (λ x. h x i) xs

@@ -5,7 +5,10 @@ use Rattle.std.specs.List.{list_any, list_all, count_by}
 use Rattle.std.proofs.lemmas.Bool.{false≢true, and_parts, and_from, cases_Bool, cases_order, eqb-true, eq-eqb, leb-true, ltb-true, le-leb, lt-ltb}
 use Rattle.std.proofs.lemmas.List.{get_or_append_left, get_or-append_right}
 use Rattle.std.proofs.lemmas.List.Sums.{sum_by-cons}
-use Rattle.lrs_measure.specs.Lists.{each_two, same_bool}
+use Rattle.lrs_measure.specs.Lists.{In, each_two, same_bool}
+use Rattle.lrs_measure.proofs.Members.{any_found, any_of, all_at, flat_map_found}
+use Rattle.lrs_measure.proofs.Places.{place_in}
+use Rattle.lrs_measure.proofs.Counts.{count_yes, count_no, count_cons}
 use Rattle.lrs_element.specs.declared.link.Piece.{Piece}
 use Rattle.lrs_element.specs.declared.link.Ground.{Ground}
 use Rattle.lrs_element.specs.Course.{expand, course_of, continues}
@@ -22,8 +25,7 @@ use Rattle.lrs_events.specs.Places.{Place, same_place, same_link_side, along_lin
 use Rattle.lrs_events.specs.Parts.{has_for, has_place, times_had, IsHadOnce}
 use Rattle.lrs_events.specs.Spans.{holds_by_span, holds_by_spans}
 use Rattle.lrs_events.specs.Ledger.Ledger.{lies_in, are_on, one_has, AreWhole}
-use Rattle.lrs_events.proofs.Ledger.Counts.{count_yes, count_no, count_cons, any_counted, sum_two}
-use Rattle.lrs_events.proofs.Ledger.Membership.{In, any_found, any_of, all_at, flat_map_found, place_in}
+use Rattle.lrs_events.proofs.Ledger.Counts.{any_counted, sum_two}
 use Rattle.lrs_events.proofs.Ledger.Once.{in_slice, not_twice}
 use Rattle.lrs_events.proofs.Ledger.Keys.{two_counted, all_at_place}
 

@@ -3,7 +3,8 @@ use Rattle.std.proofs.Common.{◌≡◌, ℕ, ◌+◌, ◌<◌, ◌≤◌, Bool,
 use Rattle.std.specs.Prelude.{◌||◌, ◌&&◌, nat_eq, nat_le, nat_lt}
 use Rattle.std.specs.List.{list_any, list_all}
 use Rattle.std.proofs.lemmas.Bool.{false≢true, and_parts, and_from, or_cases, or_left, or_right, cases_Bool, eqb-true, eq-eqb, leb-true, ltb-true, le-leb, lt-ltb}
-use Rattle.lrs_measure.specs.Lists.{each_two}
+use Rattle.lrs_measure.specs.Lists.{In, each_two}
+use Rattle.lrs_measure.proofs.Members.{any_found, all_at}
 use Rattle.lrs_events.specs.declared.side.LinkSide.{LinkSide}
 use Rattle.lrs_events.specs.declared.span.Span.{Span}
 use Rattle.lrs_events.specs.Members.{has_side, stands_for}
@@ -12,7 +13,6 @@ use Rattle.lrs_events.specs.declared.ledgers.run.Run.{Run}
 use Rattle.lrs_events.specs.Ledger.Runs.{goes_on, with_run, with_row, runs_from}
 use Rattle.lrs_events.specs.Ledger.Ledger.{are_on}
 use Rattle.lrs_events.proofs.Ledger.Counted.{upright, longer, run_of, is_upright, with_row_upright}
-use Rattle.lrs_events.proofs.Ledger.Membership.{In, any_found, all_at}
 use Rattle.lrs_events.proofs.Ledger.Ordered.{before, starts_later, between, apart, Stands, stands}
 
 module _ (a j : ℕ) where

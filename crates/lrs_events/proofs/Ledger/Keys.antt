@@ -8,12 +8,12 @@ use Rattle.std.proofs.lemmas.Map.Lookups.{exact_bytes}
 use Rattle.std.proofs.lemmas.Bool.{false≢true, and_parts, and_from, cases_Bool, eq-eqb, le-leb, lt-ltb, ltb-true}
 use Rattle.std.proofs.lemmas.List.Sorted.{sorted_far, ranks_by}
 use Rattle.lrs_measure.specs.Lists.{each_two}
+use Rattle.lrs_measure.proofs.Counts.{count_yes, count_no}
 use Rattle.lrs_events.specs.declared.part.Part.{Part}
 use Rattle.lrs_events.specs.declared.side.LinkSide.{LinkSide}
 use Rattle.lrs_events.specs.declared.side.LinkSide.TheVariants.{Left, Right}
 use Rattle.lrs_events.specs.Places.{Place, same_link_side}
 use Rattle.lrs_events.specs.Parts.{has_for, IsHadOnce, part_before, part_key, side_number}
-use Rattle.lrs_events.proofs.Ledger.Counts.{count_yes, count_no}
 
 then_then : (a b c : Ordering) → ordering_then (ordering_then a b) c ≡ ordering_then a (ordering_then b c)
 then_then Less b c = refl

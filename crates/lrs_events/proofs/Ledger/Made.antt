@@ -6,7 +6,8 @@ use Rattle.std.specs.List.Sorted.{IsPermutation}
 use Rattle.std.proofs.lemmas.Bool.{and_parts, and_from, or_left, or_right, cases_lt, eq-eqb, eqb-true, le-leb, lt-ltb, le-ltb}
 use Rattle.std.proofs.lemmas.List.Folds.{list_any-append, list_all-append}
 use Rattle.std.proofs.lemmas.List.Sorted.{list_any-IsPermutation, sum_by-IsPermutation}
-use Rattle.lrs_measure.specs.Lists.{each_two}
+use Rattle.lrs_measure.specs.Lists.{In, each_two}
+use Rattle.lrs_measure.proofs.Members.{any_found, any_of, any_given, all_given, not_any}
 use Rattle.lrs_element.specs.declared.link.Piece.{Piece}
 use Rattle.lrs_element.specs.declared.link.Ground.{Ground}
 use Rattle.lrs_element.specs.Course.{course_of, continues}
@@ -24,7 +25,6 @@ use Rattle.lrs_events.specs.Ledger.Cuts.{part_between, parts_in, parts_from, sid
 use Rattle.lrs_events.specs.Ledger.Ledger.{times_in_rows, lies_in, AreInPieces, are_on, one_has, AreWhole, NoneIsShorter}
 use Rattle.lrs_events.proofs.Ledger.Counts.{any_counted}
 use Rattle.lrs_events.proofs.Ledger.Counted.{number_same, all_counted}
-use Rattle.lrs_events.proofs.Ledger.Membership.{In, any_found, any_of, any_given, all_given}
 use Rattle.lrs_events.proofs.Ledger.Once.{are_had, rows_once}
 use Rattle.lrs_events.proofs.Ledger.Joined.{covers, covered, AreInOrder, one_run, upright_rows}
 use Rattle.lrs_events.proofs.Ledger.Whole.{fewest_unjoined, in_pieces}
@@ -33,16 +33,8 @@ use Rattle.lrs_events.proofs.Ledger.Fewest.{no_fewer}
 
 -- ---- each part
 
-all_not : {X : Type 0} (p : X → Bool) (xs : List X) → list_all p xs ≡ not (list_any (λ x. not (p x)) xs)
-all_not p [] = refl
-all_not p (x ∷ xs) = ap (λ b. p x && b) (all_not p xs) ∙ by (p x) (list_any (λ x. not (p x)) xs)
-  where
-    by : (a b : Bool) → (a && not b) ≡ not (not a || b)
-    by true b = refl
-    by false b = refl
-
 all_moved : {X : Type 0} (p : X → Bool) (xs ys : List X) → IsPermutation xs ys → list_all p xs ≡ true → list_all p ys ≡ true
-all_moved p xs ys h all = all_not p ys ∙ ap not (sym (list_any-IsPermutation (λ x. not (p x)) xs ys h)) ∙ sym (all_not p xs) ∙ all
+all_moved p xs ys h all = not_any p ys ∙ ap not (sym (list_any-IsPermutation (λ x. not (p x)) xs ys h)) ∙ sym (not_any p xs) ∙ all
 
 module _ (n : ℕ) (pieces : List Piece) (T : Part → Bool)
     (holds : (asset : ℕ) (s : LinkSide) (q : Piece) (low high : ℕ) → In q pieces → low < high → high ≤ piece_len q → T (part_between n asset s q low high) ≡ true) where

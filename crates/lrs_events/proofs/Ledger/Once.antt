@@ -4,7 +4,10 @@ use Rattle.std.specs.Prelude.{◌||◌, ◌&&◌, nat_lt, nat_eq, slice_range}
 use Rattle.std.specs.List.{list_any, list_all, count_by}
 use Rattle.std.proofs.lemmas.Bool.{false≢true, both_ways, not-true, and_parts, and_from, cases_Bool, cases_order, eqb-true, eq-eqb}
 use Rattle.std.proofs.lemmas.List.{get_or-take, get_or-drop, length-drop}
-use Rattle.lrs_measure.specs.Lists.{each_two}
+use Rattle.lrs_measure.specs.Lists.{In, each_two}
+use Rattle.lrs_measure.proofs.Members.{any_found, all_at, flat_map_found}
+use Rattle.lrs_measure.proofs.Places.{place_in, two_pass}
+use Rattle.lrs_measure.proofs.Counts.{count_cons, count_append, count_no, at_most_one}
 use Rattle.lrs_element.specs.declared.link.Ground.{Ground}
 use Rattle.lrs_element.specs.Course.{is_at}
 use Rattle.lrs_events.specs.declared.span.Span.{Span}
@@ -15,9 +18,8 @@ use Rattle.lrs_events.specs.declared.side.LinkSide.TheVariants.{Left, Right}
 use Rattle.lrs_events.specs.Places.{Place, same_place, same_link_side, along_link, beside, places_at, places_on, differs}
 use Rattle.lrs_events.specs.Spans.{holds_by_span, holds_by_spans, are_apart, are_rows, is_row, span_before}
 use Rattle.lrs_events.specs.Ledger.Ledger.{times_in_row, times_in_rows}
-use Rattle.lrs_events.proofs.Ledger.Counts.{count_cons, count_append, any_counted, any_summed, sum_same, count_no}
+use Rattle.lrs_events.proofs.Ledger.Counts.{any_counted, any_summed, sum_same}
 use Rattle.lrs_events.proofs.Ledger.Counted.{pick}
-use Rattle.lrs_events.proofs.Ledger.Membership.{In, any_found, all_at, flat_map_found, place_in, two_pass, at_most_one}
 use Rattle.lrs_events.proofs.Ledger.Ordered.{apart}
 
 -- ---- where a row has a place

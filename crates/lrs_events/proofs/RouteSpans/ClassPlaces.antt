@@ -4,6 +4,7 @@ use Rattle.std.specs.Prelude.{◌&&◌, not, nat_lt, nat_le, nat_eq}
 use Rattle.std.specs.List.{list_any}
 use Rattle.std.proofs.lemmas.Bool.{both_ways, and_parts, and_from, leb-true, ltb-true, lt-ltb, eq-eqb}
 use Rattle.lrs_measure.specs.Texts.{Name, same_name}
+use Rattle.lrs_measure.proofs.Members.{any_found, any_of}
 use Rattle.lrs_events.specs.declared.side.Side.{Side}
 use Rattle.lrs_events.specs.declared.side.LinkSide.{LinkSide}
 use Rattle.lrs_events.specs.declared.span.Span.{Span}
@@ -13,7 +14,6 @@ use Rattle.lrs_events.specs.Row.Members.{is_of}
 use Rattle.lrs_events.specs.Row.Removals.{is_within, is_met, IsRemoval}
 use Rattle.lrs_events.specs.Row.Sides.{of_side_within}
 use Rattle.lrs_events.specs.RouteSpans.Overlaps.{is_met_asset}
-use Rattle.lrs_events.proofs.Row.Members.{any_found, any_of}
 use Rattle.lrs_events.proofs.Row.Unique.{over}
 
 -- where two tests agree on what is there, so they do on what is not taken

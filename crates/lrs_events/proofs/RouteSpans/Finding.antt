@@ -1,5 +1,5 @@
 -- What searches find of the rows of a route.
-use Rattle.std.proofs.Common.{◌≡◌, ℕ, ◌+◌, ◌<◌, ◌≤◌, max, min, Bool, true, false, cond, ◌⊎◌, inl, inr, zero, suc, List, [], ◌∷◌, ◌++◌, length, get_or, take, drop, refl, sym, ap, subst, ◌∙◌, arith, Option, Some, None}
+use Rattle.std.proofs.Common.{◌≡◌, ℕ, ◌+◌, ◌<◌, ◌≤◌, max, min, Bool, true, false, ◌⊎◌, inl, inr, zero, suc, List, [], ◌∷◌, ◌++◌, length, get_or, take, drop, refl, sym, ap, subst, ◌∙◌, arith, Option, Some, None}
 use Rattle.std.specs.Prelude.{◌||◌, ◌&&◌, nat_lt, nat_eq, slice_range}
 use Rattle.std.specs.List.{filter}
 use Rattle.std.specs.Cmp.Lexicographic.{bytes_decides}
@@ -7,9 +7,12 @@ use Rattle.std.proofs.lemmas.Bool.{false≢true, both_ways, and_parts, and_from,
 use Rattle.std.proofs.lemmas.List.{append-nil, take_all, take_more}
 use Rattle.std.proofs.lemmas.List.Elements.{filter-append}
 use Rattle.std.proofs.lemmas.List.Folds.{list_any-append}
-use Rattle.lrs_measure.specs.Lists.{each_two}
+use Rattle.lrs_measure.specs.Lists.{In, each_two}
 use Rattle.lrs_measure.specs.Texts.{Name, same_name}
 use Rattle.lrs_measure.specs.Limits.{longest_route}
+use Rattle.lrs_measure.proofs.Members.{any_found, any_of, In-take, In-drop}
+use Rattle.lrs_measure.proofs.Places.{in_three}
+use Rattle.lrs_measure.proofs.Filters.{filter_all, filter_none}
 use Rattle.lrs_events.specs.declared.side.Side.TheVariants.{L, R, B}
 use Rattle.lrs_events.specs.declared.side.LinkSide.{LinkSide}
 use Rattle.lrs_events.specs.declared.side.LinkSide.TheVariants.{Left, Right}
@@ -18,15 +21,12 @@ use Rattle.lrs_events.specs.Changes.{has_row}
 use Rattle.lrs_events.specs.Members.{has_side, is_member, has_member}
 use Rattle.lrs_events.specs.Spans.{are_rows}
 use Rattle.lrs_events.specs.Row.Members.{is_of}
-use Rattle.lrs_events.specs.Row.Order.{In, IsLeft, IsStretch}
-use Rattle.lrs_events.proofs.Row.Members.{any_found, any_of, In-take, In-drop}
+use Rattle.lrs_events.specs.Row.Order.{IsLeft, IsStretch}
 use Rattle.lrs_events.proofs.Row.Unique.{over, its_sides}
 use Rattle.lrs_events.proofs.Row.Rows.{rows_from, left_place}
-use Rattle.lrs_events.proofs.Row.Stretches.{in_three}
 use Rattle.lrs_events.proofs.Row.Differing.{has_found, has_in}
 use Rattle.lrs_events.specs.LaneLists.Order.{place_before}
 use Rattle.lrs_events.specs.LaneLists.Lane.{is_met, IsLeast}
-use Rattle.lrs_events.proofs.LaneLists.Members.{In as LaneIn}
 use Rattle.lrs_events.proofs.LaneLists.Lanes.{LeastOf, nothing, something, least_from}
 use Rattle.lrs_events.specs.declared.spans.lanes.ClassLanes.{ClassLanes}
 use Rattle.lrs_events.specs.RouteSpans.LanesOfRows.{is_on, has_lanes, AreKept, IsLaneOf}
@@ -34,15 +34,6 @@ use Rattle.lrs_events.specs.RouteSpans.Search.{IsPlaceOf, one_side, HoldsOver, l
 use Rattle.lrs_events.specs.RouteSpans.Search.{IsOver as IsLeastOver}
 
 -- ---- the rows of an asset
-
-module _ {X : Type 0} where
-  pub filter_none : (p : X → Bool) (xs : List X) → ((x : X) → In x xs → p x ≡ false) → filter p xs ≡ []
-  filter_none p [] h = refl
-  filter_none p (x ∷ xs) h = ap (λ b. cond b (x ∷ filter p xs) (filter p xs)) (h x (inl refl)) ∙ filter_none p xs (λ y m. h y (inr m))
-
-  pub filter_every : (p : X → Bool) (xs : List X) → ((x : X) → In x xs → p x ≡ true) → filter p xs ≡ xs
-  filter_every p [] h = refl
-  filter_every p (x ∷ xs) h = ap (λ b. cond b (x ∷ filter p xs) (filter p xs)) (h x (inl refl)) ∙ ap (λ ys. x ∷ ys) (filter_every p xs (λ y m. h y (inr m)))
 
 module _ (rows : List Span) (s : Span) (h : are_rows rows ≡ true) (from : s.from ≡ 0) (to : s.to ≡ longest_route) where
   of_it : (r : Span) → is_of s.class s.asset r ≡ true → (r.class ≡ s.class) × (r.asset ≡ s.asset)
@@ -71,7 +62,7 @@ module _ (rows : List Span) (s : Span) (h : are_rows rows ≡ true) (from : s.fr
       sym (ap (filter test) (in_three rows start end o) ∙ filter-append test (take start rows) (mid ++ drop end rows)
       ∙ (λ i. filter_none test (take start rows) (λ r m. false_from_ne_true (test r) (not_in_front r (In-take r start rows m) (k.before r m))) i ++ filter test (mid ++ drop end rows))
       ∙ filter-append test mid (drop end rows)
-      ∙ (λ i. filter_every test mid (λ r m. and_from (same_name r.class s.class) (nat_eq r.asset s.asset) ((bytes_decides r.class s.class).1 (k.of_class r m)) (eq-eqb r.asset s.asset (k.of_asset r m))) i
+      ∙ (λ i. filter_all test mid (λ r m. and_from (same_name r.class s.class) (nat_eq r.asset s.asset) ((bytes_decides r.class s.class).1 (k.of_class r m)) (eq-eqb r.asset s.asset (k.of_asset r m))) i
       ++ filter_none test (drop end rows) (λ r m. false_from_ne_true (test r) (not_behind r (In-drop r end rows m) (k.behind r m))) i)
       ∙ append-nil mid)
 
@@ -137,16 +128,6 @@ module _ (rows : List Span) (lanes : List ClassLanes) (class : Name) (at : ℕ) 
 
 -- ---- the least asset over a stretch
 
-lane_in : (r : Span) (xs : List Span) → In r xs → LaneIn r xs
-lane_in r [] m = absurd m
-lane_in r (x ∷ xs) (inl e) = inl e
-lane_in r (x ∷ xs) (inr m) = inr (lane_in r xs m)
-
-in_lane : (r : Span) (xs : List Span) → LaneIn r xs → In r xs
-in_lane r [] m = absurd m
-in_lane r (x ∷ xs) (inl e) = inl e
-in_lane r (x ∷ xs) (inr m) = inr (in_lane r xs m)
-
 one_only : (s t : LinkSide) → has_side (one_side s) t ≡ true → t ≡ s
 one_only Left Left h = refl
 one_only Left Right h = absurd (false≢true h)
@@ -196,10 +177,10 @@ module _ (rows : List Span) (class : Name) (side : LinkSide) (lane : List Span) 
   least_over o k = by o (least_from (is_met from to) lane o k)
     where
       by : (o : Option ℕ) → LeastOf (is_met from to) lane o → IsLeastOver rows class from to (one_side side) o
-      by _ (nothing n) = λ a w. let r = holds_met a w in n r.0 (lane_in r.0 lane r.1) r.2
+      by _ (nothing n) = λ a w. let r = holds_met a w in n r.0 r.1 r.2
       by _ (something r m e l) = record {
-        here = met_holds r (in_lane r lane m) e;
-        least = λ b w. let q = holds_met b w in let g = l q.0 (lane_in q.0 lane q.1) q.2 in let f = q.3 in omega (arith, g, f);
+        here = met_holds r m e;
+        least = λ b w. let q = holds_met b w in let g = l q.0 q.1 q.2 in let f = q.3 in omega (arith, g, f);
       }
 
 pub least_nothing : (rows : List Span) (class : Name) (side : LinkSide) (from to : ℕ) → are_rows rows ≡ true → from < to → IsLaneOf rows class side [] → IsLeastOver rows class from to (one_side side) None

@@ -9,8 +9,10 @@ use Rattle.std.proofs.lemmas.Bool.{false≢true, both_ways, and_parts, and_from,
 use Rattle.std.proofs.lemmas.List.{take_all, get_or_default}
 use Rattle.std.proofs.lemmas.List.Folds.{list_any-append, list_any_more}
 use Rattle.std.proofs.lemmas.List.Sorted.{sorted_far, list_any-IsPermutation, IsStrictWeakOrder-by_number}
-use Rattle.lrs_measure.specs.Lists.{each_two}
+use Rattle.lrs_measure.specs.Lists.{In, each_two}
 use Rattle.lrs_measure.specs.Texts.{Name, same_name}
+use Rattle.lrs_measure.proofs.Members.{any_found, any_of, all_at, two_at, In-take, In-append_left, In-append_right, In-append_cases, In-filter, filter-In, In-flat_map}
+use Rattle.lrs_measure.proofs.Filters.{each_two-filter}
 use Rattle.lrs_events.specs.declared.side.Side.{Side}
 use Rattle.lrs_events.specs.declared.side.Side.TheVariants.{L, R, B}
 use Rattle.lrs_events.specs.declared.side.LinkSide.TheVariants.{Left, Right}
@@ -18,16 +20,13 @@ use Rattle.lrs_events.specs.declared.span.Span.{Span}
 use Rattle.lrs_events.specs.Changes.{same_row, has_row}
 use Rattle.lrs_events.specs.Members.{has_side}
 use Rattle.lrs_events.specs.Spans.{are_rows, is_row, span_before, are_apart}
-use Rattle.lrs_events.specs.Row.Order.{In}
 use Rattle.lrs_events.specs.Row.Removals.{is_met}
 use Rattle.lrs_events.specs.Row.Members.{is_of}
-use Rattle.lrs_events.proofs.Row.Members.{any_found, any_of, all_at, two_at, In-take, In-append_left, In-append_right, In-append_cases}
 use Rattle.lrs_events.proofs.Row.Rows.{IsFull, full_from, apart_from}
 use Rattle.lrs_events.proofs.Row.Unique.{kept}
 use Rattle.lrs_events.proofs.Row.Differing.{one_row, has_found, has_in}
 use Rattle.lrs_events.proofs.Row.Fitting.{each_two-append}
-use Rattle.lrs_events.proofs.Row.Replaced.{in_flat, in_filter, filter_in}
-use Rattle.lrs_events.proofs.Row.Sorted.{each_two-filter, one_list}
+use Rattle.lrs_events.proofs.Row.Sorted.{one_list}
 use Rattle.lrs_events.proofs.Row.Changing.{spans_strict, rows_sorted}
 use Rattle.lrs_events.specs.declared.lanes.order.RowOrder.TheVariants.{ByAsset as ByRows}
 use Rattle.lrs_events.proofs.LaneLists.Ranks.{row_ranks}
@@ -208,12 +207,12 @@ module _ (rows : List Span) (lanes : List ClassLanes) (t : AreTied rows lanes) (
 
       two : (l : ClassLanes) → IsClass rows l → true ≡ of l.class → In x (filter (is_met low high) l.left.rows) ⊎ In x (filter (is_met low high) l.right.rows) → IsMet x
       two l c h (inl n) =
-          let f = in_filter (is_met low high) l.left.rows x n in
+          let f = In-filter (is_met low high) x l.left.rows n in
           let a = and_parts (has_row rows x) (is_on l.class Left x) (sym (c.left x) ∙ has_in l.left.rows x f.0) in
           let b = and_parts (same_name x.class l.class) (has_side x.side Left) a.1 in
           record { row = has_found rows x a.0; met = f.1; of_class = named l b.0 h }
       two l c h (inr n) =
-          let f = in_filter (is_met low high) l.right.rows x n in
+          let f = In-filter (is_met low high) x l.right.rows n in
           let a = and_parts (has_row rows x) (is_on l.class Right x) (sym (c.right x) ∙ has_in l.right.rows x f.0) in
           let b = and_parts (same_name x.class l.class) (has_side x.side Right) a.1 in
           record { row = has_found rows x a.0; met = f.1; of_class = named l b.0 h }
@@ -226,15 +225,15 @@ module _ (rows : List Span) (lanes : List ClassLanes) (t : AreTied rows lanes) (
   met_lanes x h =
       let f = any_found (λ (l : ClassLanes). same_name l.class x.class) lanes (t.all x (has_in rows x h.row)) in
       let e = (bytes_decides f.0.class x.class).0 f.2 in
-      in_flat (met_some of low high) lanes f.0 x f.1
+      In-flat_map (met_some of low high) f.0 x lanes f.1
       (subst (λ b. In x (cond b (met_in low high f.0) [])) (sym (ap of e ∙ h.of_class)) (by f.0 (class_at f.0 f.1) ((bytes_decides x.class f.0.class).1 (sym e)) (one_side x.side)))
     where
       by : (l : ClassLanes) → IsClass rows l → same_name x.class l.class ≡ true → (has_side x.side Left ≡ true) ⊎ (has_side x.side Right ≡ true) → In x (met_in low high l)
       by l c e (inl s) =
-          In-append_left x (filter (is_met low high) l.left.rows) (filter (is_met low high) l.right.rows) (filter_in (is_met low high) l.left.rows x
+          In-append_left x (filter (is_met low high) l.left.rows) (filter (is_met low high) l.right.rows) (filter-In (is_met low high) x l.left.rows
           (has_found l.left.rows x (c.left x ∙ and_from (has_row rows x) (is_on l.class Left x) (has_in rows x h.row) (and_from (same_name x.class l.class) (has_side x.side Left) e s))) h.met)
       by l c e (inr s) =
-          In-append_right x (filter (is_met low high) l.left.rows) (filter (is_met low high) l.right.rows) (filter_in (is_met low high) l.right.rows x
+          In-append_right x (filter (is_met low high) l.left.rows) (filter (is_met low high) l.right.rows) (filter-In (is_met low high) x l.right.rows
           (has_found l.right.rows x (c.right x ∙ and_from (has_row rows x) (is_on l.class Right x) (has_in rows x h.row) (and_from (same_name x.class l.class) (has_side x.side Right) e s))) h.met)
 
 -- of canonical rows, those that are not one come one before the other
@@ -250,7 +249,7 @@ rows_ranked rows some h f r s m n a b = by (two_at span_before r s rows (rows_so
 pub found_are : (test : Span → Bool) (rows found : List Span) → are_rows rows ≡ true → each_two span_before found ≡ true → ((x : Span) → In x found → In x rows × (test x ≡ true)) → ((x : Span) → In x rows → test x ≡ true → In x found) → found ≡ filter test rows
 found_are test rows found h s f g =
     one_list span_before spans_strict found (filter test rows) s (each_two-filter span_before test rows (rows_sorted rows h))
-    (λ x m. let p = f x m in filter_in test rows x p.0 p.1) (λ x m. let p = in_filter test rows x m in g x p.0 p.1)
+    (λ x m. let p = f x m in filter-In test x rows p.0 p.1) (λ x m. let p = In-filter test x rows m in g x p.0 p.1)
 
 module _ (rows : List Span) (lanes : List ClassLanes) (k : AreKept rows lanes) (low high : ℕ) (collected : List Span) (e : collected ≡ flat_map (met_in low high) lanes) where
   abbrev every : Name → Bool

@@ -3,19 +3,19 @@ use Rattle.std.proofs.Common.{◌≡◌, ◌<◌, ◌≤◌, Bool, true, false, 
 use Rattle.std.specs.Prelude.{◌||◌, ◌&&◌, not, nat_lt, nat_eq}
 use Rattle.std.specs.List.{filter}
 use Rattle.std.proofs.lemmas.Bool.{and_parts, and_from, or_cases, or_left, or_right, lt-ltb, ltb-true, eq-eqb, eqb-true, cases_lt, cases_eq, cases_Bool}
-use Rattle.lrs_measure.specs.Lists.{each_two}
+use Rattle.lrs_measure.specs.Lists.{In, each_two}
+use Rattle.lrs_measure.proofs.Members.{all_at, two_at, In-filter}
+use Rattle.lrs_measure.proofs.Filters.{each_two-filter}
 use Rattle.lrs_events.specs.declared.span.Span.{Span}
 use Rattle.lrs_events.specs.Changes.{same_row, has_row, without_rows, changed}
 use Rattle.lrs_events.specs.Spans.{are_rows, is_row, span_before, are_apart}
-use Rattle.lrs_events.specs.Row.Order.{In}
-use Rattle.lrs_events.proofs.Row.Members.{all_at, two_at}
 use Rattle.lrs_events.proofs.Row.Unique.{Kept, kept}
 use Rattle.lrs_events.proofs.Row.Rows.{IsFull, apart_from, full_from}
 use Rattle.lrs_events.proofs.Row.Differing.{one_row, has_found, has_in}
 use Rattle.lrs_events.proofs.Row.Changing.{spans_strict}
-use Rattle.lrs_events.proofs.Row.Sorted.{IsStrict, each_two-filter}
+use Rattle.lrs_events.proofs.Row.Sorted.{IsStrict}
 use Rattle.lrs_events.specs.LaneLists.Order.{place_before}
-use Rattle.lrs_events.proofs.RouteSpans.Putting.{In-filter, IsOneFirst, asunder, asunder_by, asunder_fewer, put_in_order, any-insert_all}
+use Rattle.lrs_events.proofs.RouteSpans.Putting.{IsOneFirst, asunder, asunder_by, asunder_fewer, put_in_order, any-insert_all}
 
 -- ---- which rows are there
 
@@ -162,7 +162,7 @@ lane_in_order on gone come rows lane h t s =
     came r m = has_found new r (has_row-changed span_before gone come rows r ∙ or_right (has_row rows r && not (has_row gone r)) (has_row come r) (has_in come r m))
 
     of_lane : (r : Span) → In r (without_rows gone lane) → (has_row rows r ≡ true) × (not (has_row gone r) ≡ true)
-    of_lane r m = let f = In-filter (λ q. not (has_row gone q)) lane r m in ((and_parts (has_row rows r) (on r) (sym (t r) ∙ has_in lane r f.0)).0, f.1)
+    of_lane r m = let f = In-filter (λ q. not (has_row gone q)) r lane m in ((and_parts (has_row rows r) (on r) (sym (t r) ∙ has_in lane r f.0)).0, f.1)
 
     stay : (r : Span) → In r (without_rows gone lane) → In r (without_rows gone rows)
     stay r m = let b = of_lane r m in has_found (without_rows gone rows) r (has_row-filter (λ q. not (has_row gone q)) rows r ∙ and_from (has_row rows r) (not (has_row gone r)) b.0 b.1)

@@ -1,10 +1,10 @@
 -- Canonical rows that come where there were none.
 use Rattle.std.proofs.Common.{◌≡◌, true, List, [], inl, inr, ◌⊎◌, refl, ◌∙◌}
 use Rattle.lrs_measure.specs.OrderedLists.{insert_all}
+use Rattle.lrs_measure.specs.Lists.{In}
 use Rattle.lrs_events.specs.declared.span.Span.{Span}
 use Rattle.lrs_events.specs.Changes.{changed}
 use Rattle.lrs_events.specs.Spans.{are_rows, span_before}
-use Rattle.lrs_events.specs.Row.Order.{In}
 use Rattle.lrs_events.proofs.Row.Changing.{spans_strict, rows_sorted}
 use Rattle.lrs_events.proofs.Row.Sorted.{one_list, put_all}
 

@@ -2,33 +2,14 @@
 use Rattle.std.proofs.Common.{◌≡◌, Bool, true, false, cond, ◌⊎◌, inl, inr, List, [], ◌∷◌, refl, sym, ap, subst, ◌∙◌}
 use Rattle.std.specs.Prelude.{◌||◌}
 use Rattle.std.specs.List.{list_any, list_all, filter}
-use Rattle.std.proofs.lemmas.Bool.{false≢true, both_ways, and_parts, and_from}
-use Rattle.lrs_measure.specs.Lists.{each_two}
+use Rattle.std.proofs.lemmas.Bool.{both_ways, and_parts, and_from}
+use Rattle.lrs_measure.specs.Lists.{In, each_two}
 use Rattle.lrs_measure.specs.OrderedLists.{insert_by, insert_all}
-use Rattle.lrs_events.specs.Row.Order.{In}
-use Rattle.lrs_events.proofs.Row.Members.{all_at, all_from}
+use Rattle.lrs_measure.proofs.Members.{all_at, all_of, In-filter}
+use Rattle.lrs_measure.proofs.Insertions.{In-insert, insert-In, order_of_first}
 use Rattle.lrs_events.proofs.Row.Sorted.{IsStrict}
 
 module _ {X : Type 0} where
-  pub In-filter : (p : X → Bool) (xs : List X) (x : X) → In x (filter p xs) → In x xs × (p x ≡ true)
-  In-filter p [] x m = absurd m
-  In-filter p (y ∷ ys) x m = by (p y) refl m (In-filter p ys x)
-    where
-      by : (b : Bool) → p y ≡ b → In x (cond b (y ∷ filter p ys) (filter p ys)) → (In x (filter p ys) → In x ys × (p x ≡ true)) → In x (y ∷ ys) × (p x ≡ true)
-      by true e (inl f) later = (inl f, ap p f ∙ e)
-      by true e (inr n) later = let k = later n in (inr k.0, k.1)
-      by false e n later = let k = later n in (inr k.0, k.1)
-
-  pub filter_in : (p : X → Bool) (xs : List X) (x : X) → In x xs → p x ≡ true → In x (filter p xs)
-  filter_in p [] x m h = absurd m
-  filter_in p (y ∷ ys) x m h = by (p y) refl m (λ n. filter_in p ys x n h)
-    where
-      by : (b : Bool) → p y ≡ b → In x (y ∷ ys) → (In x ys → In x (filter p ys)) → In x (cond b (y ∷ filter p ys) (filter p ys))
-      by true e (inl f) later = inl f
-      by true e (inr n) later = inr (later n)
-      by false e (inl f) later = absurd (false≢true (sym e ∙ ap p (sym f) ∙ h))
-      by false e (inr n) later = later n
-
   module _ (before : X → X → Bool) where
     -- one of two comes first
     abbrev pub IsOneFirst : X → X → Type 0
@@ -38,56 +19,6 @@ module _ {X : Type 0} where
     flip x y (inl h) = inr h
     flip x y (inr h) = inl h
 
-    pub In-insert : (x : X) (ys : List X) (z : X) → (z ≡ x) ⊎ In z ys → In z (insert_by before x ys)
-    In-insert x [] z (inl e) = inl e
-    In-insert x [] z (inr m) = inr m
-    In-insert x (y ∷ ys) z m = by (before x y) m (In-insert x ys z)
-      where
-        by : (b : Bool) → (z ≡ x) ⊎ In z (y ∷ ys) → ((z ≡ x) ⊎ In z ys → In z (insert_by before x ys)) → In z (cond b (x ∷ y ∷ ys) (y ∷ insert_by before x ys))
-        by true (inl e) f = inl e
-        by true (inr k) f = inr k
-        by false (inl e) f = inr (f (inl e))
-        by false (inr (inl e)) f = inl e
-        by false (inr (inr k)) f = inr (f (inr k))
-
-    pub In-insert_cases : (x : X) (ys : List X) (z : X) → In z (insert_by before x ys) → (z ≡ x) ⊎ In z ys
-    In-insert_cases x [] z (inl e) = inl e
-    In-insert_cases x [] z (inr m) = inr m
-    In-insert_cases x (y ∷ ys) z m = by (before x y) m (In-insert_cases x ys z)
-      where
-        later : (z ≡ x) ⊎ In z ys → (z ≡ x) ⊎ In z (y ∷ ys)
-        later (inl e) = inl e
-        later (inr k) = inr (inr k)
-
-        by : (b : Bool) → In z (cond b (x ∷ y ∷ ys) (y ∷ insert_by before x ys)) → (In z (insert_by before x ys) → (z ≡ x) ⊎ In z ys) → (z ≡ x) ⊎ In z (y ∷ ys)
-        by true (inl e) f = inl e
-        by true (inr k) f = inr k
-        by false (inl e) f = inr (inl e)
-        by false (inr k) f = later (f k)
-
-    all_others : (p : X → Bool) (x : X) (xs : List X) → list_all p (insert_by before x xs) ≡ true → list_all p xs ≡ true
-    all_others p x [] h = refl
-    all_others p x (y ∷ ys) h =
-        elim (before x y) as (λ b. list_all p (cond b (x ∷ y ∷ ys) (y ∷ insert_by before x ys)) ≡ true → list_all p (y ∷ ys) ≡ true) [
-          | true ↦ λ k. (and_parts (p x) (list_all p (y ∷ ys)) k).1
-          | false ↦ λ k. let both = and_parts (p y) (list_all p (insert_by before x ys)) k in and_from (p y) (list_all p ys) both.0 (all_others p x ys both.1)
-        ] h
-
-    order_of_others : (x : X) (xs : List X) → each_two before (insert_by before x xs) ≡ true → each_two before xs ≡ true
-    order_of_others x [] h = refl
-    order_of_others x (y ∷ ys) h =
-        elim (before x y) as (λ b. each_two before (cond b (x ∷ y ∷ ys) (y ∷ insert_by before x ys)) ≡ true → each_two before (y ∷ ys) ≡ true) [
-          | true ↦ λ k. (and_parts (list_all (before x) (y ∷ ys)) (each_two before (y ∷ ys)) k).1
-          | false ↦ λ k.
-              let both = and_parts (list_all (before y) (insert_by before x ys)) (each_two before (insert_by before x ys)) k in
-              and_from (list_all (before y) ys) (each_two before ys) (all_others (before y) x ys both.0) (order_of_others x ys both.1)
-        ] h
-
-    -- a list that is in order with more elements is in order
-    pub order_of_first : (xs ys : List X) → each_two before (insert_all before xs ys) ≡ true → each_two before ys ≡ true
-    order_of_first [] ys h = h
-    order_of_first (x ∷ xs) ys h = order_of_others x ys (order_of_first xs (insert_by before x ys) h)
-
     -- who is put into a list in order comes before or behind each
     one_first : (x : X) (ys : List X) → each_two before (insert_by before x ys) ≡ true → (y : X) → In y ys → IsOneFirst x y
     one_first x [] h y m = absurd m
@@ -96,7 +27,7 @@ module _ {X : Type 0} where
         by : (b : Bool) → each_two before (cond b (x ∷ z ∷ zs) (z ∷ insert_by before x zs)) ≡ true → In y (z ∷ zs) → (each_two before (insert_by before x zs) ≡ true → In y zs → IsOneFirst x y) → IsOneFirst x y
         by true k n later = inl (all_at (before x) y (z ∷ zs) (and_parts (list_all (before x) (z ∷ zs)) (each_two before (z ∷ zs)) k).0 n)
         by false k (inl e) later =
-            inr (subst (λ w. before w x ≡ true) (sym e) (all_at (before z) x (insert_by before x zs) (and_parts (list_all (before z) (insert_by before x zs)) (each_two before (insert_by before x zs)) k).0 (In-insert x zs x (inl refl))))
+            inr (subst (λ w. before w x ≡ true) (sym e) (all_at (before z) x (insert_by before x zs) (and_parts (list_all (before z) (insert_by before x zs)) (each_two before (insert_by before x zs)) k).0 (insert-In before x x zs (inl refl))))
         by false k (inr n) later = later (and_parts (list_all (before z) (insert_by before x zs)) (each_two before (insert_by before x zs)) k).1 n
 
     -- of each two of xs, and of each of xs and each of ys, one comes first
@@ -118,9 +49,9 @@ module _ {X : Type 0} where
     asunder [] ys h = tt
     asunder (x ∷ xs) ys h =
         let rest = asunder xs (insert_by before x ys) h in (
-          one_first x ys (order_of_first xs (insert_by before x ys) h),
-          λ y m. flip y x (asunder_at xs (insert_by before x ys) rest y x m (In-insert x ys x (inl refl))),
-          asunder_fewer xs (insert_by before x ys) ys (λ z m. In-insert x ys z (inr m)) rest,
+          one_first x ys (order_of_first before xs (insert_by before x ys) h),
+          λ y m. flip y x (asunder_at xs (insert_by before x ys) rest y x m (insert-In before x x ys (inl refl))),
+          asunder_fewer xs (insert_by before x ys) ys (λ z m. insert-In before x z ys (inr m)) rest,
         )
 
     insert_kept : IsStrict before → (x : X) (ys : List X) → each_two before ys ≡ true → ((y : X) → In y ys → IsOneFirst x y) → each_two before (insert_by before x ys) ≡ true
@@ -142,10 +73,10 @@ module _ {X : Type 0} where
         front k a z (inr m) = o.through x y z k (all_at (before y) z ys a m)
 
         by : (b : Bool) → b ≡ before x y → IsOneFirst x y → list_all (before y) ys ≡ true → each_two before (insert_by before x ys) ≡ true → each_two before (cond b (x ∷ y ∷ ys) (y ∷ insert_by before x ys)) ≡ true
-        by true e k a rest = and_from (list_all (before x) (y ∷ ys)) (each_two before (y ∷ ys)) (all_from (before x) (y ∷ ys) (front (sym e) a)) h
+        by true e k a rest = and_from (list_all (before x) (y ∷ ys)) (each_two before (y ∷ ys)) (all_of (before x) (y ∷ ys) (front (sym e) a)) h
         by false e k a rest =
             and_from (list_all (before y) (insert_by before x ys)) (each_two before (insert_by before x ys))
-            (all_from (before y) (insert_by before x ys) (λ z m. behind (other (sym e) k) a z (In-insert_cases x ys z m))) rest
+            (all_of (before y) (insert_by before x ys) (λ z m. behind (other (sym e) k) a z (In-insert before x z ys m))) rest
 
     pub put_in_order : IsStrict before → (xs ys : List X) → AreAsunder xs ys → each_two before ys ≡ true → each_two before (insert_all before xs ys) ≡ true
     put_in_order o [] ys a h = h
@@ -157,7 +88,7 @@ module _ {X : Type 0} where
 
         more : (zs : List X) → ((y : X) → In y zs → IsOneFirst x y) → AreAsunder zs ys → AreAsunder zs (insert_by before x ys)
         more [] f b = tt
-        more (w ∷ ws) f b = (λ z m. at w z (f w (inl refl)) b.0 (In-insert_cases x ys z m), b.1, more ws (λ y m. f y (inr m)) b.2)
+        more (w ∷ ws) f b = (λ z m. at w z (f w (inl refl)) b.0 (In-insert before x z ys m), b.1, more ws (λ y m. f y (inr m)) b.2)
 
   -- ... in another order
   pub asunder_by : (b c : X → X → Bool) (p : X → Bool) (xs ys : List X) → ((x y : X) → In x xs → In y xs ⊎ In y ys → IsOneFirst b x y → IsOneFirst c x y) → AreAsunder b xs ys → AreAsunder c (filter p xs) ys
@@ -169,7 +100,7 @@ module _ {X : Type 0} where
       more z (inr m) = inr m
 
       by : (t : Bool) → AreAsunder c (filter p xs) ys → AreAsunder c (cond t (x ∷ filter p xs) (filter p xs)) ys
-      by true rest = (λ y m. f x y (inl refl) (inr m) (a.0 y m), λ y m. f x y (inl refl) (inl (inr (In-filter p xs y m).0)) (a.1 y (In-filter p xs y m).0), rest)
+      by true rest = (λ y m. f x y (inl refl) (inr m) (a.0 y m), λ y m. f x y (inl refl) (inl (inr (In-filter p y xs m).0)) (a.1 y (In-filter p y xs m).0), rest)
       by false rest = rest
 
 -- ---- tests of what is in a list

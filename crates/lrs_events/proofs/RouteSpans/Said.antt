@@ -1,11 +1,11 @@
 -- What a row says at its last millimetre, and which row says a thing.
 use Rattle.std.proofs.Common.{◌≡◌, ℕ, ◌-◌, ◌<◌, true, List, refl, ◌∙◌, arith}
 use Rattle.lrs_measure.specs.Texts.{Name}
+use Rattle.lrs_measure.specs.Lists.{In}
+use Rattle.lrs_measure.proofs.Members.{any_found, any_of}
 use Rattle.lrs_events.specs.declared.side.LinkSide.{LinkSide}
 use Rattle.lrs_events.specs.declared.span.Span.{Span}
 use Rattle.lrs_events.specs.Members.{has_member, is_member}
-use Rattle.lrs_events.specs.Row.Order.{In}
-use Rattle.lrs_events.proofs.Row.Members.{any_found, any_of}
 use Rattle.lrs_events.proofs.Row.Unique.{IsOver, over, its_sides, some_side, has_some}
 
 -- a row says what it says at its last millimetre

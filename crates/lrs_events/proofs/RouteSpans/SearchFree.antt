@@ -7,12 +7,11 @@ use Rattle.std.proofs.lemmas.Bool.{false≢true, both_ways, and_from, or_cases, 
 use Rattle.std.proofs.lemmas.List.{take_all, take_more}
 use Rattle.std.proofs.lemmas.List.Folds.{list_any-append}
 use Rattle.lrs_measure.specs.Texts.{Name, same_name}
+use Rattle.lrs_measure.specs.Lists.{In}
+use Rattle.lrs_measure.proofs.Members.{all_at, all_of, In-filter, filter-In}
 use Rattle.lrs_events.specs.declared.span.Span.{Span}
 use Rattle.lrs_events.specs.Row.Members.{is_of, leaves_free, is_free}
-use Rattle.lrs_events.specs.Row.Order.{In}
-use Rattle.lrs_events.proofs.Row.Members.{all_at, all_from}
 use Rattle.lrs_events.proofs.Row.Differing.{has_in}
-use Rattle.lrs_events.proofs.Row.Replaced.{in_filter, filter_in}
 use Rattle.lrs_events.specs.declared.spans.lanes.ClassLanes.{ClassLanes}
 use Rattle.lrs_events.specs.RouteSpans.LanesOfRows.{has_lanes, AreKept}
 
@@ -39,10 +38,10 @@ free_more lanes rows span i l found h f t k c m =
 pub not_free : (rows : List Span) (span : Span) (c : Name) (found : List Span) → found ≡ filter (is_of c span.asset) rows → is_free found span ≡ false → false ≡ is_free rows span
 not_free rows span c found f h =
     sym (false_from_ne_true (is_free rows span) (λ e. both_ways (is_free (filter (is_of c span.asset) rows) span) (ap (λ z. is_free z span) (sym f) ∙ h)
-    (all_from (leaves_free span) (filter (is_of c span.asset) rows) (λ r m. all_at (leaves_free span) r rows e (in_filter (is_of c span.asset) rows r m).0))))
+    (all_of (leaves_free span) (filter (is_of c span.asset) rows) (λ r m. all_at (leaves_free span) r rows e (In-filter (is_of c span.asset) r rows m).0))))
 
 pub free_all : (lanes : List ClassLanes) (rows : List Span) (span : Span) (i : ℕ) → AreKept rows lanes → length lanes ≤ i → AreFree (take i lanes) rows span → true ≡ is_free rows span
-free_all lanes rows span i kept h k = sym (all_from (leaves_free span) rows (λ r m. by r m (cases_Bool (nat_eq r.asset span.asset))))
+free_all lanes rows span i kept h k = sym (all_of (leaves_free span) rows (λ r m. by r m (cases_Bool (nat_eq r.asset span.asset))))
   where
     known : (r : Span) → In r rows → has_lanes (take i lanes) r.class ≡ true
     known r m = ap (λ z. has_lanes z r.class) (take_all i lanes h) ∙ kept.tied.all r (has_in rows r m)
@@ -50,4 +49,4 @@ free_all lanes rows span i kept h k = sym (all_from (leaves_free span) rows (λ 
     by : (r : Span) → In r rows → (nat_eq r.asset span.asset ≡ true) ⊎ (nat_eq r.asset span.asset ≡ false) → leaves_free span r ≡ true
     by r m (inr n) = or_left (not (nat_eq r.asset span.asset)) (same_name r.class span.class && (nat_le r.to span.from || nat_le span.to r.from)) (ap not n)
     by r m (inl n) = all_at (leaves_free span) r (filter (is_of r.class span.asset) rows) (k r.class (known r m))
-        (filter_in (is_of r.class span.asset) rows r m (and_from (same_name r.class r.class) (nat_eq r.asset span.asset) ((bytes_decides r.class r.class).1 refl) n))
+        (filter-In (is_of r.class span.asset) r rows m (and_from (same_name r.class r.class) (nat_eq r.asset span.asset) ((bytes_decides r.class r.class).1 refl) n))

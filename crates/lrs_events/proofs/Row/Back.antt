@@ -3,12 +3,12 @@ use Rattle.std.proofs.Common.{◌≡◌, ℕ, ◌+◌, ◌-◌, ◌<◌, ◌≤�
 use Rattle.std.specs.Prelude.{◌&&◌, nat_lt, nat_le}
 use Rattle.std.proofs.lemmas.Bool.{lt-ltb, le-ltb, leb-true, cases_lt, cases_Bool}
 use Rattle.lrs_measure.specs.Texts.{Name}
+use Rattle.lrs_measure.proofs.Members.{all_at, any_found}
 use Rattle.lrs_events.specs.declared.side.LinkSide.{LinkSide}
 use Rattle.lrs_events.specs.declared.side.LinkSide.TheVariants.{Left, Right}
 use Rattle.lrs_events.specs.Places.{other_side}
 use Rattle.lrs_events.specs.Members.{has_member, is_member, SameMembers}
 use Rattle.lrs_events.specs.Row.Inverses.{JoinUndoesCut, TurnUndoesTurn}
-use Rattle.lrs_events.proofs.Row.Members.{all_at, any_found}
 use Rattle.lrs_events.proofs.Row.Unique.{over, rows_are_one}
 
 and_one : (b : Bool) → (b && true) ≡ b

@@ -3,17 +3,17 @@ use Rattle.std.proofs.Common.{◌≡◌, Bool, true, false, cond, ◌⊎◌, inl
 use Rattle.std.proofs.lemmas.Bool.{and_parts, cases_Bool}
 use Rattle.std.specs.Prelude.{◌||◌, ◌&&◌, not}
 use Rattle.std.specs.List.{list_any, list_all}
-use Rattle.lrs_measure.specs.Lists.{each_two}
+use Rattle.lrs_measure.specs.Lists.{In, each_two}
 use Rattle.lrs_measure.specs.OrderedLists.{insert_by, insert_all}
+use Rattle.lrs_measure.proofs.Filters.{each_two-filter}
 use Rattle.lrs_events.specs.declared.span.Span.{Span}
 use Rattle.lrs_events.specs.Spans.{are_rows, is_row, span_before, are_apart}
 use Rattle.lrs_events.specs.Changes.{changed, same_row, has_row, without_rows}
-use Rattle.lrs_events.specs.Row.Order.{In}
 use Rattle.lrs_events.specs.Row.Changes.{IsChange, missing}
 use Rattle.lrs_events.proofs.Row.Unique.{less_one}
 use Rattle.lrs_events.proofs.Row.Rows.{BeginsFirst, begins_class, begins_asset, begins_start, begins_first, first_begins}
 use Rattle.lrs_events.proofs.Row.Places.{begins_trans}
-use Rattle.lrs_events.proofs.Row.Sorted.{IsStrict, each_two-filter, one_list, put_all}
+use Rattle.lrs_events.proofs.Row.Sorted.{IsStrict, one_list, put_all}
 use Rattle.lrs_events.proofs.Row.Differing.{one_row, has_found, has_in, in_missing, missing_in, differ}
 
 begins_itself : (r : Span) → BeginsFirst r r → ⊥

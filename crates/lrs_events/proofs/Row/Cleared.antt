@@ -4,21 +4,21 @@ use Rattle.std.specs.Prelude.{◌||◌, ◌&&◌, not, nat_lt, nat_le, nat_eq}
 use Rattle.std.specs.List.{list_any, filter, flat_map}
 use Rattle.std.proofs.lemmas.Bool.{both_ways, cases_Bool, and_parts, and_from, leb-true, ltb-true, lt-ltb}
 use Rattle.lrs_measure.specs.Texts.{Name, same_name}
+use Rattle.lrs_measure.specs.Lists.{In}
+use Rattle.lrs_measure.proofs.Members.{any_found, In-filter}
 use Rattle.lrs_events.specs.declared.side.LinkSide.{LinkSide}
 use Rattle.lrs_events.specs.declared.span.Span.{Span}
 use Rattle.lrs_events.specs.Spans.{are_rows}
 use Rattle.lrs_events.specs.Members.{has_member, is_member}
 use Rattle.lrs_events.specs.declared.rows.removals.Removal.{Removal}
 use Rattle.lrs_events.specs.Row.Members.{is_of}
-use Rattle.lrs_events.specs.Row.Order.{In}
 use Rattle.lrs_events.specs.Row.Changes.{missing}
 use Rattle.lrs_events.specs.Row.Clips.{clip, outside}
 use Rattle.lrs_events.specs.Row.Removals.{IsRemoval, is_within, of_within, Finds, is_met}
-use Rattle.lrs_events.proofs.Row.Members.{any_found}
 use Rattle.lrs_events.proofs.Row.Unique.{over}
 use Rattle.lrs_events.proofs.Row.Rows.{AreRows, rows_from}
 use Rattle.lrs_events.proofs.Row.Pieces.{outside_pieces, all_parts, outside_holds, clips_rows, clips_hold, rests_rows}
-use Rattle.lrs_events.proofs.Row.Replaced.{in_filter, any_filter, instead, is_replaced}
+use Rattle.lrs_events.proofs.Row.Replaced.{any_filter, instead, is_replaced}
 
 module _ (of : Name → ℕ → Bool) (low high : ℕ) (test : Span → Bool) (rows : List Span) (f : Finds of low high test rows) (class : Name) (asset j : ℕ) (s : LinkSide) where
   abbrev stands : Span → Bool
@@ -75,7 +75,7 @@ module _ (of : Name → ℕ → Bool) (low high : ℕ) (test : Span → Bool) (r
 
       none : asked ≡ false → (list_any stands (filter test rows) ≡ true) ⊎ (list_any stands (filter test rows) ≡ false) → list_any stands (filter test rows) ≡ false
       none a (inr e) = e
-      none a (inl e) = let g = any_found stands (filter test rows) e in let q = in_filter test rows g.0 g.1 in absurd (both_ways asked a (only_asked g.0 q.0 q.1 g.2))
+      none a (inl e) = let g = any_found stands (filter test rows) e in let q = In-filter test g.0 rows g.1 in absurd (both_ways asked a (only_asked g.0 q.0 q.1 g.2))
 
       by : (a w : Bool) → a ≡ asked → w ≡ inside → (list_any stands (filter test rows) && w) ≡ (list_any stands rows && (a && w))
       by true true a w = λ i. any_filter stands test rows (each_found (sym a) (sym w)) i && true

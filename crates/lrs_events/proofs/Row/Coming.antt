@@ -6,11 +6,12 @@ use Rattle.std.proofs.lemmas.Bool.{ltb-true, ltb-false, lt-ltb, le-leb, lt-leb}
 use Rattle.std.proofs.lemmas.List.Folds.{list_any-append}
 use Rattle.lrs_measure.specs.Texts.{Name, same_name, name_before}
 use Rattle.lrs_measure.specs.Limits.{longest_route}
+use Rattle.lrs_measure.specs.Lists.{In}
+use Rattle.lrs_measure.proofs.Members.{In-append_left, In-append_right}
 use Rattle.lrs_events.specs.declared.side.LinkSide.{LinkSide}
 use Rattle.lrs_events.specs.declared.span.Span.{Span}
 use Rattle.lrs_events.specs.Members.{has_side, has_member, is_member}
-use Rattle.lrs_events.specs.Row.Order.{In, IsLeft, by_class, by_asset, by_place, IsAfter, IsBefore, alone, joined, grown}
-use Rattle.lrs_events.proofs.Row.Members.{In-append_left, In-append_right}
+use Rattle.lrs_events.specs.Row.Order.{IsLeft, by_class, by_asset, by_place, IsAfter, IsBefore, alone, joined, grown}
 use Rattle.lrs_events.proofs.Row.Rows.{IsFull, IsAhead, Pairs, AreRows, pairs_front, pairs_rear, pairs_across, exchanged}
 
 left_onto : (x y z : Span) → IsLeft x y → y.class ≡ z.class → y.asset ≡ z.asset → y.from ≡ z.from → IsLeft x z

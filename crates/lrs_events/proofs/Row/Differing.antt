@@ -6,15 +6,15 @@ use Rattle.std.specs.Cmp.Lexicographic.{bytes_decides}
 use Rattle.std.proofs.lemmas.Bool.{both_ways, and_parts, eqb-true, eq-eqb, cases_Bool, false_from_ne_true}
 use Rattle.std.proofs.lemmas.List.{drop_more, drop_all, take-append-drop}
 use Rattle.lrs_measure.specs.Texts.{same_name}
+use Rattle.lrs_measure.specs.Lists.{In}
+use Rattle.lrs_measure.proofs.Members.{any_found, any_of, In-append_cases, In-drop}
+use Rattle.lrs_measure.proofs.Places.{all_first, all_last}
 use Rattle.lrs_events.specs.declared.span.Span.{Span}
 use Rattle.lrs_events.specs.Spans.{are_rows, span_before, same_side}
-use Rattle.lrs_events.specs.Row.Order.{In}
 use Rattle.lrs_events.specs.Changes.{same_row, has_row}
 use Rattle.lrs_events.specs.Row.Changes.{IsChange, missing}
-use Rattle.lrs_events.proofs.Row.Members.{any_found, any_of, In-append_cases, In-drop}
 use Rattle.lrs_events.proofs.Row.Unique.{is_same, less_one}
 use Rattle.lrs_events.proofs.Row.Rows.{Pairs, BeginsFirst, begins_class, begins_asset, begins_start, begins_first, sides_same, ahead_before, pairs_rear, rows_from}
-use Rattle.lrs_events.proofs.Row.Places.{all_first, all_last}
 
 pub one_row : (r s : Span) → same_row r s ≡ true → r ≡ s
 one_row r s h =

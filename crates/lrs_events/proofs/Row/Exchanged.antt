@@ -3,16 +3,18 @@ use Rattle.std.proofs.Common.{◌≡◌, ℕ, ◌+◌, ◌-◌, ◌≤◌, true,
 use Rattle.std.specs.Prelude.{slice_range}
 use Rattle.std.specs.List.{splice}
 use Rattle.std.proofs.lemmas.List.{length-take, length-drop, length-append}
+use Rattle.lrs_measure.specs.Lists.{In}
+use Rattle.lrs_measure.proofs.Members.{all_at, In-append_left, In-append_right, In-append_cases, In-take, In-drop}
+use Rattle.lrs_measure.proofs.Places.{in_three}
 use Rattle.lrs_events.specs.declared.span.Span.{Span}
 use Rattle.lrs_events.specs.Spans.{are_rows, is_row, span_before}
 use Rattle.lrs_events.specs.Changes.{changed}
 use Rattle.lrs_events.specs.Row.Members.{leaves_free, is_free, IsMore}
-use Rattle.lrs_events.specs.Row.Order.{In, IsPlace, IsAfter, IsBefore, alone, joined, IsStart, IsEnd, grown}
+use Rattle.lrs_events.specs.Row.Order.{IsPlace, IsAfter, IsBefore, alone, joined, IsStart, IsEnd, grown}
 use Rattle.lrs_events.specs.Row.Changes.{IsChange}
-use Rattle.lrs_events.proofs.Row.Members.{all_at, In-append_left, In-append_right, In-append_cases, In-take, In-drop}
 use Rattle.lrs_events.proofs.Row.Rows.{IsFull, IsAhead, AreRows, full_from, rows_from, pairs_rear, pairs_across}
 use Rattle.lrs_events.proofs.Row.Places.{IsFree, free_from, has_come}
-use Rattle.lrs_events.proofs.Row.Stretches.{left_itself, in_three}
+use Rattle.lrs_events.proofs.Row.Stretches.{left_itself}
 use Rattle.lrs_events.proofs.Row.Coming.{begins, ends}
 use Rattle.lrs_events.proofs.Row.Changing.{changed_is}
 

@@ -2,15 +2,14 @@
 use Rattle.std.proofs.Common.{◌≡◌, ℕ, ◌+◌, ◌-◌, ◌<◌, ◌≤◌, true, false, ◌⊎◌, inl, inr, List, [], ◌∷◌, ◌++◌, length, min, max, refl, sym, ap, subst, ◌∙◌, arith}
 use Rattle.std.specs.Prelude.{◌&&◌, not, nat_le, nat_eq}
 use Rattle.std.proofs.lemmas.Bool.{both_ways, not-true, and_from, or_cases, leb-true, eq-eqb, cases_Bool, cases_lt}
-use Rattle.lrs_measure.specs.Lists.{each_two}
+use Rattle.lrs_measure.specs.Lists.{In, each_two}
 use Rattle.lrs_measure.specs.Texts.{Name}
+use Rattle.lrs_measure.proofs.Members.{any_found, any_of, all_of, two_at, split_at, In-without, length-without}
 use Rattle.lrs_events.specs.declared.side.LinkSide.{LinkSide}
 use Rattle.lrs_events.specs.declared.span.Span.{Span}
 use Rattle.lrs_events.specs.Spans.{same_side, are_apart, are_rows}
 use Rattle.lrs_events.specs.Members.{has_side, has_member, is_member, SameMembers}
 use Rattle.lrs_events.specs.Row.Members.{are_off, begins_at, NoneIsShorter}
-use Rattle.lrs_events.specs.Row.Order.{In}
-use Rattle.lrs_events.proofs.Row.Members.{any_found, any_of, all_from, two_at, split_at, In-without, length-without}
 use Rattle.lrs_events.proofs.Row.Unique.{IsOver, over, its_sides, held_there, counterpart, same_sides, is_same, IsApart, ahead, behind, touches, apart, kept}
 use Rattle.lrs_events.proofs.Row.Rows.{IsFull, IsAhead, Pairs, rows_from, left_place}
 
@@ -130,7 +129,7 @@ pigeons (x ∷ xs) ys f p h =
 
 pub none_is_shorter : NoneIsShorter
 none_is_shorter xs ys h k same = record {
-  starts = all_from (begins_at ys) xs (λ x m. let y = starts_with xs ys h k same x m in
+  starts = all_of (begins_at ys) xs (λ x m. let y = starts_with xs ys h k same x m in
       any_of (λ s. nat_eq s.asset x.asset && nat_eq s.from x.from) y.0 ys y.1 (and_from (nat_eq y.0.asset x.asset) (nat_eq y.0.from x.from) (eq-eqb y.0.asset x.asset y.2.asset) (eq-eqb y.0.from x.from y.2.from)));
   fewest = let r = rows_from xs h in pigeons xs ys r.full r.pairs (starts_with xs ys h k same);
 }

@@ -6,8 +6,9 @@ use Rattle.std.specs.Cmp.Lexicographic.{bytes_decides}
 use Rattle.std.proofs.lemmas.Bool.{and_parts, and_from, eqb-true, eq-eqb, le-ltb, leb-true, cases_lt, cases_Bool}
 use Rattle.std.proofs.lemmas.List.{length-map}
 use Rattle.std.proofs.lemmas.List.FromFn.{get_or-map-range_with_len}
-use Rattle.lrs_measure.specs.Lists.{each_two}
+use Rattle.lrs_measure.specs.Lists.{In, each_two}
 use Rattle.lrs_measure.specs.Texts.{Name, same_name}
+use Rattle.lrs_measure.proofs.Members.{all_of}
 use Rattle.lrs_element.specs.declared.link.Ground.{Ground}
 use Rattle.lrs_events.specs.declared.side.Side.{Side}
 use Rattle.lrs_events.specs.declared.side.LinkSide.{LinkSide}
@@ -16,11 +17,9 @@ use Rattle.lrs_events.specs.declared.span.Span.{Span}
 use Rattle.lrs_events.specs.Canonical.{side_of, side_held}
 use Rattle.lrs_events.specs.Members.{has_side, stands_for, SameMembers}
 use Rattle.lrs_events.specs.Spans.{holds_by_spans}
-use Rattle.lrs_events.specs.Row.Order.{In}
 use Rattle.lrs_events.specs.Row.Members.{are_off, begins_at}
 use Rattle.lrs_events.specs.Row.CourseMembers.{is_once, is_held}
 use Rattle.lrs_events.specs.Row.RunLaws.{end_within, HoldSame, are_of_class, HeldRowsAreFewest}
-use Rattle.lrs_events.proofs.Row.Members.{all_from}
 use Rattle.lrs_events.proofs.Row.Rows.{Pairs, rows_from}
 use Rattle.lrs_events.proofs.Row.Picked.{rows_hold, sides_picked}
 use Rattle.lrs_events.proofs.Row.RunLaws.{member_of_asset}
@@ -142,7 +141,7 @@ held_rows_are_fewest course xs ys once hx wx off wy same =
     others = map (classed class_of) ys
 
     of_class : are_of_class class_of xs ≡ true
-    of_class = all_from (λ r. same_name r.class (class_of r.asset)) xs (λ r m. (bytes_decides r.class (class_of r.asset)).1 (class_is xs (rows_from xs hx).pairs r m))
+    of_class = all_of (λ r. same_name r.class (class_of r.asset)) xs (λ r m. (bytes_decides r.class (class_of r.asset)).1 (class_is xs (rows_from xs hx).pairs r m))
 
     members : SameMembers xs others
     members class asset j s =

@@ -2,19 +2,19 @@
 use Rattle.std.proofs.Common.{◌≡◌, ◌<◌, Bool, true, false, cond, ◌⊎◌, inl, inr, List, [], ◌∷◌, ◌++◌, refl, sym, subst, arith}
 use Rattle.std.specs.Prelude.{not}
 use Rattle.std.specs.List.{list_all}
-use Rattle.lrs_measure.specs.Lists.{each_two}
+use Rattle.lrs_measure.specs.Lists.{In, each_two}
 use Rattle.std.proofs.lemmas.Bool.{both_ways, cases_order, and_parts, and_from}
 use Rattle.lrs_measure.specs.OrderedLists.{insert_by, insert_all}
+use Rattle.lrs_measure.proofs.Members.{all_at, all_of, In-append_cases}
+use Rattle.lrs_measure.proofs.Insertions.{In-insert, In-insert_all, insert_all-In}
 use Rattle.lrs_events.specs.declared.span.Span.{Span}
 use Rattle.lrs_events.specs.Spans.{span_before}
 use Rattle.lrs_events.specs.Changes.{has_row, without_rows, changed}
-use Rattle.lrs_events.specs.Row.Order.{In, by_class, by_asset}
+use Rattle.lrs_events.specs.Row.Order.{by_class, by_asset}
 use Rattle.lrs_events.specs.Row.Changes.{IsChange}
-use Rattle.lrs_events.proofs.Row.Members.{all_at, all_from, In-append_cases}
 use Rattle.lrs_events.proofs.Row.Unique.{less_one, less_both}
 use Rattle.lrs_events.proofs.Row.Rows.{rows_from, rows_are, IsFull, IsAhead, Pairs, AreRows, BeginsFirst, begins_class, begins_asset, begins_start, begins_first, left_first, ahead_before, left_trans, NameCases, name_cases, before, same, behind}
 use Rattle.lrs_events.proofs.Row.Differing.{in_missing, missing_in}
-use Rattle.lrs_events.proofs.Row.Inserted.{In-insert, In-insert_all, insert_all-In}
 use Rattle.lrs_events.proofs.Row.Replaced.{found_rows}
 
 -- two tests that tell each other are one
@@ -27,7 +27,7 @@ pub each_two-append : (test : Span → Span → Bool) (xs ys : List Span) → ea
 each_two-append test [] ys h k c = k
 each_two-append test (x ∷ xs) ys h k c =
     let a = and_parts (list_all (test x) xs) (each_two test xs) h in
-    and_from (list_all (test x) (xs ++ ys)) (each_two test (xs ++ ys)) (all_from (test x) (xs ++ ys) (λ y m. by y a.0 (In-append_cases y xs ys m)))
+    and_from (list_all (test x) (xs ++ ys)) (each_two test (xs ++ ys)) (all_of (test x) (xs ++ ys) (λ y m. by y a.0 (In-append_cases y xs ys m)))
     (each_two-append test xs ys a.1 k (λ z y m n. c z y (inr m) n))
   where
     by : (y : Span) → list_all (test x) xs ≡ true → In y xs ⊎ In y ys → test x y ≡ true

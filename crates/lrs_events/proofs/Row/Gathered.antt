@@ -6,16 +6,17 @@ use Rattle.std.specs.Cmp.Lexicographic.{bytes_decides}
 use Rattle.std.proofs.lemmas.Bool.{and_parts, or_cases, both_ways, not-true, eq-eqb}
 use Rattle.std.proofs.lemmas.List.{take_more, drop_more, take_all}
 use Rattle.std.proofs.lemmas.List.Folds.{list_any-append}
-use Rattle.lrs_measure.specs.Lists.{each_two}
+use Rattle.lrs_measure.specs.Lists.{In, each_two}
 use Rattle.lrs_measure.specs.Texts.{same_name}
+use Rattle.lrs_measure.proofs.Members.{all_at}
+use Rattle.lrs_measure.proofs.Places.{member_at}
 use Rattle.lrs_events.specs.declared.span.Span.{Span}
 use Rattle.lrs_events.specs.Spans.{are_rows, is_row}
 use Rattle.lrs_events.specs.Members.{has_member, is_member, SameMembers}
 use Rattle.lrs_events.specs.Row.Members.{IsMore}
-use Rattle.lrs_events.specs.Row.Order.{In, IsLeft, IsBehind, StaysBehind}
+use Rattle.lrs_events.specs.Row.Order.{IsLeft, IsBehind, StaysBehind}
 use Rattle.lrs_events.specs.Row.Clips.{is_left, follows, are_in_order}
-use Rattle.lrs_events.proofs.Row.Members.{all_at}
-use Rattle.lrs_events.proofs.Row.Places.{left_from, In-get}
+use Rattle.lrs_events.proofs.Row.Places.{left_from}
 
 -- how far the rows are merged
 pub record IsMerged (rows : List Span) (i : ℕ) (out : List Span) : Type 0 where
@@ -54,7 +55,7 @@ pub next_behind : (rows : List Span) (i : ℕ) (out : List Span) (r : Span) → 
 next_behind rows i out r h e m = m.behind r (subst (In r) (sym (rest_is rows i r h e)) (inl refl))
 
 pub next_row : (rows : List Span) (i : ℕ) (r : Span) → i < length rows → r ≡ get_or rows i r → are_in_order rows ≡ true → is_row r ≡ true
-next_row rows i r h e o = all_at is_row r rows (and_parts (list_all is_row rows) (each_two follows rows) o).0 (subst (λ z. In z rows) (sym e) (In-get rows i r h))
+next_row rows i r h e o = all_at is_row r rows (and_parts (list_all is_row rows) (each_two follows rows) o).0 (subst (λ z. In z rows) (sym e) (member_at rows i r h))
 
 pub merged_more : (rows : List Span) (i : ℕ) (out new : List Span) (r : Span) → i < length rows → r ≡ get_or rows i r → are_in_order rows ≡ true → IsMerged rows i out
     → are_rows new ≡ true → IsMore out r new → StaysBehind out r new → IsMerged rows (i + 1) new

@@ -6,12 +6,13 @@ use Rattle.std.proofs.lemmas.Bool.{ltb-true, ltb-false, le-leb, lt-ltb}
 use Rattle.std.proofs.lemmas.Bool.Decides.{nat_tests}
 use Rattle.std.proofs.lemmas.List.Folds.{list_any-append}
 use Rattle.lrs_measure.specs.Texts.{Name, same_name}
+use Rattle.lrs_measure.specs.Lists.{In}
 use Rattle.lrs_events.specs.declared.side.LinkSide.{LinkSide}
 use Rattle.lrs_events.specs.declared.span.Span.{Span}
 use Rattle.lrs_events.specs.Spans.{are_rows}
 use Rattle.lrs_events.specs.Members.{has_side, has_member, is_member}
 use Rattle.lrs_events.specs.declared.rows.cuts.Cut.{Cut}
-use Rattle.lrs_events.specs.Row.Order.{In, grown}
+use Rattle.lrs_events.specs.Row.Order.{grown}
 use Rattle.lrs_events.specs.Row.Changes.{missing}
 use Rattle.lrs_events.specs.Row.Clips.{clip, rear}
 use Rattle.lrs_events.specs.Row.Cuts.{IsCutOff}

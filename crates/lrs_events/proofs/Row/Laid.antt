@@ -6,6 +6,8 @@ use Rattle.std.proofs.lemmas.Bool.{and_from, lt-ltb, le-ltb, le-leb, lt-leb, leb
 use Rattle.lrs_measure.specs.Runs.{Run, runs_of, same_option}
 use Rattle.lrs_measure.specs.MaximalRuns.{IsChain, begin_other, neighbours_differ}
 use Rattle.lrs_measure.proofs.Runs.{AreValued, range_runs_are}
+use Rattle.lrs_measure.specs.Lists.{In}
+use Rattle.lrs_measure.proofs.Members.{all_at, In-filter}
 use Rattle.lrs_events.specs.declared.side.Side.{Side}
 use Rattle.lrs_events.specs.declared.side.Side.TheVariants.{L, R, B}
 use Rattle.lrs_events.specs.declared.side.LinkSide.{LinkSide}
@@ -14,12 +16,10 @@ use Rattle.lrs_events.specs.declared.span.Span.{Span}
 use Rattle.lrs_events.specs.Canonical.{side_of, held_run}
 use Rattle.lrs_events.specs.Members.{has_side, between}
 use Rattle.lrs_events.specs.Spans.{same_side, are_rows}
-use Rattle.lrs_events.specs.Row.Order.{In}
 use Rattle.lrs_events.specs.Row.RunLaws.{row_run, end_within}
-use Rattle.lrs_events.proofs.Row.Members.{all_at}
 use Rattle.lrs_events.proofs.Row.Unique.{is_same}
 use Rattle.lrs_events.proofs.Row.Rows.{AreRows, left_place, sides_same, rows_from}
-use Rattle.lrs_events.proofs.Row.Replaced.{in_filter, found_rows}
+use Rattle.lrs_events.proofs.Row.Replaced.{found_rows}
 
 -- whether one of the rows is over the millimetre on the side
 abbrev pub is_over : List Span → ℕ → LinkSide → Bool
@@ -207,8 +207,8 @@ any_passed p q (r ∷ rs) = by (p r) (any_passed p q rs)
 pub laid : (p : Span → Bool) (asset len : ℕ) (rows : List Span) → are_rows rows ≡ true → end_within len rows ≡ true → ((r : Span) → p r ≡ true → r.asset ≡ asset) → AreLaid asset 0 len (filter p rows)
 laid p asset len rows h k of_asset = record {
   kept = rows_from (filter p rows) (found_rows p rows h);
-  of_asset = λ r m. of_asset r (in_filter p rows r m).1;
+  of_asset = λ r m. of_asset r (In-filter p r rows m).1;
   low = λ r m. omega arith;
-  high = λ r m. leb-true r.to len (all_at (λ s. nat_le s.to len) r rows k (in_filter p rows r m).0);
+  high = λ r m. leb-true r.to len (all_at (λ s. nat_le s.to len) r rows k (In-filter p r rows m).0);
   within = omega arith;
 }

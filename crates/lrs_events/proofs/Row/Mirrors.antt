@@ -7,6 +7,9 @@ use Rattle.std.proofs.lemmas.List.{append_cancel_right, take-append-drop, take_a
 use Rattle.std.proofs.lemmas.List.Folds.{drop_split}
 use Rattle.lrs_measure.specs.Texts.{Name}
 use Rattle.lrs_measure.specs.Limits.{longest_route}
+use Rattle.lrs_measure.specs.Lists.{In}
+use Rattle.lrs_measure.proofs.Members.{all_at, any_found, any_of, In-append_left, In-append_right, In-append_cases, In-take, In-drop}
+use Rattle.lrs_measure.proofs.Places.{all_first, all_last, member_at, in_three}
 use Rattle.lrs_events.specs.declared.side.Side.{Side}
 use Rattle.lrs_events.specs.declared.side.Side.TheVariants.{L, R, B}
 use Rattle.lrs_events.specs.declared.side.LinkSide.{LinkSide}
@@ -16,14 +19,12 @@ use Rattle.lrs_events.specs.Spans.{are_rows}
 use Rattle.lrs_events.specs.Places.{other_side}
 use Rattle.lrs_events.specs.Members.{has_side, has_member, is_member}
 use Rattle.lrs_events.specs.Row.Clips.{is_left}
-use Rattle.lrs_events.specs.Row.Order.{In, IsLeft, by_class, by_asset, by_place, grown}
+use Rattle.lrs_events.specs.Row.Order.{IsLeft, by_class, by_asset, by_place, grown}
 use Rattle.lrs_events.specs.Row.Joins.{end_by}
 use Rattle.lrs_events.specs.Row.Turns.{turned_side, mirrored, mirrored_rows, IsTurned, IsBlock}
-use Rattle.lrs_events.proofs.Row.Members.{all_at, any_found, any_of, In-append_left, In-append_right, In-append_cases, In-take, In-drop}
 use Rattle.lrs_events.proofs.Row.Unique.{over, its_sides}
 use Rattle.lrs_events.proofs.Row.Rows.{IsFull, IsAhead, Pairs, AreRows, rows_from, rows_are, left_place, pairs_append, pairs_front, pairs_rear, pairs_across}
-use Rattle.lrs_events.proofs.Row.Places.{left_from, left_is, all_first, all_last, In-get}
-use Rattle.lrs_events.proofs.Row.Stretches.{in_three}
+use Rattle.lrs_events.proofs.Row.Places.{left_from, left_is}
 use Rattle.lrs_events.proofs.Row.Fitting.{one_test, Fits}
 use Rattle.lrs_events.proofs.Row.Replaced.{pairs_two}
 
@@ -202,7 +203,7 @@ turned_whole len rows out start h e k l t =
 module _ (rows : List Span) (row : Span) (start end : ℕ) (h : are_rows rows ≡ true) (l : start < length rows) (e : row ≡ get_or rows start row)
     (p : IsPartitionPoint (λ r. not (is_left (grown row 0 longest_route) r) ≡ true) (λ r. not (is_left (grown row 0 longest_route) r) ≡ false) rows end) where
   here : In row rows
-  here = subst (λ z. In z rows) (sym e) (In-get rows start row l)
+  here = subst (λ z. In z rows) (sym e) (member_at rows start row l)
 
   split : drop start rows ≡ row ∷ drop (start + 1) rows
   split = drop_more rows start row l ∙ (λ i. sym e i ∷ drop (start + 1) rows)

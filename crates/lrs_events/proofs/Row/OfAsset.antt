@@ -5,13 +5,13 @@ use Rattle.std.specs.List.{filter}
 use Rattle.std.specs.Cmp.Lexicographic.{bytes_decides}
 use Rattle.std.proofs.lemmas.Bool.{false≢true, and_parts, and_from, eqb-true, eq-eqb}
 use Rattle.lrs_measure.specs.Texts.{Name, same_name}
+use Rattle.lrs_measure.proofs.Members.{any_found, any_of, In-filter, filter-In}
 use Rattle.lrs_events.specs.declared.side.LinkSide.{LinkSide}
 use Rattle.lrs_events.specs.declared.span.Span.{Span}
 use Rattle.lrs_events.specs.Members.{has_member, is_member}
 use Rattle.lrs_events.specs.Row.Members.{is_of, AssetRowsAreOne}
-use Rattle.lrs_events.proofs.Row.Members.{any_found, any_of}
 use Rattle.lrs_events.proofs.Row.Unique.{over, rows_are_one}
-use Rattle.lrs_events.proofs.Row.Replaced.{in_filter, filter_in, found_rows}
+use Rattle.lrs_events.proofs.Row.Replaced.{found_rows}
 
 abbrev Agrees : List Span → List Span → Name → ℕ → Type 0
 Agrees xs ys class asset = (j : ℕ) (s : LinkSide) → is_member xs class asset j s ≡ is_member ys class asset j s
@@ -32,11 +32,11 @@ carries : (xs ys : List Span) (class : Name) (asset : ℕ) → Agrees xs ys clas
     → is_member (filter (is_of class asset) xs) c a j s ≡ true → is_member (filter (is_of class asset) ys) c a j s ≡ true
 carries xs ys class asset same c a j s h =
     let g = any_found (λ r. has_member r c a j s) (filter (is_of class asset) xs) h in
-    let q = in_filter (is_of class asset) xs g.0 g.1 in
+    let q = In-filter (is_of class asset) g.0 xs g.1 in
     let w = at_asset class asset g.0 c a j s q.1 g.2 in
     let mine : has_member g.0 class asset j s ≡ true = (λ i. has_member g.0 (sym w.0 i) (sym w.1 i) j s) ∙ g.2 in
     let f = any_found (λ r. has_member r class asset j s) ys (sym (same j s) ∙ any_of (λ r. has_member r class asset j s) g.0 xs q.0 mine) in
-    any_of (λ r. has_member r c a j s) f.0 (filter (is_of class asset) ys) (filter_in (is_of class asset) ys f.0 f.1 (of_asset class asset f.0 j s f.2))
+    any_of (λ r. has_member r c a j s) f.0 (filter (is_of class asset) ys) (filter-In (is_of class asset) f.0 ys f.1 (of_asset class asset f.0 j s f.2))
     ((λ i. has_member f.0 (w.0 i) (w.1 i) j s) ∙ f.2)
 
 both_same : (a b : Bool) → (a ≡ true → b ≡ true) → (b ≡ true → a ≡ true) → a ≡ b

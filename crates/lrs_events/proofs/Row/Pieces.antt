@@ -7,14 +7,15 @@ use Rattle.lrs_events.proofs.Row.Unique.{over}
 use Rattle.std.proofs.lemmas.List.Folds.{list_any-append}
 use Rattle.lrs_measure.specs.Texts.{Name, same_name, name_before}
 use Rattle.lrs_measure.specs.Limits.{longest_route}
+use Rattle.lrs_measure.specs.Lists.{In}
+use Rattle.lrs_measure.proofs.Members.{In-append_cases}
 use Rattle.lrs_events.specs.declared.side.LinkSide.{LinkSide}
 use Rattle.lrs_events.specs.declared.span.Span.{Span}
 use Rattle.lrs_events.specs.Spans.{are_rows}
 use Rattle.lrs_events.specs.Members.{has_side, has_member}
-use Rattle.lrs_events.specs.Row.Order.{In, IsLeft, by_class, by_asset, by_place, grown}
+use Rattle.lrs_events.specs.Row.Order.{IsLeft, by_class, by_asset, by_place, grown}
 use Rattle.lrs_events.specs.Row.Clips.{clip, outside}
 use Rattle.lrs_events.specs.Row.Removals.{is_within, IsThat}
-use Rattle.lrs_events.proofs.Row.Members.{In-append_cases}
 use Rattle.lrs_events.proofs.Row.Rows.{IsFull, IsAhead, Pairs, AreRows, pairs_append, rows_from, rows_are, left_place}
 use Rattle.std.proofs.lemmas.Bool.Decides.{nat_tests}
 

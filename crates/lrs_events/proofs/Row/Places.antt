@@ -1,29 +1,26 @@
 -- Where a span comes among rows.
 use Rattle.std.proofs.Common.{◌≡◌, ℕ, zero, suc, ◌+◌, ◌-◌, ◌<◌, ◌≤◌, Bool, true, false, ◌⊎◌, inl, inr, List, [], ◌∷◌, ◌++◌, length, get_or, take, drop, refl, sym, ap, subst, ◌∙◌, arith}
 use Rattle.std.specs.Prelude.{◌||◌, ◌&&◌, not, nat_lt, nat_le, nat_eq}
-use Rattle.std.specs.List.{AllWithin, splice}
+use Rattle.std.specs.List.{splice}
 use Rattle.std.specs.List.Sorted.{IsPartitionedBy, IsPartitionPoint}
 use Rattle.std.specs.Cmp.Lexicographic.{bytes_decides}
 use Rattle.std.proofs.lemmas.Bool.{both_ways, not-true, and_parts, or_cases, eqb-true, eq-eqb, leb-true, cases_lt, cases_order, or_left, or_right, and_from, lt-ltb, le-leb, ltb-true, cases_Bool}
 use Rattle.std.proofs.lemmas.List.{take_more, drop_more, append-nil, take-append-drop}
 use Rattle.lrs_measure.specs.Texts.{same_name, name_before}
+use Rattle.lrs_measure.specs.Lists.{In}
+use Rattle.lrs_measure.proofs.Members.{all_at, In-append_right, In-append_cases, In-take, In-drop}
+use Rattle.lrs_measure.proofs.Places.{member_at, all_first, all_last}
 use Rattle.lrs_events.specs.declared.span.Span.{Span}
 use Rattle.lrs_events.specs.Spans.{span_before, are_rows, is_row, same_side}
 use Rattle.lrs_events.specs.Members.{is_member, has_member}
 use Rattle.lrs_events.specs.Row.Members.{leaves_free, is_free, joins, IsMore}
-use Rattle.lrs_events.specs.Row.Order.{In, IsLeft, by_class, by_asset, by_place, Joins, IsPlace, alone, joined, IsStart, IsEnd, grown}
-use Rattle.lrs_events.proofs.Row.Members.{all_at, In-append_right, In-append_cases, In-take, In-drop}
+use Rattle.lrs_events.specs.Row.Order.{IsLeft, by_class, by_asset, by_place, Joins, IsPlace, alone, joined, IsStart, IsEnd, grown}
 use Rattle.lrs_events.proofs.Row.Unique.{is_same}
 use Rattle.lrs_events.proofs.Row.Rows.{left_trans, rows_are, IsFull, Pairs, AreRows, BeginsFirst, begins_class, begins_asset, begins_start, begins_first, first_begins, left_first, name_trans, NameCases, name_cases, before, same, behind, sides_same, not_across, pairs_front, pairs_rear, pairs_across, rows_from, full_from}
 use Rattle.lrs_events.specs.Row.Clips.{is_left}
 use Rattle.lrs_events.proofs.Row.Coming.{Comes, added, added_holds}
 
 module _ {X : Type 0} where
-  pub In-get : (xs : List X) (k : ℕ) (d : X) → k < length xs → In (get_or xs k d) xs
-  In-get [] k d h = absurd (omega (arith, h))
-  In-get (x ∷ xs) zero d h = inl refl
-  In-get (x ∷ xs) (suc k) d h = inr (In-get xs k d (omega (arith, h)))
-
   -- where one that passes comes behind none that fails
   abbrev pub Falls : (X → Bool) → List X → Type 0
   Falls p [] = Unit {0}
@@ -32,22 +29,9 @@ module _ {X : Type 0} where
   pub parted : (p : X → Bool) (xs : List X) → Falls p xs → IsPartitionedBy p xs
   parted p [] f i j d h k e = absurd (omega (arith, k))
   parted p (x ∷ xs) f zero zero d h k e = e
-  parted p (x ∷ xs) f zero (suc j) d h k e = f.0 (get_or xs j d) (In-get xs j d (omega (arith, k))) e
+  parted p (x ∷ xs) f zero (suc j) d h k e = f.0 (get_or xs j d) (member_at xs j d (omega (arith, k))) e
   parted p (x ∷ xs) f (suc i) zero d h k e = absurd (omega (arith, h))
   parted p (x ∷ xs) f (suc i) (suc j) d h k e = parted p xs f.1 i j d (omega (arith, h)) (omega (arith, k)) e
-
-  pub all_first : (P : X → Type 0) (xs : List X) (i : ℕ) → AllWithin P xs 0 i → (x : X) → In x (take i xs) → P x
-  all_first P xs zero h x m = absurd m
-  all_first P [] (suc i) h x m = absurd m
-  all_first P (y ∷ ys) (suc i) h x (inl e) = subst P (sym e) (h 0 y (omega arith) (omega arith))
-  all_first P (y ∷ ys) (suc i) h x (inr m) = all_first P ys i (λ k d low high. h (suc k) d (omega arith) (omega (arith, high))) x m
-
-  pub all_last : (P : X → Type 0) (xs : List X) (i : ℕ) → AllWithin P xs i (length xs) → (x : X) → In x (drop i xs) → P x
-  all_last P [] zero h x m = absurd m
-  all_last P [] (suc i) h x m = absurd m
-  all_last P (y ∷ ys) zero h x (inl e) = subst P (sym e) (h 0 y (omega arith) (omega arith))
-  all_last P (y ∷ ys) zero h x (inr m) = all_last P ys zero (λ k d low high. h (suc k) d (omega arith) (omega (arith, high))) x m
-  all_last P (y ∷ ys) (suc i) h x m = all_last P ys i (λ k d low high. h (suc k) d (omega (arith, low)) (omega (arith, high))) x m
 
 -- ---- the order of starts
 

@@ -6,16 +6,17 @@ use Rattle.std.specs.Cmp.Lexicographic.{bytes_decides}
 use Rattle.std.proofs.lemmas.Bool.{cases_eq, or_left, or_right, and_from, le-leb, ne_eqb}
 use Rattle.std.proofs.lemmas.List.{drop_all}
 use Rattle.lrs_measure.specs.Texts.{same_name}
+use Rattle.lrs_measure.specs.Lists.{In}
+use Rattle.lrs_measure.proofs.Members.{all_of, In-take, In-append_cases}
 use Rattle.lrs_events.specs.declared.span.Span.{Span}
 use Rattle.lrs_events.specs.Spans.{are_rows, is_row}
 use Rattle.lrs_events.specs.Row.Members.{leaves_free, is_free, IsMore}
-use Rattle.lrs_events.specs.Row.Order.{In, IsLeft, by_class, by_asset, by_place, IsPlace, IsStart, IsBehind, StaysBehind, grown}
-use Rattle.lrs_events.proofs.Row.Members.{all_from, In-take, In-append_cases}
+use Rattle.lrs_events.specs.Row.Order.{IsLeft, by_class, by_asset, by_place, IsPlace, IsStart, IsBehind, StaysBehind, grown}
 use Rattle.lrs_events.proofs.Row.Rows.{left_place}
 use Rattle.lrs_events.proofs.Row.Places.{ends_alone, has_come}
 
 behind_free : (rows : List Span) (row : Span) → IsBehind rows row → is_free rows row ≡ true
-behind_free rows row h = all_from (leaves_free row) rows (λ r m. by r m (cases_eq r.asset row.asset))
+behind_free rows row h = all_of (leaves_free row) rows (λ r m. by r m (cases_eq r.asset row.asset))
   where
     by : (r : Span) → In r rows → (r.asset ≡ row.asset) ⊎ (r.asset ≡ row.asset → ⊥) → leaves_free row r ≡ true
     by r m (inr n) = or_left _ _ (ap not (ne_eqb r.asset row.asset n))

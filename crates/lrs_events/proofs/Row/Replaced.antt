@@ -3,40 +3,20 @@ use Rattle.std.proofs.Common.{◌≡◌, Bool, true, false, cond, ◌⊎◌, inl
 use Rattle.std.specs.Prelude.{◌||◌, ◌&&◌}
 use Rattle.std.specs.List.{list_any, list_all, filter, flat_map}
 use Rattle.std.proofs.lemmas.Bool.{both_ways, cases_Bool, and_parts, and_from}
-use Rattle.lrs_measure.specs.Lists.{each_two}
+use Rattle.lrs_measure.specs.Lists.{In, each_two}
+use Rattle.lrs_measure.proofs.Members.{all_at, all_of, In-filter, filter-In, In-flat_map}
+use Rattle.lrs_measure.proofs.Filters.{each_two-filter}
 use Rattle.lrs_events.specs.declared.change.SpanChange.{SpanChange}
 use Rattle.lrs_events.specs.declared.span.Span.{Span}
 use Rattle.lrs_events.specs.Spans.{are_rows, is_row, span_before, are_apart}
 use Rattle.lrs_events.specs.Changes.{changed, changed_rows, has_row}
-use Rattle.lrs_events.specs.Row.Order.{In}
 use Rattle.lrs_events.specs.Row.Changes.{IsChange, missing}
-use Rattle.lrs_events.proofs.Row.Members.{all_at, all_from, In-append_left, In-append_right}
 use Rattle.lrs_events.proofs.Row.Rows.{IsAhead, Pairs, AreRows, left_place, rows_are}
 use Rattle.lrs_events.proofs.Row.Pieces.{IsPiece, ArePieces, piece_itself, found_in, pieces_rows}
 use Rattle.lrs_events.proofs.Row.Differing.{has_found, has_in, in_missing, missing_in}
-use Rattle.lrs_events.proofs.Row.Sorted.{each_two-filter}
 use Rattle.lrs_events.proofs.Row.Changing.{rows_sorted, changed_is}
 
 module _ {X : Type 0} where
-  pub filter_in : (p : X → Bool) (xs : List X) (x : X) → In x xs → p x ≡ true → In x (filter p xs)
-  filter_in p [] x m h = absurd m
-  filter_in p (y ∷ ys) x m h = by (p y) refl m (λ k. filter_in p ys x k h)
-    where
-      by : (b : Bool) → b ≡ p y → In x (y ∷ ys) → (In x ys → In x (filter p ys)) → In x (cond b (y ∷ filter p ys) (filter p ys))
-      by true e (inl q) later = inl q
-      by true e (inr k) later = inr (later k)
-      by false e (inl q) later = absurd (both_ways (p y) (sym e) (ap p (sym q) ∙ h))
-      by false e (inr k) later = later k
-
-  pub in_filter : (p : X → Bool) (xs : List X) (x : X) → In x (filter p xs) → In x xs × (p x ≡ true)
-  in_filter p [] x m = absurd m
-  in_filter p (y ∷ ys) x m = by (p y) refl m (in_filter p ys x)
-    where
-      by : (b : Bool) → b ≡ p y → In x (cond b (y ∷ filter p ys) (filter p ys)) → (In x (filter p ys) → In x ys × (p x ≡ true)) → In x (y ∷ ys) × (p x ≡ true)
-      by true e (inl q) later = (inl q, ap p q ∙ sym e)
-      by true e (inr k) later = let t = later k in (inr t.0, t.1)
-      by false e k later = let t = later k in (inr t.0, t.1)
-
   -- where a test finds each that passes another, that other tells the same of those found
   pub any_filter : (p test : X → Bool) (xs : List X) → ((x : X) → In x xs → p x ≡ true → test x ≡ true) → list_any p (filter test xs) ≡ list_any p xs
   any_filter p test [] h = refl
@@ -47,17 +27,12 @@ module _ {X : Type 0} where
       by false true e f k = absurd (both_ways (test y) (sym e) (h y (inl refl) (sym f)))
       by false false e f k = k ∙ (λ i. f i || list_any p ys)
 
-  pub in_flat : {Y : Type 0} (f : X → List Y) (xs : List X) (x : X) (y : Y) → In x xs → In y (f x) → In y (flat_map f xs)
-  in_flat f [] x y m n = absurd m
-  in_flat f (z ∷ zs) x y (inl e) n = In-append_left y (f z) (flat_map f zs) (subst (λ w. In y (f w)) e n)
-  in_flat f (z ∷ zs) x y (inr m) n = In-append_right y (f z) (flat_map f zs) (in_flat f zs x y m n)
-
 -- rows that a test finds are canonical rows
 pub found_rows : (test : Span → Bool) (rows : List Span) → are_rows rows ≡ true → are_rows (filter test rows) ≡ true
 found_rows test rows h =
     let a = and_parts (list_all is_row rows && each_two span_before rows) (each_two are_apart rows) h in
     let b = and_parts (list_all is_row rows) (each_two span_before rows) a.0 in
-    let full = all_from is_row (filter test rows) (λ r m. all_at is_row r rows b.0 (in_filter test rows r m).0) in
+    let full = all_of is_row (filter test rows) (λ r m. all_at is_row r rows b.0 (In-filter test r rows m).0) in
     let sorted = each_two-filter span_before test rows b.1 in
     and_from (list_all is_row (filter test rows) && each_two span_before (filter test rows)) (each_two are_apart (filter test rows))
     (and_from (list_all is_row (filter test rows)) (each_two span_before (filter test rows)) full sorted) (each_two-filter are_apart test rows a.1)
@@ -106,16 +81,16 @@ module _ (test : Span → Bool) (f : Span → List Span) (rows : List Span) (h :
   put_new : (x : Span) → In x put → In x new
   put_new x m =
       let g = found_in f x found m in
-      let q = in_filter test rows g.0 g.1 in
-      in_flat (instead test f) rows g.0 x q.0 (subst (λ b. In x (cond b (f g.0) (g.0 ∷ []))) (sym q.1) g.2)
+      let q = In-filter test g.0 rows g.1 in
+      In-flat_map (instead test f) g.0 x rows q.0 (subst (λ b. In x (cond b (f g.0) (g.0 ∷ []))) (sym q.1) g.2)
 
   other_new : (x : Span) → In x rows → test x ≡ false → In x new
-  other_new x m e = in_flat (instead test f) rows x x m (subst (λ b. In x (cond b (f x) (x ∷ []))) (sym e) (inl refl))
+  other_new x m e = In-flat_map (instead test f) x x rows m (subst (λ b. In x (cond b (f x) (x ∷ []))) (sym e) (inl refl))
 
   fresh_put : (x : Span) → In x put → In x rows → In x found
   fresh_put x m n =
       let g = found_in f x found m in
-      let q = in_filter test rows g.0 g.1 in
+      let q = In-filter test g.0 rows g.1 in
       by g.0 g.1 ((k g.0 q.0).each x g.2) (pairs_two rows h.pairs g.0 x q.0 n)
     where
       by : (r : Span) → In r found → IsPiece 0 r x → (r ≡ x) ⊎ (IsAhead r x ⊎ IsAhead x r) → In x found
@@ -125,22 +100,22 @@ module _ (test : Span → Bool) (f : Span → List Span) (rows : List Span) (h :
   replaced_change : IsChange rows (missing put found) (missing found put) new
   replaced_change = record {
     rows = λ x. (λ m. let g = found_in (instead test f) x rows m in forth x g.0 (test g.0) refl g.1 g.2, λ m. back x m);
-    were = λ x m. (in_filter test rows x (in_missing put found x m).0).0;
+    were = λ x m. (In-filter test x rows (in_missing put found x m).0).0;
     fresh = λ x m n. let q = in_missing found put x m in q.1 (fresh_put x q.0 n);
   }
     where
       in_put : (x : Span) → In x put → (has_row found x ≡ true) ⊎ (has_row found x ≡ false) → (In x rows × (In x (missing put found) → ⊥)) ⊎ In x (missing found put)
-      in_put x m (inl e) = inl ((in_filter test rows x (has_found found x e)).0, λ n. (in_missing put found x n).1 m)
+      in_put x m (inl e) = inl ((In-filter test x rows (has_found found x e)).0, λ n. (in_missing put found x n).1 m)
       in_put x m (inr e) = inr (missing_in found put x m (λ n. both_ways (has_row found x) e (has_in found x n)))
 
       forth : (x r : Span) (b : Bool) → b ≡ test r → In r rows → In x (cond b (f r) (r ∷ [])) → (In x rows × (In x (missing put found) → ⊥)) ⊎ In x (missing found put)
-      forth x r true e o m = in_put x (in_flat f found r x (filter_in test rows r o (sym e)) m) (cases_Bool (has_row found x))
-      forth x r false e o (inl q) = inl (subst (λ w. In w rows) (sym q) o, λ n. both_ways (test r) (sym e) (sym (ap test q) ∙ (in_filter test rows x (in_missing put found x n).0).1))
+      forth x r true e o m = in_put x (In-flat_map f r x found (filter-In test r rows o (sym e)) m) (cases_Bool (has_row found x))
+      forth x r false e o (inl q) = inl (subst (λ w. In w rows) (sym q) o, λ n. both_ways (test r) (sym e) (sym (ap test q) ∙ (In-filter test x rows (in_missing put found x n).0).1))
       forth x r false e o (inr q) = absurd q
 
       stays : (x : Span) → In x rows → (In x (missing put found) → ⊥) → test x ≡ true → (has_row put x ≡ true) ⊎ (has_row put x ≡ false) → In x new
       stays x o n t (inl e) = put_new x (has_found put x e)
-      stays x o n t (inr e) = absurd (n (missing_in put found x (filter_in test rows x o t) (λ q. both_ways (has_row put x) e (has_in put x q))))
+      stays x o n t (inr e) = absurd (n (missing_in put found x (filter-In test x rows o t) (λ q. both_ways (has_row put x) e (has_in put x q))))
 
       one : (x : Span) → In x rows → (In x (missing put found) → ⊥) → (test x ≡ true) ⊎ (test x ≡ false) → In x new
       one x o n (inl t) = stays x o n t (cases_Bool (has_row put x))

@@ -7,15 +7,15 @@ use Rattle.std.specs.declared.cmp.Ordering.TheVariants.{Less, Equal, Greater}
 use Rattle.std.specs.Ordering.{is_eq, is_lt, ordering_reverse}
 use Rattle.std.specs.Cmp.Lexicographic.{nat_list_cmp_total, bytes_decides, texts_ties}
 use Rattle.std.proofs.lemmas.Bool.{false≢true, both_ways, not-true, and_parts, and_from, or_cases, or_left, or_right, eqb-true, eq-eqb, ne_eqb, ltb-true, leb-true, lt-ltb, le-leb, cases_Bool, cases_eq, cases_lt}
-use Rattle.lrs_measure.specs.Lists.{each_two}
+use Rattle.lrs_measure.specs.Lists.{In, each_two}
 use Rattle.lrs_measure.specs.Texts.{Name, name_cmp, same_name, name_before}
 use Rattle.lrs_measure.specs.Limits.{longest_route}
+use Rattle.lrs_measure.proofs.Members.{all_at, all_of, In-append_left, In-append_right, In-append_cases}
 use Rattle.lrs_events.specs.declared.side.Side.{Side}
 use Rattle.lrs_events.specs.declared.side.Side.TheVariants.{L, R, B}
 use Rattle.lrs_events.specs.declared.span.Span.{Span}
 use Rattle.lrs_events.specs.Spans.{span_before, same_side, are_apart, is_row, are_rows}
-use Rattle.lrs_events.specs.Row.Order.{In, IsLeft, by_class, by_asset, by_place, Joins}
-use Rattle.lrs_events.proofs.Row.Members.{all_at, all_from, In-append_left, In-append_right, In-append_cases}
+use Rattle.lrs_events.specs.Row.Order.{IsLeft, by_class, by_asset, by_place, Joins}
 use Rattle.lrs_events.proofs.Row.Unique.{is_same, less_one}
 
 pub record IsFull (r : Span) : Type 0 where
@@ -262,14 +262,14 @@ rows_from rows h =
 
 pairs_before : (rows : List Span) → ((r : Span) → In r rows → IsFull r) → Pairs rows → each_two span_before rows ≡ true
 pairs_before [] f p = refl
-pairs_before (r ∷ rs) f p = and_from _ _ (all_from (span_before r) rs (λ s m. ahead_before r s (f r (inl refl)).some (p.0 s m))) (pairs_before rs (λ s m. f s (inr m)) p.1)
+pairs_before (r ∷ rs) f p = and_from _ _ (all_of (span_before r) rs (λ s m. ahead_before r s (f r (inl refl)).some (p.0 s m))) (pairs_before rs (λ s m. f s (inr m)) p.1)
 
 pairs_apart : (rows : List Span) → Pairs rows → each_two are_apart rows ≡ true
 pairs_apart [] p = refl
-pairs_apart (r ∷ rs) p = and_from _ _ (all_from (are_apart r) rs (λ s m. ahead_apart r s (p.0 s m))) (pairs_apart rs p.1)
+pairs_apart (r ∷ rs) p = and_from _ _ (all_of (are_apart r) rs (λ s m. ahead_apart r s (p.0 s m))) (pairs_apart rs p.1)
 
 pub rows_are : (rows : List Span) → AreRows rows → are_rows rows ≡ true
-rows_are rows h = and_from _ _ (and_from _ _ (all_from is_row rows (λ r m. full_is r (h.full r m))) (pairs_before rows h.full h.pairs)) (pairs_apart rows h.pairs)
+rows_are rows h = and_from _ _ (and_from _ _ (all_of is_row rows (λ r m. full_is r (h.full r m))) (pairs_before rows h.full h.pairs)) (pairs_apart rows h.pairs)
 
 -- ---- parts of rows
 

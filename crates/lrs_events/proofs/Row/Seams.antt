@@ -6,19 +6,19 @@ use Rattle.std.specs.List.{list_all}
 use Rattle.std.specs.Cmp.Lexicographic.{bytes_decides}
 use Rattle.std.proofs.lemmas.Bool.{both_ways, not-true, or_cases, leb-true, eq-eqb, cases_eq, cases_Bool, or_left, or_right, and_from, le-leb, ne_eqb}
 use Rattle.std.proofs.lemmas.List.{append_cancel_left, take_more, append-nil, take-append-drop, take_all}
-use Rattle.lrs_measure.specs.Lists.{each_two}
+use Rattle.lrs_measure.specs.Lists.{In, each_two}
 use Rattle.lrs_measure.specs.Texts.{Name, same_name, name_before}
 use Rattle.lrs_measure.specs.Limits.{longest_route}
+use Rattle.lrs_measure.proofs.Members.{all_at, all_of, any_found, any_of, In-append_left, In-append_right, In-append_cases, In-take}
 use Rattle.lrs_events.specs.declared.side.LinkSide.{LinkSide}
 use Rattle.lrs_events.specs.declared.span.Span.{Span}
 use Rattle.lrs_events.specs.Spans.{are_rows, is_row, span_before}
 use Rattle.lrs_events.specs.Members.{has_side, has_member, is_member}
 use Rattle.lrs_events.specs.Changes.{has_row, changed}
 use Rattle.lrs_events.specs.Row.Members.{leaves_free, is_free}
-use Rattle.lrs_events.specs.Row.Order.{In, IsLeft, by_class, by_asset, by_place, Joins, IsPlace, IsStart, IsAfter, alone, joined, grown}
+use Rattle.lrs_events.specs.Row.Order.{IsLeft, by_class, by_asset, by_place, Joins, IsPlace, IsStart, IsAfter, alone, joined, grown}
 use Rattle.lrs_events.specs.Row.Changes.{IsChange}
 use Rattle.lrs_events.specs.Row.Joins.{moved, end_by, have_room, is_of_one_class, are_of_one_class, IsJoin, IsSeam, apart, goes_on, AddsSeam}
-use Rattle.lrs_events.proofs.Row.Members.{all_at, all_from, any_found, any_of, In-append_left, In-append_right, In-append_cases, In-take}
 use Rattle.lrs_events.proofs.Row.Unique.{over, its_sides}
 use Rattle.lrs_events.proofs.Row.Rows.{IsFull, IsAhead, Pairs, AreRows, BeginsFirst, begins_class, begins_asset, first_begins, rows_from, rows_are, full_from, left_place, pairs_append, pairs_front, pairs_across}
 use Rattle.lrs_events.proofs.Row.Differing.{has_found, has_in}
@@ -49,7 +49,7 @@ two_from shift first second h k e f c = record {
 
 -- the moved row may be placed among the first
 pub moved_free : (shift : ℕ) (first second : List Span) (r : Span) → AreTwo shift first second → In r second → is_free first (moved shift r) ≡ true
-moved_free shift first second r t n = all_from (leaves_free (moved shift r)) first (λ q m. by q m (cases_eq q.asset r.asset))
+moved_free shift first second r t n = all_of (leaves_free (moved shift r)) first (λ q m. by q m (cases_eq q.asset r.asset))
   where
     by : (q : Span) → In q first → (q.asset ≡ r.asset) ⊎ (q.asset ≡ r.asset → ⊥) → leaves_free (moved shift r) q ≡ true
     by q m (inr k) = or_left _ _ (ap not (ne_eqb q.asset r.asset k))

@@ -5,9 +5,11 @@ use Rattle.std.specs.List.{list_any, list_all, filter, flat_map}
 use Rattle.std.specs.Cmp.Lexicographic.{bytes_decides}
 use Rattle.std.proofs.lemmas.Bool.{and_parts, and_from, or_left, or_right, ltb-true, le-leb, lt-ltb, lt-leb, le-ltb, cases_lt, cases_Bool, cases_eq, ne_eqb, both_ways}
 use Rattle.std.proofs.lemmas.List.Folds.{list_any-append}
-use Rattle.lrs_measure.specs.Lists.{each_two}
+use Rattle.lrs_measure.specs.Lists.{In, each_two}
 use Rattle.lrs_measure.specs.Texts.{Name, same_name, name_before}
 use Rattle.lrs_measure.specs.Limits.{longest_route}
+use Rattle.lrs_measure.proofs.Members.{all_of, any_found, any_of, In-append_cases, In-filter, filter-In}
+use Rattle.lrs_measure.proofs.Filters.{each_two-filter}
 use Rattle.lrs_events.specs.declared.side.Side.{Side}
 use Rattle.lrs_events.specs.declared.side.Side.TheVariants.{L, R, B}
 use Rattle.lrs_events.specs.declared.side.LinkSide.{LinkSide}
@@ -16,21 +18,19 @@ use Rattle.lrs_events.specs.declared.span.Span.{Span}
 use Rattle.lrs_events.specs.Spans.{are_rows, is_row, span_before}
 use Rattle.lrs_events.specs.Members.{has_side, has_member, is_member, SameMembers}
 use Rattle.lrs_events.specs.Changes.{has_row, changed}
-use Rattle.lrs_events.specs.Row.Order.{In, IsLeft, by_class, by_asset, by_place, grown}
+use Rattle.lrs_events.specs.Row.Order.{IsLeft, by_class, by_asset, by_place, grown}
 use Rattle.lrs_events.specs.Row.Changes.{IsChange, missing}
 use Rattle.lrs_events.specs.Row.Clips.{clip, is_left, follows, are_in_order}
 use Rattle.lrs_events.specs.Row.Removals.{is_within, IsLess, IsThat}
 use Rattle.lrs_events.specs.Row.Sides.{shared_side, side_less, clip_on, side_part, side_rest, of_side_within, ClearsSide}
 use Rattle.lrs_events.specs.declared.rows.removals.Removal.{Removal}
-use Rattle.lrs_events.proofs.Row.Members.{all_from, any_found, any_of, In-append_cases}
 use Rattle.lrs_events.proofs.Row.Unique.{over, its_sides, some_side, has_some, at_start}
 use Rattle.lrs_events.proofs.Row.Rows.{IsAhead, Pairs, AreRows, rows_from, rows_are, full_is}
 use Rattle.lrs_events.proofs.Row.Places.{left_is}
 use Rattle.lrs_events.proofs.Row.Differing.{has_found, has_in, in_missing, missing_in}
 use Rattle.lrs_events.proofs.Row.Pieces.{clip_pieces, clip_bounds, found_in, all_parts, clip_holds}
 use Rattle.lrs_events.proofs.Row.Fitting.{one_test, each_two-append, In-changed, come-In, stay-In, is_change, Fits, fits_elsewhere, changed_rows_are}
-use Rattle.lrs_events.proofs.Row.Replaced.{in_filter, filter_in, pairs_two, found_rows}
-use Rattle.lrs_events.proofs.Row.Sorted.{each_two-filter}
+use Rattle.lrs_events.proofs.Row.Replaced.{pairs_two, found_rows}
 use Rattle.lrs_events.proofs.Row.Changing.{rows_sorted}
 
 -- ---- parts in order
@@ -63,7 +63,7 @@ parts_follow x y p q a i k = follow p q (left a.left) (λ e. i.of_class ∙ a.on
     left (by_place c b h) = let u = i.high in let v = k.low in by_place (i.of_class ∙ c ∙ sym k.of_class) (i.of_asset ∙ b ∙ sym k.of_asset) (omega (arith, h, u, v))
 
 pub parts_in_order : (f : Span → List Span) (rows : List Span) → AreRows rows → ((r : Span) → In r rows → AreInTurn r (f r)) → are_in_order (flat_map f rows) ≡ true
-parts_in_order f rows a h = and_from (list_all is_row (flat_map f rows)) (each_two follows (flat_map f rows)) (all_from is_row (flat_map f rows) (λ p m. full p (found_in f p rows m))) (turns rows a.pairs h)
+parts_in_order f rows a h = and_from (list_all is_row (flat_map f rows)) (each_two follows (flat_map f rows)) (all_of is_row (flat_map f rows) (λ p m. full p (found_in f p rows m))) (turns rows a.pairs h)
   where
     full : (p : Span) → ((r : Span) × In r rows × In p (f r)) → is_row p ≡ true
     full p g = let i = (h g.0 g.1).each p g.2 in let t = i.high in let u = (a.full g.0 g.1).short in full_is p (record { some = i.some; short = omega (arith, t, u) })
@@ -280,10 +280,10 @@ module _ (rows found rest left : List Span) (of : Name → ℕ → Bool) (low hi
   all = rows_from rows h
 
   is_found : (r : Span) → In r found → In r rows × (of r.class r.asset ≡ true)
-  is_found r m = in_filter (λ r. of r.class r.asset) rows r (subst (In r) e m)
+  is_found r m = In-filter (λ r. of r.class r.asset) r rows (subst (In r) e m)
 
   found_is : (r : Span) → In r rows → of r.class r.asset ≡ true → In r found
-  found_is r m k = subst (In r) (sym e) (filter_in (λ r. of r.class r.asset) rows r m k)
+  found_is r m k = subst (In r) (sym e) (filter-In (λ r. of r.class r.asset) r rows m k)
 
   found_holds : (class : Name) (asset j : ℕ) (s : LinkSide) → is_member found class asset j s ≡ (is_member rows class asset j s && of class asset)
   found_holds class asset j s = one_test (is_member found class asset j s) (is_member rows class asset j s && of class asset) to from

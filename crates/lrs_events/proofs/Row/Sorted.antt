@@ -1,12 +1,11 @@
 -- Lists in a strict order.
 use Rattle.std.proofs.Common.{◌≡◌, Bool, true, false, cond, ◌⊎◌, inl, inr, List, [], ◌∷◌, refl, sym, subst, ◌∙◌}
-use Rattle.std.specs.List.{list_all, filter}
+use Rattle.std.specs.List.{list_all}
 use Rattle.std.proofs.lemmas.Bool.{both_ways, and_parts, and_from}
-use Rattle.lrs_measure.specs.Lists.{each_two}
+use Rattle.lrs_measure.specs.Lists.{In, each_two}
 use Rattle.lrs_measure.specs.OrderedLists.{insert_by, insert_all}
-use Rattle.lrs_events.specs.Row.Order.{In}
-use Rattle.lrs_events.proofs.Row.Inserted.{In-insert, insert-In}
-use Rattle.lrs_events.proofs.Row.Members.{all_at, all_from, two_at}
+use Rattle.lrs_measure.proofs.Members.{all_at, all_of, two_at}
+use Rattle.lrs_measure.proofs.Insertions.{In-insert, insert-In}
 
 -- what stands in a strict order
 pub record IsStrict {X : Type 0} (before : X → X → Bool) : Type 0 where
@@ -14,25 +13,6 @@ pub record IsStrict {X : Type 0} (before : X → X → Bool) : Type 0 where
   pub through : (x y z : X) → before x y ≡ true → before y z ≡ true → before x z ≡ true
 
 module _ {X : Type 0} where
-  In-filter : (p : X → Bool) (xs : List X) (x : X) → In x (filter p xs) → In x xs
-  In-filter p [] x m = absurd m
-  In-filter p (y ∷ ys) x m = by (p y) m (In-filter p ys x)
-    where
-      by : (b : Bool) → In x (cond b (y ∷ filter p ys) (filter p ys)) → (In x (filter p ys) → In x ys) → In x (y ∷ ys)
-      by true (inl e) later = inl e
-      by true (inr n) later = inr (later n)
-      by false n later = inr (later n)
-
-  pub each_two-filter : (before : X → X → Bool) (p : X → Bool) (xs : List X) → each_two before xs ≡ true → each_two before (filter p xs) ≡ true
-  each_two-filter before p [] h = refl
-  each_two-filter before p (y ∷ ys) h =
-      let a = and_parts (list_all (before y) ys) (each_two before ys) h in
-      by (p y) (all_from (before y) (filter p ys) (λ x m. all_at (before y) x ys a.0 (In-filter p ys x m))) (each_two-filter before p ys a.1)
-    where
-      by : (b : Bool) → list_all (before y) (filter p ys) ≡ true → each_two before (filter p ys) ≡ true → each_two before (cond b (y ∷ filter p ys) (filter p ys)) ≡ true
-      by true k l = and_from (list_all (before y) (filter p ys)) (each_two before (filter p ys)) k l
-      by false k l = l
-
   module _ (before : X → X → Bool) (o : IsStrict before) where
     -- what is in order is determined by its members
     pub one_list : (xs ys : List X) → each_two before xs ≡ true → each_two before ys ≡ true → ((x : X) → In x xs → In x ys) → ((x : X) → In x ys → In x xs) → xs ≡ ys
@@ -80,10 +60,10 @@ module _ {X : Type 0} where
         front k a z (inr m) = o.through x y z k (all_at (before y) z ys a m)
 
         by : (b : Bool) → b ≡ before x y → (before x y ≡ true) ⊎ (before y x ≡ true) → list_all (before y) ys ≡ true → each_two before (insert_by before x ys) ≡ true → each_two before (cond b (x ∷ y ∷ ys) (y ∷ insert_by before x ys)) ≡ true
-        by true e k a rest = and_from (list_all (before x) (y ∷ ys)) (each_two before (y ∷ ys)) (all_from (before x) (y ∷ ys) (front (sym e) a)) h
+        by true e k a rest = and_from (list_all (before x) (y ∷ ys)) (each_two before (y ∷ ys)) (all_of (before x) (y ∷ ys) (front (sym e) a)) h
         by false e k a rest =
             and_from (list_all (before y) (insert_by before x ys)) (each_two before (insert_by before x ys))
-            (all_from (before y) (insert_by before x ys) (λ z m. behind (other (sym e) k) a z (In-insert before x z ys m))) rest
+            (all_of (before y) (insert_by before x ys) (λ z m. behind (other (sym e) k) a z (In-insert before x z ys m))) rest
 
     -- members of a list in order, with others of it
     pub record ArePut (xs ys zs : List X) : Type 0 where

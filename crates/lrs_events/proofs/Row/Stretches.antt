@@ -1,18 +1,19 @@
 -- The rows of an asset on a stretch.
-use Rattle.std.proofs.Common.{◌≡◌, ℕ, ◌+◌, ◌-◌, ◌<◌, ◌≤◌, true, false, ◌⊎◌, inl, inr, List, ◌++◌, length, get_or, take, drop, refl, sym, ap, subst, ◌∙◌, arith}
+use Rattle.std.proofs.Common.{◌≡◌, ℕ, ◌+◌, ◌-◌, ◌<◌, ◌≤◌, true, false, ◌⊎◌, inl, inr, List, length, get_or, take, drop, refl, sym, ap, subst, arith}
 use Rattle.std.specs.Prelude.{not, slice_range}
 use Rattle.std.specs.List.Sorted.{IsPartitionPoint}
 use Rattle.std.proofs.lemmas.Bool.{both_ways, not-true, cases_Bool, cases_lt, cases_order}
-use Rattle.std.proofs.lemmas.List.{take-append-drop, drop-take}
-use Rattle.std.proofs.lemmas.List.Folds.{drop_split}
+use Rattle.std.proofs.lemmas.List.{drop-take}
+use Rattle.lrs_measure.specs.Lists.{In}
+use Rattle.lrs_measure.proofs.Members.{In-take, In-drop}
+use Rattle.lrs_measure.proofs.Places.{all_first, all_last, member_at}
 use Rattle.lrs_events.specs.declared.span.Span.{Span}
 use Rattle.lrs_events.specs.Spans.{are_rows}
-use Rattle.lrs_events.specs.Row.Order.{In, IsLeft, by_class, by_asset, by_place, IsStretch}
+use Rattle.lrs_events.specs.Row.Order.{IsLeft, by_class, by_asset, by_place, IsStretch}
 use Rattle.lrs_events.specs.Row.Clips.{is_left}
-use Rattle.lrs_events.proofs.Row.Members.{In-take, In-drop}
 use Rattle.lrs_events.proofs.Row.Unique.{less_one}
 use Rattle.lrs_events.proofs.Row.Rows.{IsFull, NameCases, name_cases, before, same, behind, left_trans, rows_from}
-use Rattle.lrs_events.proofs.Row.Places.{left_from, left_is, all_first, all_last, In-get}
+use Rattle.lrs_events.proofs.Row.Places.{left_from, left_is}
 
 -- ---- the rows of the stretch
 
@@ -76,7 +77,4 @@ in_order rows stretch start end h f w p q = by (cases_lt end start)
     by (inr l) = l
     by (inl l) =
         let r = get_or rows end stretch in
-        absurd (clash r ((rows_from rows h).full r (In-get rows end stretch (omega (arith, l, w)))) (p.0 end stretch (omega arith) l) (q.1 end stretch (omega arith) (omega (arith, l, w))) (cases_Bool (is_left stretch r)))
-
-pub in_three : (rows : List Span) (start end : ℕ) → start ≤ end → rows ≡ take start rows ++ (slice_range rows start end ++ drop end rows)
-in_three rows start end o = sym (take-append-drop start rows) ∙ (λ i. take start rows ++ drop_split rows start end o i)
+        absurd (clash r ((rows_from rows h).full r (member_at rows end stretch (omega (arith, l, w)))) (p.0 end stretch (omega arith) l) (q.1 end stretch (omega arith) (omega (arith, l, w))) (cases_Bool (is_left stretch r)))

@@ -8,16 +8,15 @@ use Rattle.std.specs.Ordering.{is_eq, is_lt, ordering_reverse}
 use Rattle.std.specs.Cmp.{tied_itself}
 use Rattle.std.specs.Cmp.Lexicographic.{nat_list_cmp_total, bytes_decides}
 use Rattle.std.proofs.lemmas.Bool.{false≢true, both_ways, not-true, and_parts, or_cases, eqb-true, eq-eqb, ltb-true, leb-true, lt-ltb, le-leb, cases_order, cases_Bool}
-use Rattle.lrs_measure.specs.Lists.{each_two}
+use Rattle.lrs_measure.specs.Lists.{In, each_two}
 use Rattle.lrs_measure.specs.Texts.{Name, name_cmp, same_name, name_before}
+use Rattle.lrs_measure.proofs.Members.{any_found, any_of, all_at, two_at}
 use Rattle.lrs_events.specs.declared.side.Side.{Side}
 use Rattle.lrs_events.specs.declared.side.Side.TheVariants.{L, R, B}
 use Rattle.lrs_events.specs.declared.side.LinkSide.{LinkSide}
 use Rattle.lrs_events.specs.declared.side.LinkSide.TheVariants.{Left, Right}
 use Rattle.lrs_events.specs.declared.span.Span.{Span}
 use Rattle.lrs_events.specs.Spans.{span_before, same_side, are_apart, is_row, are_rows}
-use Rattle.lrs_events.specs.Row.Order.{In}
-use Rattle.lrs_events.proofs.Row.Members.{any_found, any_of, all_at, two_at}
 use Rattle.lrs_events.specs.Members.{has_side, between, stands_for, has_member, is_member, SameMembers}
 use Rattle.lrs_events.specs.Row.Members.{RowsAreOne}
 

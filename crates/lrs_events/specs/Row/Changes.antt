@@ -1,9 +1,9 @@
 -- Which rows went and which came.
 use Rattle.std.specs.Prelude.{◌↔◌, ◌⊎◌, not, List}
 use Rattle.std.specs.List.{filter}
+use Rattle.lrs_measure.specs.Lists.{In}
 use Rattle.lrs_events.specs.declared.span.Span.{Span}
 use Rattle.lrs_events.specs.Changes.{has_row}
-use Rattle.lrs_events.specs.Row.Order.{In}
 
 -- the rows without the removed ones and with the inserted ones, none of which was there
 pub record IsChange (old gone come new : List Span) : Type 0 where

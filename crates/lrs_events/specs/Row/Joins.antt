@@ -3,10 +3,11 @@ use Rattle.std.specs.Prelude.{◌≡◌, ℕ, ◌+◌, ◌<◌, ◌++◌, Bool, 
 use Rattle.std.specs.List.{list_all}
 use Rattle.lrs_measure.specs.Texts.{Name, same_name}
 use Rattle.lrs_measure.specs.Limits.{longest_route}
+use Rattle.lrs_measure.specs.Lists.{In}
 use Rattle.lrs_events.specs.declared.side.LinkSide.{LinkSide}
 use Rattle.lrs_events.specs.declared.span.Span.{Span}
 use Rattle.lrs_events.specs.Members.{is_member}
-use Rattle.lrs_events.specs.Row.Order.{In, Joins, grown}
+use Rattle.lrs_events.specs.Row.Order.{Joins, grown}
 
 -- the row, a number of millimetres further on
 abbrev pub moved : ℕ → Span → Span

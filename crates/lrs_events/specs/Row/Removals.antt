@@ -1,13 +1,13 @@
 -- What a removal takes away, and what it leaves.
 use Rattle.std.specs.Prelude.{◌≡◌, ℕ, ◌<◌, Bool, true, ◌&&◌, not, nat_lt, nat_le, List, filter}
 use Rattle.lrs_measure.specs.Texts.{Name}
+use Rattle.lrs_measure.specs.Lists.{In}
 use Rattle.lrs_events.specs.declared.side.LinkSide.{LinkSide}
 use Rattle.lrs_events.specs.declared.span.Span.{Span}
 use Rattle.lrs_events.specs.Spans.{are_rows}
 use Rattle.lrs_events.specs.Members.{Picks, is_member}
 use Rattle.lrs_events.specs.Changes.{changed_rows}
 use Rattle.lrs_events.specs.declared.rows.removals.Removal.{Removal}
-use Rattle.lrs_events.specs.Row.Order.{In}
 use Rattle.lrs_events.specs.Row.Changes.{IsChange}
 
 -- a test of class, asset, chainage and side

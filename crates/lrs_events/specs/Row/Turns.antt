@@ -1,13 +1,13 @@
 -- The rows of a route seen from its other end.
 use Rattle.std.specs.Prelude.{◌≡◌, ℕ, ◌-◌, ◌<◌, ◌++◌, ◌&&◌, nat_lt, List, [], ◌∷◌, slice_range, drop}
 use Rattle.lrs_measure.specs.Texts.{Name}
+use Rattle.lrs_measure.specs.Lists.{In}
 use Rattle.lrs_events.specs.declared.side.Side.{Side}
 use Rattle.lrs_events.specs.declared.side.Side.TheVariants.{L, R, B}
 use Rattle.lrs_events.specs.declared.side.LinkSide.{LinkSide}
 use Rattle.lrs_events.specs.declared.span.Span.{Span}
 use Rattle.lrs_events.specs.Places.{other_side}
 use Rattle.lrs_events.specs.Members.{is_member}
-use Rattle.lrs_events.specs.Row.Order.{In}
 
 -- left is right from the other end, and both stay both
 abbrev pub turned_side : Side → Side

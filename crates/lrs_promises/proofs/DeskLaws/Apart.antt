@@ -1,13 +1,15 @@
 -- The rows of a sound image stand for what it holds, and no asset has two of them over one millimetre.
-use Rattle.std.proofs.Common.{◌≡◌, ℕ, zero, suc, ◌+◌, ◌-◌, ◌<◌, ◌≤◌, Bool, true, false, ◌⊎◌, inl, inr, List, [], ◌∷◌, ◌++◌, drop, get_or, length, refl, sym, ap, ◌∙◌, arith}
+use Rattle.std.proofs.Common.{◌≡◌, ℕ, zero, suc, ◌+◌, ◌-◌, ◌<◌, ◌≤◌, Bool, true, false, ◌⊎◌, inl, inr, List, [], ◌∷◌, drop, get_or, length, refl, sym, ap, ◌∙◌, arith}
 use Rattle.std.specs.Prelude.{◌&&◌, ◌||◌, not, nat_eq, nat_le, nat_lt, slice_range}
 use Rattle.std.specs.List.{list_any, list_all, flat_map}
 use Rattle.std.proofs.lemmas.Bool.{both_ways, and_parts, and_from, cases_Bool, eqb-true, eq-eqb, ltb-true}
 use Rattle.std.proofs.lemmas.List.{length-drop, length-take, get_or-take, get_or-drop}
 use Rattle.std.proofs.lemmas.List.Folds.{list_any-append}
 use Rattle.lrs_measure.specs.Limits.{longest_route}
-use Rattle.lrs_measure.specs.Lists.{each_two}
+use Rattle.lrs_measure.specs.Lists.{In, each_two}
 use Rattle.lrs_measure.specs.Texts.{same_name}
+use Rattle.lrs_measure.proofs.Members.{any_found, any_of, all_at, map_found, flat_map_found, In-take, In-drop, list_any-map}
+use Rattle.lrs_measure.proofs.EachTwo.{joined, each_two_from}
 use Rattle.lrs_element.specs.declared.link.Ground.{Ground}
 use Rattle.lrs_element.specs.Course.{meets, runs_over, is_at}
 use Rattle.lrs_events.specs.declared.span.Span.{Span}
@@ -18,7 +20,6 @@ use Rattle.lrs_machine.specs.declared.image.RouteRow.{RouteRow}
 use Rattle.lrs_machine.specs.declared.image.Image.{Image}
 use Rattle.lrs_machine.specs.Image.{state_of, holds_on}
 use Rattle.lrs_machine.specs.Sound.{IsSound, route_before}
-use Rattle.lrs_machine.proofs.Members.{In, any_found, any_of, all_at, all_of, map_found, flat_map_found, In-take, In-drop, In-append_cases, list_any-map}
 use Rattle.lrs_machine.proofs.Pairs.{each_two-map}
 use Rattle.lrs_image.proofs.Tables.{routes_in_order}
 use Rattle.lrs_image_laws.proofs.Holding.{alone}
@@ -33,33 +34,13 @@ use Rattle.lrs_promises.proofs.DeskLaws.Fewest.{none_is_shorter}
 -- ---- each two of lists one after the other
 
 module _ {X : Type 0} (test : X → X → Bool) where
-  each_append : (xs ys : List X) → each_two test xs ≡ true → each_two test ys ≡ true → ((x y : X) → In x xs → In y ys → test x y ≡ true) → each_two test (xs ++ ys) ≡ true
-  each_append [] ys h k cross = k
-  each_append (x ∷ xs) ys h k cross =
-      let both = and_parts (list_all (test x) xs) (each_two test xs) h in
-      and_from (list_all (test x) (xs ++ ys)) (each_two test (xs ++ ys))
-      (all_of (test x) (xs ++ ys) (λ y m. by both.0 y (In-append_cases y xs ys m)))
-      (each_append xs ys both.1 k (λ a b m n. cross a b (inr m) n))
-    where
-      by : list_all (test x) xs ≡ true → (y : X) → In y xs ⊎ In y ys → test x y ≡ true
-      by all y (inl m) = all_at (test x) y xs all m
-      by all y (inr n) = cross x y (inl refl) n
-
   each_flat : {E : Type 0} (f : E → List X) (before : E → E → Bool) (es : List E) → each_two before es ≡ true → ((e : E) → In e es → each_two test (f e) ≡ true)
       → ((e d : E) → In e es → In d es → before e d ≡ true → (x y : X) → In x (f e) → In y (f d) → test x y ≡ true) → each_two test (flat_map f es) ≡ true
   each_flat f before [] h own cross = refl
   each_flat f before (e ∷ es) h own cross =
       let both = and_parts (list_all (before e) es) (each_two before es) h in
-      each_append (f e) (flat_map f es) (own e (inl refl)) (each_flat f before es both.1 (λ d m. own d (inr m)) (λ c d m n. cross c d (inr m) (inr n)))
+      joined test (f e) (flat_map f es) (own e (inl refl)) (each_flat f before es both.1 (λ d m. own d (inr m)) (λ c d m n. cross c d (inr m) (inr n)))
       (λ x y m n. let d = flat_map_found f y es n in cross e d.0 (inl refl) (inr d.1) (all_at (before e) d.0 es both.0 d.1) x y m d.2)
-
-each_weaker : {X : Type 0} (p q : X → X → Bool) (xs : List X) → ((x y : X) → In x xs → In y xs → p x y ≡ true → q x y ≡ true) → each_two p xs ≡ true → each_two q xs ≡ true
-each_weaker p q [] w h = refl
-each_weaker p q (x ∷ xs) w h =
-    let both = and_parts (list_all (p x) xs) (each_two p xs) h in
-    and_from (list_all (q x) xs) (each_two q xs)
-    (all_of (q x) xs (λ y m. w x y (inl refl) (inr m) (all_at (p x) y xs both.0 m)))
-    (each_weaker p q xs (λ a b m n. w a b (inr m) (inr n)) both.1)
 
 -- ---- entries of a course
 
@@ -186,7 +167,7 @@ module _ (i : Image) (s : IsSound i) where
     off_own : each_two (are_off there) (named e) ≡ true
     off_own =
         each_two-map (are_off there) (row_on e.route.name) e.spans
-        ∙ each_weaker are_apart (λ r q. are_off there (row_on e.route.name r) (row_on e.route.name q)) e.spans (λ r q k l. off_two r q) (kept e.spans (its_rows i s e m)).apart
+        ∙ each_two_from are_apart (λ r q. are_off there (row_on e.route.name r) (row_on e.route.name q)) e.spans (λ r q k l. off_two r q) (kept e.spans (its_rows i s e m)).apart
 
     begin_two : (r q : Span) → r.from < r.to → q.from < q.to → are_apart r q ≡ true → not (begin_alike (row_on e.route.name r) (row_on e.route.name q)) ≡ true
     begin_two r q f g h = by (cases_Bool (begin_alike (row_on e.route.name r) (row_on e.route.name q)))
@@ -209,7 +190,7 @@ module _ (i : Image) (s : IsSound i) where
     begin_own : each_two (λ r q. not (begin_alike r q)) (named e) ≡ true
     begin_own =
         each_two-map (λ r q. not (begin_alike r q)) (row_on e.route.name) e.spans
-        ∙ each_weaker are_apart (λ r q. not (begin_alike (row_on e.route.name r) (row_on e.route.name q))) e.spans (λ r q k l. begin_two r q (full r k) (full q l)) (kept e.spans (its_rows i s e m)).apart
+        ∙ each_two_from are_apart (λ r q. not (begin_alike (row_on e.route.name r) (row_on e.route.name q))) e.spans (λ r q k l. begin_two r q (full r k) (full q l)) (kept e.spans (its_rows i s e m)).apart
 
     stands_own : (a : ℕ) (p : Place) → list_any (λ r. holds_by_row there r a p) (named e) ≡ holds_on e a p
     stands_own a p =

@@ -6,8 +6,9 @@ use Rattle.std.specs.Cmp.Lexicographic.{bytes_decides}
 use Rattle.std.proofs.lemmas.Bool.{and_parts, and_from, eqb-true, eq-eqb}
 use Rattle.std.proofs.lemmas.List.{length-append, length-map}
 use Rattle.std.proofs.lemmas.List.Filters.{length-filter_both}
-use Rattle.lrs_measure.specs.Lists.{each_two}
+use Rattle.lrs_measure.specs.Lists.{In, each_two}
 use Rattle.lrs_measure.specs.Texts.{Name, same_name}
+use Rattle.lrs_measure.proofs.Members.{any_found, any_of, all_at, all_of, map_found, flat_map_found, In-filter}
 use Rattle.lrs_events.specs.declared.span.Span.{Span}
 use Rattle.lrs_events.specs.Places.{lies_on}
 use Rattle.lrs_events.specs.Row.Members as members
@@ -17,10 +18,8 @@ use Rattle.lrs_machine.specs.declared.image.RouteRow.{RouteRow}
 use Rattle.lrs_machine.specs.declared.image.Image.{Image}
 use Rattle.lrs_machine.specs.Image.{state_of}
 use Rattle.lrs_machine.specs.Sound.{IsSound, route_before}
-use Rattle.lrs_machine.proofs.Members.{In, any_found, any_of, all_at, all_of, map_found, flat_map_found}
 use Rattle.lrs_image.proofs.Tables.{routes_in_order}
 use Rattle.lrs_image_laws.proofs.Holding.{alone}
-use Rattle.lrs_image_laws.proofs.Listed.{In-filter}
 use Rattle.lrs_image_laws.proofs.Naming.{earlier_name}
 use Rattle.lrs_promises.proofs.DeskLaws.OwnRows.{own, its_rows, ends}
 use Rattle.lrs_promises.specs.DeskLaws.InventoryRows.{Row, row_on, rows_of_inventory, Tells, begin_alike, NoneIsShorter}

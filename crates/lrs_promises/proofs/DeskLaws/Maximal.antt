@@ -15,10 +15,10 @@ use Rattle.lrs_events.specs.Spans.{same_side}
 use Rattle.lrs_events.proofs.Row.Unique.{is_same}
 use Rattle.lrs_events.proofs.Row.Rows.{sides_same}
 use Rattle.lrs_machine.specs.Image.{state_of}
-use Rattle.lrs_machine.proofs.Members.{In, any_found, any_of, In-map, map_found}
-use Rattle.lrs_image_laws.proofs.Listed.{In-filter}
 use Rattle.std.specs.Cmp.Lexicographic.{bytes_decides}
 use Rattle.lrs_measure.specs.Texts.{same_name}
+use Rattle.lrs_measure.specs.Lists.{In}
+use Rattle.lrs_measure.proofs.Members.{any_found, any_of, In-map, map_found, In-filter}
 use Rattle.lrs_promises.specs.DeskLaws.InventoryRows.{Row, rows_of_inventory, Courses, Holds, courses_in, rows_of_each, run_of_row, canonical, same_row, has_row, side_at, IsMaximal, RowsAreMaximal}
 use Rattle.lrs_promises.proofs.DeskLaws.Runs.{rows_are_the_runs, among_its}
 

@@ -5,6 +5,8 @@ use Rattle.std.specs.List.{list_any, list_all}
 use Rattle.std.proofs.lemmas.Bool.{both_ways, and_parts, cases_Bool}
 use Rattle.lrs_element.specs.Course.{meets}
 use Rattle.lrs_measure.specs.Texts.{same_name}
+use Rattle.lrs_measure.specs.Lists.{In}
+use Rattle.lrs_measure.proofs.Members.{all_at, all_weaker}
 use Rattle.lrs_events.specs.Places.{Place, lies_on}
 use Rattle.lrs_events.specs.Spans.{are_rows}
 use Rattle.lrs_events.specs.Row.RunLaws.{end_within}
@@ -12,7 +14,6 @@ use Rattle.lrs_machine.specs.declared.image.RouteRow.{RouteRow}
 use Rattle.lrs_machine.specs.declared.image.Image.{Image}
 use Rattle.lrs_machine.specs.Image.{state_of, holds_on}
 use Rattle.lrs_machine.specs.Sound.{is_span, are_spans_of, IsSound}
-use Rattle.lrs_machine.proofs.Members.{In, all_at, all_weaker}
 use Rattle.lrs_image_laws.proofs.Apart.{meet_at}
 use Rattle.lrs_image_laws.proofs.Rewriting.{old_spans}
 use Rattle.lrs_image_laws.proofs.Holding.{alone, only_at}

@@ -7,8 +7,9 @@ use Rattle.std.specs.Cmp.Lexicographic.{nat_list_cmp_total, bytes_decides}
 use Rattle.std.proofs.lemmas.Bool.{both_ways, and_parts, cases_Bool}
 use Rattle.std.proofs.lemmas.List.{append-nil}
 use Rattle.std.proofs.lemmas.List.Elements.{filter-append}
-use Rattle.lrs_measure.specs.Lists.{each_two}
+use Rattle.lrs_measure.specs.Lists.{In, each_two}
 use Rattle.lrs_measure.specs.Texts.{Name, same_name}
+use Rattle.lrs_measure.proofs.Members.{all_at, map_found}
 use Rattle.lrs_position.specs.Locations.{Alignment}
 use Rattle.lrs_events.specs.declared.span.Span.{Span}
 use Rattle.lrs_events.specs.Row.RunLaws.{rows_of_asset}
@@ -17,7 +18,7 @@ use Rattle.lrs_machine.specs.declared.image.Image.{Image}
 use Rattle.lrs_machine.specs.Image.{state_of, route_entry}
 use Rattle.lrs_machine.specs.Register.{get}
 use Rattle.lrs_machine.specs.Sound.{IsSound, route_before}
-use Rattle.lrs_machine.proofs.Members.{In, all_at, find_member, find_found, map_found}
+use Rattle.lrs_machine.proofs.Finding.{find_member, find_found}
 use Rattle.lrs_image.proofs.Tables.{routes_in_order}
 use Rattle.lrs_image_laws.proofs.Naming.{earlier_name, later_name}
 use Rattle.std.proofs.lemmas.Map.Lookups.{exact_bytes}

@@ -8,8 +8,9 @@ use Rattle.std.specs.Cmp.{unsigned_tied}
 use Rattle.std.specs.Cmp.Lexicographic.{bytes_decides}
 use Rattle.std.specs.FinMap.{find}
 use Rattle.std.proofs.lemmas.Bool.{and_parts, eqb-true, eq-eqb, ne_eqb, ltb-true}
-use Rattle.lrs_measure.specs.Lists.{each_two}
+use Rattle.lrs_measure.specs.Lists.{In, each_two}
 use Rattle.lrs_measure.specs.Texts.{Name, same_name}
+use Rattle.lrs_measure.proofs.Members.{any_found, all_at, all_weaker}
 use Rattle.lrs_events.specs.declared.class.Asset.{Asset}
 use Rattle.lrs_events.specs.declared.span.Span.{Span}
 use Rattle.lrs_events.specs.Spans.{are_rows}
@@ -18,7 +19,6 @@ use Rattle.lrs_machine.specs.declared.image.RouteRow.{RouteRow}
 use Rattle.lrs_machine.specs.declared.image.Image.{Image}
 use Rattle.lrs_machine.specs.Image.{state_of, asset_entry}
 use Rattle.lrs_machine.specs.Sound.{is_span, are_spans_of, asset_before, IsSound}
-use Rattle.lrs_machine.proofs.Members.{In, any_found, all_at, all_weaker}
 use Rattle.lrs_image.proofs.Tables.{assets_in_order}
 use Rattle.lrs_image_laws.proofs.Rewriting.{old_spans}
 use Rattle.lrs_promises.specs.DeskLaws.Rows.{class_of_asset}

@@ -6,6 +6,7 @@ use Rattle.std.specs.Cmp.Lexicographic.{bytes_decides}
 use Rattle.std.proofs.lemmas.Bool.{both_ways, and_parts, and_from, cases_Bool, eqb-true, eq-eqb}
 use Rattle.lrs_measure.specs.Runs.{Run, runs_of, same_option}
 use Rattle.lrs_measure.specs.Texts.{Name, same_name}
+use Rattle.lrs_measure.specs.Lists.{In}
 use Rattle.lrs_element.specs.declared.link.Ground.{Ground}
 use Rattle.lrs_events.specs.declared.side.Side.{Side}
 use Rattle.lrs_events.specs.declared.side.LinkSide.TheVariants.{Left, Right}
@@ -18,7 +19,6 @@ use Rattle.lrs_machine.specs.declared.image.RouteRow.{RouteRow}
 use Rattle.lrs_machine.specs.declared.image.Image.{Image}
 use Rattle.lrs_machine.specs.Image.{state_of}
 use Rattle.lrs_machine.specs.Sound.{IsSound}
-use Rattle.lrs_machine.proofs.Members.{In}
 use Rattle.lrs_image.proofs.Tables.{routes_in_order}
 use Rattle.lrs_image_laws.proofs.Holding.{alone, held_at, rows_held_at}
 use Rattle.lrs_promises.proofs.DeskLaws.OwnRows.{its_rows, ends}

@@ -5,8 +5,9 @@ use Rattle.std.specs.List.{list_any, list_all}
 use Rattle.std.specs.Cmp.Lexicographic.{bytes_decides}
 use Rattle.std.proofs.lemmas.Bool.{both_ways, not-true, and_parts, and_from, or_left, or_right, cases_Bool, cases_lt, eq-eqb, le-leb}
 use Rattle.std.proofs.lemmas.List.{length-drop, get_or-drop, take_all}
-use Rattle.lrs_measure.specs.Lists.{each_two}
+use Rattle.lrs_measure.specs.Lists.{In, each_two}
 use Rattle.lrs_measure.specs.Texts.{Name, same_name}
+use Rattle.lrs_measure.proofs.Members.{any_of, all_at, all_of, map_found, In-filter}
 use Rattle.lrs_element.specs.declared.link.Ground.{Ground}
 use Rattle.lrs_element.specs.Course.{meets, runs_over, is_at}
 use Rattle.lrs_events.specs.declared.span.Span.{Span}
@@ -18,11 +19,9 @@ use Rattle.lrs_machine.specs.declared.image.RouteRow.{RouteRow}
 use Rattle.lrs_machine.specs.declared.image.Image.{Image}
 use Rattle.lrs_machine.specs.Image.{state_of}
 use Rattle.lrs_machine.specs.Sound.{IsSound}
-use Rattle.lrs_machine.proofs.Members.{In, any_of, all_at, all_of, map_found}
 use Rattle.lrs_machine.proofs.Pairs.{held}
 use Rattle.lrs_image_laws.proofs.Apart.{meet_at}
 use Rattle.lrs_image_laws.proofs.Joining.{far_routes}
-use Rattle.lrs_image_laws.proofs.Listed.{In-filter}
 use Rattle.lrs_promises.specs.DeskLaws.InventoryRows.{Row, Courses, courses_in, ground_under, holds_by_row, are_off}
 use Rattle.lrs_promises.proofs.DeskLaws.Routes.{course_is, IsNamed, NoneNamed, which}
 

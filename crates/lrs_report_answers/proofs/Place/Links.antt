@@ -5,17 +5,17 @@ use Rattle.std.specs.List.{find, list_all}
 use Rattle.std.specs.Option.{option_map, option_map_or, option_and_then, ok_or}
 use Rattle.std.proofs.lemmas.Bool.{both_ways, not-true, and_parts, and_from, eqb-true, eq-eqb, ltb-true, le-ltb}
 use Rattle.std.proofs.lemmas.Option.{slice_get_within, get_or_from_slice_get}
-use Rattle.lrs_measure.specs.Lists.{each_two}
+use Rattle.lrs_measure.specs.Lists.{In, each_two}
+use Rattle.lrs_measure.proofs.Members.{any_found, all_at}
+use Rattle.lrs_measure.proofs.Places.{two_pass}
 use Rattle.lrs_element.specs.declared.link.Ground.{Ground}
 use Rattle.lrs_element.specs.declared.link.Link.{Link}
 use Rattle.lrs_element.specs.Course.{Millimetre, chainage_on, is_at, meets, runs_over}
 use Rattle.lrs_position.proofs.Entries.{position_found}
 use Rattle.lrs_events.specs.Places.{differs}
-use Rattle.lrs_events.proofs.LaneLists.Members.{two_pass}
 use Rattle.lrs_machine.specs.declared.image.Image.{Image}
 use Rattle.lrs_machine.specs.declared.image.RouteRow.{RouteRow}
 use Rattle.lrs_machine.specs.Sound.{IsSound, is_on_a_link, link_before}
-use Rattle.lrs_machine.proofs.Members.{In, any_found, all_at}
 use Rattle.lrs_image.proofs.Tables.{links_in_order}
 use Rattle.lrs_image_laws.proofs.Apart.{at_same, meet_at}
 use Rattle.lrs_image_laws.proofs.FromReferents.{apart_courses, run_over}

@@ -4,13 +4,13 @@ use Rattle.std.specs.List.{find, list_all}
 use Rattle.std.specs.Option.{option_map}
 use Rattle.std.specs.Cmp.Lexicographic.{bytes_decides}
 use Rattle.std.proofs.lemmas.Bool.{and_parts}
-use Rattle.lrs_measure.specs.Lists.{each_two}
+use Rattle.lrs_measure.specs.Lists.{In, each_two}
 use Rattle.lrs_measure.specs.Texts.{Name}
+use Rattle.lrs_measure.proofs.Members.{all_at}
 use Rattle.lrs_element.specs.Course.{Millimetre, runs_over}
 use Rattle.lrs_machine.specs.declared.image.Image.{Image}
 use Rattle.lrs_machine.specs.declared.image.RouteRow.{RouteRow}
 use Rattle.lrs_machine.specs.Sound.{IsSound, route_before}
-use Rattle.lrs_machine.proofs.Members.{In, all_at}
 use Rattle.lrs_image.specs.Change.{is_named}
 use Rattle.lrs_image.proofs.Tables.{routes_in_order}
 use Rattle.lrs_image_laws.proofs.Naming.{earlier_name}

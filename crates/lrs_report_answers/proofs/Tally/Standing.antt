@@ -14,9 +14,9 @@ use Rattle.lrs_events.specs.declared.class.Asset.{Asset}
 use Rattle.lrs_events.specs.declared.class.Class.{Class}
 use Rattle.lrs_machine.specs.declared.image.Image.{Image}
 use Rattle.lrs_measure.specs.Limits.{most_assets}
+use Rattle.lrs_measure.proofs.Members.{any_found, all_at, all_weaker}
 use Rattle.lrs_machine.specs.EnteredNumbers.{is_asset_number, is_lateral_offset}
 use Rattle.lrs_machine.specs.Sound.{IsSound, is_asset, asset_before, class_before}
-use Rattle.lrs_machine.proofs.Members.{any_found, all_at, all_weaker}
 use Rattle.lrs_image.proofs.Named.{name_apart}
 use Rattle.lrs_image.proofs.Tables.{passes}
 use Rattle.lrs_image_laws.proofs.InOrder.{is_comparable, find-insert_by}

@@ -21,9 +21,9 @@ use Rattle.lrs_machine.specs.Register.{entries}
 use Rattle.lrs_machine.specs.State.{State, Reason, Retired, Abandoned, same_reason}
 use Rattle.lrs_machine.specs.State as state
 use Rattle.lrs_machine.specs.Sound.{IsSound, is_part, is_asset, asset_before, pairs_of}
-use Rattle.lrs_machine.proofs.Members.{In, all_at}
 use Rattle.lrs_machine.proofs.SoundImages.{and_three}
-use Rattle.lrs_measure.specs.Lists.{each_two}
+use Rattle.lrs_measure.specs.Lists.{In, each_two}
+use Rattle.lrs_measure.proofs.Members.{all_at}
 use Rattle.lrs_image.proofs.Tables.{passes}
 use Rattle.lrs_report_answers.specs.declared.tallies.tally.Count.{Count}
 use Rattle.lrs_report_answers.specs.declared.tallies.tally.Column.{Column}

@@ -7,6 +7,7 @@ use Rattle.std.proofs.lemmas.Bool.{and_parts, and_from, cases_lt, lt-ltb, le-ltb
 use Rattle.std.proofs.lemmas.List.Folds.{list_any-append, list_all-append}
 use Rattle.std.proofs.lemmas.List.Sums.{sum_by-cons, AllPass-from_list_all}
 use Rattle.lrs_measure.specs.Texts.{Name, same_name}
+use Rattle.lrs_measure.proofs.Members.{all_weaker}
 use Rattle.lrs_events.specs.declared.class.Asset.{Asset}
 use Rattle.lrs_events.specs.declared.side.Side.{Side}
 use Rattle.lrs_events.specs.declared.span.Span.{Span}
@@ -16,7 +17,7 @@ use Rattle.lrs_report_lists.specs.declared.length_lists.entries.Entry.{Entry}
 use Rattle.lrs_report_lists.specs.Length.Lengths.{holds_at, is_told, length_of, length_on, tells}
 use Rattle.lrs_report_lists.specs.Length.Parts.{FitsFrom, ends_by, entries_of, entries_on, entry_of, has_rows_on, held_by, is_entry_of, is_over, known_entry, lies_on, route_length, row_entry}
 use Rattle.lrs_report_lists.proofs.Length.Counts.{count, count-agree, count-append, count-same, count-shift}
-use Rattle.lrs_report_lists.proofs.Length.Tests.{all-flat, all-weaker, and_nothing, any-agree, any-flat, or_nothing}
+use Rattle.lrs_report_lists.proofs.Length.Tests.{all-flat, and_nothing, any-agree, any-flat, or_nothing}
 
 module _ (assets : List Asset) where
   -- ---- where stretches lie
@@ -52,7 +53,7 @@ module _ (assets : List Asset) where
   rows_end : (len start n : ℕ) (rows : List Span) → list_all (lies_on len) rows ≡ true → start + len ≤ n → list_all (ends_by n) (entries_on assets start rows) ≡ true
   rows_end len start n rows on h =
       all-flat (ends_by n) (row_entry assets start) rows
-      ∙ all-weaker (lies_on len) (λ r. list_all (ends_by n) (row_entry assets start r)) rows (λ r k. known_ends len start n r (asset_numbered assets r.asset) k h) on
+      ∙ all_weaker (lies_on len) (λ r. list_all (ends_by n) (row_entry assets start r)) rows (λ r k. known_ends len start n r (asset_numbered assets r.asset) k h) on
 
   routes_end : (start n : ℕ) (routes : List RouteRow) → list_all has_rows_on routes ≡ true → start + sum_by route_length routes ≤ n → list_all (ends_by n) (entries_of assets start routes) ≡ true
   routes_end start n [] on h = refl

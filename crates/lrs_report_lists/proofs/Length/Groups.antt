@@ -6,16 +6,16 @@ use Rattle.std.specs.Cmp.Lexicographic.{bytes_decides}
 use Rattle.std.proofs.lemmas.Bool.{both_ways, and_parts, and_from, or_left, false_from_ne_true, not_from_false}
 use Rattle.std.proofs.lemmas.List.Folds.{list_any-append, list_all-append}
 use Rattle.std.proofs.lemmas.List.Sums.{prefix_len-le-length}
-use Rattle.lrs_measure.specs.Lists.{each_two}
+use Rattle.lrs_measure.specs.Lists.{In, each_two}
 use Rattle.lrs_measure.specs.Texts.{Name, same_name}
+use Rattle.lrs_measure.proofs.Members.{any_found, any_of, all_at, all_of, all_weaker}
 use Rattle.lrs_events.specs.declared.side.Side.{Side}
-use Rattle.lrs_events.proofs.LaneLists.Members.{In, any_found, any_of, all_at, all_from}
 use Rattle.lrs_report_lists.specs.declared.length_lists.entries.Entry.{Entry}
 use Rattle.lrs_report_lists.specs.declared.length_lists.table.ValueLength.{ValueLength}
 use Rattle.lrs_report_lists.specs.Length.Lengths.{has_either, has_left, has_right, is_length_of, key_before, length_before}
 use Rattle.lrs_report_lists.specs.Length.Parts.{HasHeld, IsGroup, IsTable, begins_by, ends_by, held, held_by, is_entry_of, is_later, is_over, not_behind}
 use Rattle.lrs_report_lists.proofs.Length.Ranks.{before_by, is_behind, key_tie, rise_together, same_by, still_later}
-use Rattle.lrs_report_lists.proofs.Length.Tests.{any-all, any-none, all-weaker, front_passes, one_more, or_nothing, two-drop, two-take, two-weaker}
+use Rattle.lrs_report_lists.proofs.Length.Tests.{any-all, any-none, front_passes, one_more, or_nothing, two-drop, two-take, two-weaker}
 
 -- ---- the group in front
 
@@ -30,7 +30,7 @@ module _ (first : Entry) where
   is_alike e = is_entry_of first.class first.value e
 
   all_later : (y : Entry) (zs : List Entry) → is_later first y ≡ true → list_all (not_behind y) zs ≡ true → list_all (is_later first) zs ≡ true
-  all_later y zs later order = all-weaker (not_behind y) (is_later first) zs (λ z h. still_later first y z later h) order
+  all_later y zs later order = all_weaker (not_behind y) (is_later first) zs (λ z h. still_later first y z later h) order
 
   -- behind the front that is alike all come later
   rest_later : (xs : List Entry) → list_all (not_behind first) xs ≡ true → each_two not_behind xs ≡ true → list_all (is_later first) (drop (prefix_len is_alike xs) xs) ≡ true
@@ -115,11 +115,11 @@ module _ (group others : List Entry) (row : ValueLength) (some : list_any (is_en
           both_ways (is_length_of class value row) e (sym (same_key row.class row.value class value found.0 mine) ∙ found.2))
 
   others_differ : list_all (λ e. not (is_row e)) others ≡ true
-  others_differ = all-weaker (λ e. key_before row.class row.value e.class e.value) (λ e. not (is_row e)) others
+  others_differ = all_weaker (λ e. key_before row.class row.value e.class e.value) (λ e. not (is_row e)) others
       (λ e h. not_from_false (is_row e) (not_same (row.class, row.value) (e.class, e.value) h)) later
 
   group_differs : (l : ValueLength) → length_before row l ≡ true → list_all (λ e. not (is_entry_of l.class l.value e)) group ≡ true
-  group_differs l h = all-weaker is_row (λ e. not (is_entry_of l.class l.value e)) group
+  group_differs l h = all_weaker is_row (λ e. not (is_entry_of l.class l.value e)) group
       (λ e mine. not_from_false (is_entry_of l.class l.value e) (same_key row.class row.value l.class l.value e mine ∙ not_alike (row.class, row.value) (l.class, l.value) h)) alike
 
   -- what the group holds is what is held by its class and value
@@ -167,7 +167,7 @@ module _ (group others : List Entry) (row : ValueLength) (some : list_any (is_en
     -- The line of the group in front of those of the others.
     pub line_in_front : row.left ≡ held has_left group n → row.right ≡ held has_right group n → row.length ≡ held has_either group n → IsTable n (group ++ others) (row ∷ more)
     line_in_front left right either =
-        let front = all_from (length_before row) more ahead in
+        let front = all_of (length_before row) more ahead in
         record {
           order = and_from (list_all (length_before row) more) (each_two length_before more) front table.order;
           exact = λ class value.

@@ -4,8 +4,8 @@ use Rattle.std.specs.Prelude.{◌&&◌, ◌||◌, nat_lt, nat_le}
 use Rattle.std.specs.List.{list_all, list_any}
 use Rattle.std.proofs.lemmas.Bool.{and_parts, and_left, cases_lt, lt-ltb, le-ltb, le-leb, lt-leb, leb-true, ltb-true}
 use Rattle.lrs_measure.specs.Lists.{each_two}
+use Rattle.lrs_measure.proofs.Members.{any_found, all_at}
 use Rattle.lrs_events.specs.declared.side.Side.{Side}
-use Rattle.lrs_events.proofs.LaneLists.Members.{any_found, all_at}
 use Rattle.lrs_report_lists.specs.declared.length_lists.entries.Entry.{Entry}
 use Rattle.lrs_report_lists.specs.declared.length_lists.extent.Extent.{Extent}
 use Rattle.lrs_report_lists.specs.Length.Parts.{begins_by, ends_by, held, is_over, longer, nothing_held}

@@ -40,12 +40,6 @@ module _ {X : Type 0} where
       by true n rest = absurd (false≢true n)
       by false n rest = rest
 
-  pub all-weaker : (p q : X → Bool) (xs : List X) → ((x : X) → p x ≡ true → q x ≡ true) → list_all p xs ≡ true → list_all q xs ≡ true
-  all-weaker p q [] w h = refl
-  all-weaker p q (x ∷ xs) w h =
-      let both = and_parts (p x) (list_all p xs) h in
-      and_from (q x) (list_all q xs) (w x both.0) (all-weaker p q xs w both.1)
-
   -- ---- a front
 
   all-take : (p : X → Bool) (k : ℕ) (ys : List X) → list_all p ys ≡ true → list_all p (take k ys) ≡ true

@@ -10,6 +10,7 @@ use Rattle.std.proofs.lemmas.List.Sums.{AllPass-from_list_all, list_all-from_All
 use Rattle.lrs_measure.specs.Limits.{longest_route, most_pieces, most_routes}
 use Rattle.lrs_measure.specs.Lists.{each_two, is_nothing}
 use Rattle.lrs_measure.specs.Texts.{Name}
+use Rattle.lrs_measure.proofs.Members.{all_weaker}
 use Rattle.lrs_element.specs.Course.{is_too_long, meets, piece_count}
 use Rattle.lrs_element.specs.declared.link.Ground.{Ground}
 use Rattle.lrs_events.specs.Places.{differs}
@@ -27,7 +28,6 @@ use Rattle.lrs_report_lists.specs.declared.length_lists.table.ValueLength.{Value
 use Rattle.lrs_report_lists.specs.Length.Lengths.{AreLengthsOn, HasLengths, has_either, has_left, has_right}
 use Rattle.lrs_report_lists.specs.Length.Parts.{HasHeld, IsTable, ends_by, entries_of, has_rows_on, held_by, is_entry_of, is_over, lies_on, route_length}
 use Rattle.lrs_report_lists.proofs.Length.Axis.{all_end, all_held, routes_told}
-use Rattle.lrs_report_lists.proofs.Length.Tests.{all-weaker}
 
 -- ---- the lengths
 
@@ -92,7 +92,7 @@ route_lies assets e h =
 pub rows_on_routes : (i : Image) → IsSound i → list_all has_rows_on i.routes ≡ true
 rows_on_routes i h =
     let spans = (and_parts (list_all (are_spans_of i.assets) (spans_of i)) (list_all (keeps_exclusive i.links i.assets (spans_of i)) i.classes) (passes i h).spans).0 in
-    all-weaker (λ e. are_spans_of i.assets (spans_on e)) has_rows_on i.routes (route_lies i.assets) (sym (list_all-map (are_spans_of i.assets) spans_on i.routes) ∙ spans)
+    all_weaker (λ e. are_spans_of i.assets (spans_on e)) has_rows_on i.routes (route_lies i.assets) (sym (list_all-map (are_spans_of i.assets) spans_on i.routes) ∙ spans)
 
 course_within : (course : List Ground) → is_route_course course ≡ true → length course ≤ longest_route
 course_within course h =
@@ -114,7 +114,7 @@ module _ (i : Image) (sound : IsSound i) where
   each_within : list_all (λ e. nat_le (route_length e) longest_route) i.routes ≡ true
   each_within =
       let each = (and_parts (each_two course_before courses) (list_all (is_course i.links) courses) tests_of_courses.0).1 in
-      all-weaker (λ e. is_course i.links (course_on e)) (λ e. nat_le (route_length e) longest_route) i.routes
+      all_weaker (λ e. is_course i.links (course_on e)) (λ e. nat_le (route_length e) longest_route) i.routes
       (λ e h. le-leb (route_length e) longest_route (course_within e.route.course
       (and_parts (is_route_course e.route.course) (list_all (is_on_a_link i.links) e.route.course)
       (and_parts (is_route_course e.route.course && list_all (is_on_a_link i.links) e.route.course) (each_two differs e.route.course) h).0).0))

@@ -5,14 +5,14 @@ use Rattle.std.specs.List.{AllByRecursion, list_any, list_all}
 use Rattle.std.proofs.lemmas.Bool.{and_parts, both_ways}
 use Rattle.std.proofs.lemmas.List.Sorted.{IsPermutation-sym}
 use Rattle.sqlite_keyed.proofs.ListLemmas.{all_from_test, all_weaker, all-filter, IsPermutation-filter, IsPermutation-flat_map}
-use Rattle.lrs_measure.specs.Lists.{each_two}
+use Rattle.lrs_measure.specs.Lists.{In, each_two}
 use Rattle.lrs_measure.specs.OrderedLists.{insert_by, insert_some}
 use Rattle.lrs_measure.specs.Texts.{Name, same_name}
+use Rattle.lrs_measure.proofs.Members.{any_found, all_at, In-flat_map}
 use Rattle.lrs_position.specs.declared.route.Referent.{Referent}
 use Rattle.lrs_events.proofs.LaneLists.Inserted.{IsPermutation-insert_by}
 use Rattle.lrs_machine.specs.declared.image.RouteRow.{RouteRow}
 use Rattle.lrs_machine.specs.Sound.{route_before}
-use Rattle.lrs_machine.proofs.Members.{In, any_found, all_at, In-flat_map}
 use Rattle.lrs_image_sound.proofs.Sweeping.{each_two-permutation}
 use Rattle.lrs_image.specs.Change.{is_named, without, without_some, refers_to, are_names_of}
 use Rattle.lrs_image.proofs.Named.{back_in_place, same_some}

@@ -4,13 +4,14 @@ use Rattle.std.specs.Prelude.{◌||◌, ◌&&◌, not, is_none, nat_eq, nat_le, 
 use Rattle.std.specs.List.{list_any, list_all, range_with_len}
 use mathlib.Core.List.{reverse-cons}
 use Rattle.std.proofs.lemmas.Bool.{false≢true, not-true, not-false, and_parts, or_parts, leb-true, ltb-true, ltb-false, eqb-true, eq-eqb, ne_eqb}
-use Rattle.lrs_measure.specs.Lists.{each_two, is_from_to, is_nothing}
+use Rattle.lrs_measure.specs.Lists.{In, each_two, is_from_to, is_nothing}
 use Rattle.lrs_measure.specs.Texts.{same_name}
 use Rattle.lrs_element.specs.declared.link.Link.{Link}
 use Rattle.lrs_element.specs.declared.link.Piece.{Piece}
 use Rattle.lrs_element.specs.declared.link.Ground.{Ground}
 use Rattle.lrs_element.specs.declared.marks.Mark.{Mark}
 use Rattle.lrs_measure.specs.Limits.{longest_link, longest_route, most_marks, most_pieces, most_edits}
+use Rattle.lrs_measure.proofs.Members.{any_found, all_at, In-map, In-flat_map, In-range_with_len, In-append_left, In-append_right}
 use Rattle.lrs_element.specs.Course.{expand, millimetres, course_of, piece_count, is_too_long}
 use Rattle.lrs_element.specs.Marks.{bad_mark, first_bad_mark}
 use Rattle.lrs_element.proofs.LineLemmas.{Follow, KeepRules-from_none, rises_next}
@@ -20,7 +21,6 @@ use Rattle.lrs_events.specs.declared.part.Part.{Part}
 use Rattle.lrs_machine.specs.declared.image.Image.{Image}
 use Rattle.lrs_machine.specs.EnteredNumbers.{is_asset_number, is_lateral_offset}
 use Rattle.lrs_machine.specs.Sound.{asset_before, is_asset, is_on_a_link, is_part, is_named_by}
-use Rattle.lrs_machine.proofs.Members.{In, any_found, all_at, In-map, In-flat_map, In-range_with_len, In-append_left, In-append_right}
 use Rattle.lrs_machine.proofs.Pairs.{part_asset}
 use Rattle.lrs_machine.proofs.SoundImages.{Tested}
 use Rattle.lrs_store_tables.specs.Contents.Decoders.{class_of_asset}

@@ -8,6 +8,7 @@ use Rattle.std.proofs.lemmas.List.Sorted.{IsPermutation-refl, IsPermutation-map,
 use Rattle.sqlite_keyed.proofs.ListLemmas.{map-map, all_of, all_weaker, any_from_none}
 use Rattle.lrs_measure.specs.Texts.{Name, same_name}
 use Rattle.lrs_measure.specs.OrderedLists.{insert_all}
+use Rattle.lrs_measure.proofs.Members.{any_of, In-map}
 use Rattle.lrs_element.specs.declared.link.Piece.{Piece}
 use Rattle.lrs_element.specs.declared.marks.Mark.{Mark}
 use Rattle.lrs_position.specs.declared.route.Referent.{Referent}
@@ -16,7 +17,6 @@ use Rattle.lrs_events.specs.declared.span.Span.{Span}
 use Rattle.lrs_events.specs.Spans.{span_before}
 use Rattle.lrs_events.specs.Changes.{without_rows}
 use Rattle.lrs_events.proofs.LaneLists.Inserted.{IsPermutation-insert_all}
-use Rattle.lrs_machine.proofs.Members.{any_of, In-map}
 use Rattle.lrs_image.specs.declared.change.RouteChange.{RouteChange}
 use Rattle.lrs_image.specs.declared.change.RouteKeys.{RouteKeys}
 use Rattle.lrs_image.specs.Change.{keys_of}

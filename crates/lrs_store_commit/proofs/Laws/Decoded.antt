@@ -3,6 +3,7 @@ use Rattle.std.proofs.Common.{◌≡◌, ℕ, ◌<◌, ℤ, pos, negsuc, Bool, t
 use Rattle.std.specs.Prelude.{◌&&◌, ◌^◌, nat_eq, nat_lt, IsTrue}
 use Rattle.std.proofs.lemmas.Bool.{and_parts, eqb-true, ltb-true}
 use Rattle.std.specs.Str.{is_utf8}
+use Rattle.lrs_measure.specs.Lists.{In}
 use Rattle.lrs_element.specs.declared.link.Link.{Link}
 use Rattle.lrs_element.specs.declared.link.Piece.{Piece}
 use Rattle.lrs_element.specs.declared.marks.Mark.{Mark}
@@ -22,7 +23,6 @@ use Rattle.lrs_events.specs.declared.part.Gone.{Gone}
 use Rattle.lrs_events.specs.Names.{is_class_name, is_value}
 use Rattle.lrs_machine.specs.declared.image.Edit.{Edit}
 use Rattle.lrs_machine.specs.Keys.{is_key}
-use Rattle.lrs_machine.proofs.Members.{In}
 use Rattle.lrs_store_tables.specs.Contents.Tables.{LinkRow, ClassRow, AssetRow, PieceRow, MarkRow, RefRow, SpanRow, EnteredRow, GoneRow, EditRow, OriginRow}
 use Rattle.lrs_store_tables.specs.Contents.Decoders.{if_true, only_if, below, whole, short, each_of, OfRoute, Numbered, Origin, kind_numbered, side_numbered, link_side_numbered, is_forward_numbered, is_abandoned_numbered, link_of, class_of, asset_of, piece_of, mark_of, referent_of, class_of_asset, span_of, part_of, gone_of, edit_of, origin_of}
 use Rattle.lrs_store_tables.specs.Contents.Decoders as option

@@ -6,13 +6,13 @@ use Rattle.std.proofs.lemmas.List.Sorted.{IsPermutation-refl, IsPermutation-sym}
 use Rattle.sqlite_keyed.proofs.ListLemmas.{IsPermutation-same, all-map, all-filter, all-flat_map, all_map, all_weaker, all_both}
 use Rattle.lrs_measure.specs.Lists.{each_two}
 use Rattle.lrs_measure.specs.Texts.{Name, same_name}
+use Rattle.lrs_measure.proofs.Members.{any_of, all_of, In-map, map_found}
 use Rattle.lrs_element.specs.declared.link.Piece.{Piece}
 use Rattle.lrs_position.specs.declared.route.Referent.{Referent}
 use Rattle.lrs_events.specs.declared.span.Span.{Span}
 use Rattle.lrs_machine.specs.declared.image.RouteRow.{RouteRow}
 use Rattle.lrs_machine.specs.declared.image.Image.{Image}
 use Rattle.lrs_machine.specs.Sound.{route_before}
-use Rattle.lrs_machine.proofs.Members.{any_of, all_of, In-map, map_found}
 use Rattle.lrs_image.specs.declared.change.RouteKeys.{RouteKeys}
 use Rattle.lrs_image.specs.Change.{is_named, without, without_some, keys_of, refers_to, are_names_of, GoesWholeIfAny}
 use Rattle.lrs_store_tables.specs.Contents.Tables.{Tables, AreSame, PieceRow, MarkRow, RefRow, SpanRow}

@@ -7,10 +7,10 @@ use Rattle.std.specs.Cmp.{tied_itself}
 use Rattle.std.specs.Cmp.Lexicographic.{bytes_decides, nat_list_cmp_total}
 use Rattle.std.proofs.lemmas.Bool.{false≢true, eqb-true, and_parts, false_from_ne_true}
 use Rattle.std.proofs.lemmas.List.Sorted.{IsPermutation-refl, IsPermutation-sym, IsPermutation-trans, IsPermutation-cons, IsPermutation-middle, IsPermutation-map, IsPermutation-append, IsPermutation-append_right}
-use Rattle.lrs_measure.specs.Lists.{each_two}
+use Rattle.lrs_measure.specs.Lists.{In, each_two}
 use Rattle.lrs_measure.specs.OrderedLists.{insert_by}
 use Rattle.lrs_measure.specs.Texts.{Name, name_cmp, name_before, same_name}
-use Rattle.lrs_machine.proofs.Members.{In, all_at}
+use Rattle.lrs_measure.proofs.Members.{all_at}
 use Rattle.lrs_store_tables.specs.Contents.Decoders.{only_if, each_of, each_sorted, sorted, OfRoute, said_of, Numbered, number_before, counted}
 use Rattle.lrs_store_tables.specs.Contents.Encoders.{numbered}
 use Rattle.lrs_store_commit.proofs.Laws.Decoded.{some_is, bind_some, only_some, rows_back}

@@ -4,13 +4,13 @@ use Rattle.std.specs.Prelude.{◌&&◌, ◌||◌, nat_lt}
 use Rattle.std.specs.List.{AllByRecursion, list_any, list_all}
 use Rattle.std.proofs.lemmas.Bool.{and_parts, and_from, or_cases, both_ways, eq-eqb, eqb-true, ltb-true}
 use Rattle.sqlite_keyed.proofs.ListLemmas.{all_from_test, all_weaker}
-use Rattle.lrs_measure.specs.Lists.{each_two}
+use Rattle.lrs_measure.specs.Lists.{In, each_two}
 use Rattle.lrs_measure.specs.Texts.{Name, same_name}
+use Rattle.lrs_measure.proofs.Members.{any_found, all_at, two_at}
 use Rattle.lrs_events.specs.declared.span.Span.{Span}
 use Rattle.lrs_events.specs.Changes.{same_row, has_row}
 use Rattle.lrs_events.specs.Spans.{same_side, span_before, are_apart, is_row, are_rows}
 use Rattle.lrs_events.proofs.LaneLists.Ranks.{row_is, row_itself}
-use Rattle.lrs_machine.proofs.Members.{In, any_found, all_at, two_at}
 use Rattle.lrs_store_tables.specs.Contents.Encoders.{span_row}
 use Rattle.lrs_store_tables.specs.RowChanges.{has_key_of}
 use Rattle.lrs_store_commit.proofs.Laws.Lists.{any_alike, all_members}

@@ -6,8 +6,7 @@ use Rattle.std.proofs.lemmas.Bool.{and_parts, and_from}
 use Rattle.std.proofs.lemmas.List.Elements.{filter-append}
 use Rattle.std.proofs.lemmas.List.Folds.{list_all-append}
 use Rattle.sqlite_keyed.proofs.ListLemmas.{filter_all, filter_none, all_weaker}
-use Rattle.lrs_measure.specs.Lists.{each_two}
-use Rattle.lrs_machine.proofs.Members.{In}
+use Rattle.lrs_measure.specs.Lists.{In, each_two}
 use Rattle.lrs_store_tables.specs.Contents.Encoders.{numbered}
 
 pub numbered_all : {X Row : Type 0} (P : Row → Type 0) (row : ℕ → X → Row) → ((k : ℕ) (x : X) → P (row k x)) → (k : ℕ) (xs : List X) → AllByRecursion P (numbered row k xs)

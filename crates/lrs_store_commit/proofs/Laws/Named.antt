@@ -6,6 +6,8 @@ use Rattle.std.specs.Str.{is_utf8}
 use Rattle.std.proofs.lemmas.Bool.{and_parts}
 use Rattle.lrs_measure.specs.OrderedLists.{insert_by}
 use Rattle.lrs_measure.specs.Texts.{Name, same_name, name_before}
+use Rattle.lrs_measure.specs.Lists.{In}
+use Rattle.lrs_measure.proofs.Members.{In-map, map_found, all_of}
 use Rattle.lrs_position.specs.declared.route.Referent.{Referent}
 use Rattle.lrs_position.specs.Names.{is_route_name, is_referent_name}
 use Rattle.lrs_events.specs.declared.class.Class.{Class}
@@ -19,7 +21,6 @@ use Rattle.lrs_machine.specs.declared.table.Table.TheVariants as table
 use Rattle.lrs_machine.specs.Image.{nothing}
 use Rattle.lrs_machine.specs.Keys.{is_key}
 use Rattle.lrs_machine.specs.Sound.{asset_before, class_before, are_origins}
-use Rattle.lrs_machine.proofs.Members.{In, In-map, map_found, all_of}
 use Rattle.lrs_store_tables.specs.Contents.Tables.{Tables, ClassRow, AssetRow, RefRow, EditRow}
 use Rattle.lrs_store_tables.specs.Contents.Decoders.{only_if, whole, short, each_of, each_sorted, sorted, OfRoute, said_of, Numbered, number_before, counted, kind_numbered, is_forward_numbered, class_of, asset_of, piece_of, referent_of, edit_of, origin_of}
 use Rattle.lrs_store_tables.specs.Contents.Decoders as option

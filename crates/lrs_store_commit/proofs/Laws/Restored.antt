@@ -5,8 +5,9 @@ use Rattle.std.specs.List.{AllByRecursion, list_all, list_any}
 use Rattle.std.specs.Str.{is_utf8}
 use Rattle.std.specs.Cmp.Lexicographic.{bytes_decides}
 use Rattle.std.proofs.lemmas.Bool.{and_parts, and_from, leb-true, ltb-true, eqb-true, eq-eqb}
-use Rattle.lrs_measure.specs.Lists.{each_two, is_nothing}
+use Rattle.lrs_measure.specs.Lists.{In, each_two, is_nothing}
 use Rattle.lrs_measure.specs.Texts.{Name, same_name, name_before}
+use Rattle.lrs_measure.proofs.Members.{In-map, all_at, any_of, any_found}
 use Rattle.lrs_element.specs.declared.link.Piece.{Piece}
 use Rattle.lrs_element.specs.declared.marks.Mark.{Mark}
 use Rattle.lrs_element.specs.Course.{course_of, piece_count, meets}
@@ -30,7 +31,6 @@ use Rattle.lrs_machine.specs.declared.table.Table.TheVariants as table
 use Rattle.lrs_machine.specs.Keys.{is_key}
 use Rattle.lrs_machine.specs.Sound.{RouteCourse, Test, IsSound, first_unsound, tests, link_before, are_links, class_before, are_classes, asset_before, are_assets, course_before, is_course, is_on_a_link, are_courses, are_all_marks, are_all_referents, is_span, are_spans_of, are_spans, are_parts, are_entered, gone_before, parts_of, are_balanced, are_gone, is_part, is_named_by, are_edits, are_origins}
 use Rattle.lrs_machine.specs.Sound as sound
-use Rattle.lrs_machine.proofs.Members.{In, In-map, all_at, any_of, any_found}
 use Rattle.lrs_machine.proofs.Pairs.{each_two-map}
 use Rattle.lrs_machine.proofs.SoundImages.{passed, and_three, Tested, tested, origin_of}
 use Rattle.lrs_store_tables.specs.Contents.Tables.{Tables}

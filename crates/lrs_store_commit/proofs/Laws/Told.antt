@@ -6,10 +6,10 @@ use Rattle.std.proofs.lemmas.Bool.{true≢false, and_parts, and_from, eq-eqb, lt
 use Rattle.std.proofs.lemmas.List.{map-append, append-nil}
 use Rattle.std.proofs.lemmas.List.Elements.{filter-append}
 use Rattle.std.specs.Cmp.Lexicographic.{bytes_decides}
-use Rattle.lrs_measure.specs.Lists.{each_two, is_nothing}
+use Rattle.lrs_measure.specs.Lists.{In, each_two, is_nothing}
 use Rattle.lrs_measure.specs.OrderedLists.{insert_by}
 use Rattle.lrs_measure.specs.Texts.{Name, name_before, same_name}
-use Rattle.lrs_machine.proofs.Members.{In, In-map, all_at, all_of, any_found, flat_map_found, map_found}
+use Rattle.lrs_measure.proofs.Members.{In-map, all_at, all_of, any_found, flat_map_found, map_found}
 use Rattle.lrs_store_tables.specs.Contents.Decoders.{only_if, each_of, sorted, OfRoute, said_of, Numbered, number_before, counted}
 use Rattle.lrs_store_tables.specs.Contents.Content.{with_name, routes_named}
 use Rattle.lrs_store_tables.specs.Contents.Encoders.{numbered}

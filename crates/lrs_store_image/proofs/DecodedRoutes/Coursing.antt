@@ -5,7 +5,9 @@ use Rattle.std.specs.List.{AllByRecursion, list_any, list_all, flat_map, positio
 use Rattle.std.specs.Option.{option_map_or}
 use Rattle.std.proofs.lemmas.Bool.{false≢true, both_ways, and_parts, and_from, or_parts, or_from, not-true, false_from_ne_true, eqb-true, leb-true, le-leb, ltb-true, ltb-false, le-ltb}
 use Rattle.std.proofs.lemmas.List.Sums.{fails_before_first, passes_at_first}
-use Rattle.lrs_measure.specs.Lists.{each_two, is_nothing}
+use Rattle.lrs_measure.specs.Lists.{In, each_two, is_nothing}
+use Rattle.lrs_measure.proofs.Members.{any_found, any_of, all_at, all_of, two_at}
+use Rattle.lrs_measure.proofs.Places.{place_in, member_at}
 use Rattle.lrs_element.specs.declared.link.Link.{Link}
 use Rattle.lrs_element.specs.declared.link.Piece.{Piece}
 use Rattle.lrs_element.specs.declared.link.Ground.{Ground}
@@ -14,10 +16,8 @@ use Rattle.lrs_element.specs.Pieces.{IsFilled}
 use Rattle.lrs_position.specs.Routes.{is_route_course}
 use Rattle.lrs_events.specs.Places.{differs}
 use Rattle.lrs_machine.specs.Sound.{link_before, are_links, is_on_a_link}
-use Rattle.lrs_machine.proofs.Members.{In, any_found, any_of, all_at, all_of, two_at}
 use Rattle.lrs_image_sound.specs.CourseRepeats.{ends_on_a_link}
 use Rattle.lrs_image_sound.proofs.Coursed.{courses_are_apart}
-use Rattle.lrs_image_sound.proofs.Keyed.{place_in, member_at}
 use Rattle.lrs_image_sound.proofs.Laid.{pieces_are}
 use Rattle.lrs_store_image.specs.DecodedRoutes.Courses.{is_good_course}
 

@@ -16,11 +16,11 @@ use Rattle.lrs_events.specs.declared.class.Class.{Class}
 use Rattle.lrs_events.specs.declared.class.Asset.{Asset}
 use Rattle.lrs_events.specs.declared.span.Span.{Span}
 use Rattle.lrs_events.specs.Spans.{are_rows}
-use Rattle.lrs_events.proofs.LaneLists.Members.{each_two-filter}
 use Rattle.lrs_machine.specs.declared.image.RouteRow.{RouteRow}
 use Rattle.lrs_machine.specs.Sound.{RouteCourse, course_before, is_course, are_courses, are_spans_of, is_span, keeps_exclusive}
 use Rattle.lrs_measure.specs.Limits.{most_routes}
-use Rattle.lrs_machine.proofs.Members.{all_weaker}
+use Rattle.lrs_measure.proofs.Members.{all_weaker}
+use Rattle.lrs_measure.proofs.Filters.{each_two-filter}
 use Rattle.lrs_machine.proofs.Pairs.{each_two-map}
 use Rattle.lrs_image_sound.specs.Tables.{route_courses}
 use Rattle.lrs_image_sound.proofs.Sweeping.{each_two-permutation}

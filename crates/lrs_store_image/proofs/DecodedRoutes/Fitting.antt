@@ -10,12 +10,12 @@ use Rattle.std.proofs.lemmas.List.Sorted.{IsPermutation-sym}
 use Rattle.lrs_measure.specs.Lists.{each_two}
 use Rattle.lrs_measure.specs.Texts.{same_name, name_before}
 use Rattle.lrs_measure.specs.Limits.{longest_route}
+use Rattle.lrs_measure.proofs.Members.{all_at, all_of}
+use Rattle.lrs_measure.proofs.Places.{two_pass}
 use Rattle.lrs_events.specs.declared.span.Span.{Span}
 use Rattle.lrs_events.specs.Spans.{are_rows, are_apart, is_row, same_side, span_before}
 use Rattle.lrs_events.specs.declared.lanes.order.RowOrder.TheVariants.{ByAsset}
 use Rattle.lrs_events.proofs.LaneLists.Ranks.{before_trans, of_one_class, row_ranks}
-use Rattle.lrs_machine.proofs.Members.{all_at, all_of}
-use Rattle.lrs_image_sound.proofs.Keyed.{two_pass}
 use Rattle.lrs_image_sound.proofs.Rising.{rises}
 use Rattle.lrs_store_tables.specs.Contents.Decoders.{sorted, only_if}
 use Rattle.lrs_store_tables.proofs.Contents.Unordered.{sort_alike, sorted_is}

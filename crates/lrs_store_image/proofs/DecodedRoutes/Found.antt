@@ -11,12 +11,13 @@ use Rattle.std.specs.Cmp.Lexicographic.{nat_list_cmp_total, bytes_decides, texts
 use Rattle.std.proofs.lemmas.Bool.{false≢true, both_ways, and_parts, and_from, or_left, or_right, cases_Bool, eqb-true, false_from_ne_true}
 use Rattle.lrs_measure.specs.Lists.{each_two}
 use Rattle.lrs_measure.specs.Texts.{Name, name_cmp, same_name}
+use Rattle.lrs_measure.proofs.Members.{any_found, any_of, all_at, all_of}
+use Rattle.lrs_measure.proofs.Places.{place_in, member_at}
 use Rattle.lrs_position.specs.declared.route.Route.{Route}
 use Rattle.lrs_events.specs.declared.class.Asset.{Asset}
 use Rattle.lrs_events.specs.declared.side.Side.{Side}
 use Rattle.lrs_events.specs.declared.span.Span.{Span}
-use Rattle.lrs_machine.proofs.Members.{any_found, any_of, all_at, all_of}
-use Rattle.lrs_image_sound.proofs.Keyed.{found, place_in, member_at}
+use Rattle.lrs_image_sound.proofs.Keyed.{found}
 use Rattle.lrs_store_tables.specs.Contents.Tables.{SpanRow}
 use Rattle.lrs_store_tables.specs.Contents.Decoders.{each_of, only_if, OfRoute, whole, side_numbered, class_of_asset, span_of}
 use Rattle.lrs_store_tables.specs.Contents.Decoders as option

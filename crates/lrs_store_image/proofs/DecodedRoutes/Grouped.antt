@@ -12,10 +12,10 @@ use Rattle.std.proofs.lemmas.Bool.{false≢true, both_ways, and_parts, and_from,
 use Rattle.std.proofs.lemmas.List.Sorted.{sorted_far, ranks_by, IsStrictWeakOrder-by_number, IsPermutation-refl, IsPermutation-cons, IsPermutation-trans}
 use Rattle.lrs_measure.specs.Lists.{each_two}
 use Rattle.lrs_measure.specs.Texts.{Name, name_cmp, same_name, name_before}
+use Rattle.lrs_measure.proofs.Members.{all_weaker}
+use Rattle.lrs_measure.proofs.Places.{two_pass}
 use Rattle.lrs_events.proofs.LaneLists.Inserted.{IsPermutation-insert_by}
 use Rattle.lrs_events.proofs.LaneLists.Ranks.{itself, before_trans}
-use Rattle.lrs_machine.proofs.Members.{all_weaker}
-use Rattle.lrs_image_sound.proofs.Keyed.{two_pass}
 use Rattle.lrs_image_sound.proofs.Rising.{rises}
 use Rattle.lrs_image_sound.proofs.Sweeping.{each_two-permutation}
 use Rattle.lrs_store_tables.specs.Contents.Decoders.{OfRoute, Numbered, number_before, sorted, counted, only_if}

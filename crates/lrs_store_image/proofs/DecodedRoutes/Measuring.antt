@@ -14,8 +14,8 @@ use Rattle.lrs_element.specs.Marks.{bad_mark}
 use Rattle.lrs_position.specs.Routes.{is_route_course, have_marks}
 use Rattle.lrs_events.specs.Places.{differs}
 use Rattle.lrs_measure.specs.Limits.{most_routes}
+use Rattle.lrs_measure.proofs.Members.{all_weaker, list_any-map}
 use Rattle.lrs_machine.specs.Sound.{RouteCourse, course_before, is_course, is_on_a_link, are_courses}
-use Rattle.lrs_machine.proofs.Members.{all_weaker, list_any-map}
 use Rattle.lrs_machine.proofs.Pairs.{each_two-map}
 use Rattle.lrs_store_tables.specs.Contents.Tables.{MarkRow}
 use Rattle.lrs_store_tables.specs.Contents.Decoders.{each_of, only_if, OfRoute, Numbered, number_before, said_of, sorted, counted, mark_of}

@@ -8,14 +8,14 @@ use Rattle.std.proofs.lemmas.Bool.{both_ways, and_parts, and_from, or_left, or_r
 use Rattle.std.proofs.lemmas.List.{get_or_default}
 use Rattle.std.proofs.lemmas.List.Sorted.{sorted_far, IsPermutation-append_comm}
 use Rattle.std.proofs.Math.Seq.{take-suc}
-use Rattle.lrs_measure.specs.Lists.{each_two}
+use Rattle.lrs_measure.specs.Lists.{In, each_two}
 use Rattle.lrs_measure.specs.OrderedLists.{insert_by}
 use Rattle.lrs_measure.specs.Texts.{Name, same_name, name_before}
+use Rattle.lrs_measure.proofs.Members.{any_found, any_of, all_at, all_of}
+use Rattle.lrs_measure.proofs.Places.{two_pass, place_in, member_at}
 use Rattle.lrs_events.proofs.LaneLists.Inserted.{each_two-insert_by}
 use Rattle.lrs_events.proofs.LaneLists.Ranks.{itself, before_trans}
-use Rattle.lrs_machine.proofs.Members.{In, any_found, any_of, all_at, all_of}
 use Rattle.lrs_image_sound.proofs.Along.{along_permutation}
-use Rattle.lrs_image_sound.proofs.Keyed.{two_pass, place_in, member_at}
 use Rattle.lrs_store_tables.specs.Contents.Decoders.{OfRoute}
 use Rattle.lrs_store_tables.specs.Contents.Content.{with_name, routes_named}
 use Rattle.lrs_store_image.specs.DecodedRoutes.Groups.{route_before, ends_with}

@@ -15,8 +15,8 @@ use Rattle.lrs_position.specs.Routes.{is_route_course}
 use Rattle.lrs_events.specs.Places.{differs}
 use Rattle.lrs_machine.specs.declared.table.Table.{Table}
 use Rattle.lrs_measure.specs.Limits.{most_routes}
+use Rattle.lrs_measure.proofs.Members.{all_weaker}
 use Rattle.lrs_machine.specs.Sound.{RouteCourse, is_on_a_link, is_course, course_before, are_courses}
-use Rattle.lrs_machine.proofs.Members.{all_weaker}
 use Rattle.lrs_machine.proofs.Pairs.{each_two-map}
 use Rattle.lrs_image_sound.proofs.Coursed.{courses_are_apart}
 use Rattle.lrs_store_tables.specs.Contents.Tables.{PieceRow}

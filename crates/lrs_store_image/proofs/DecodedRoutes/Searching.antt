@@ -4,11 +4,11 @@ use Rattle.std.specs.List.Sorted.{IsSortedBy, IsPartitionedBy, IsPartitionPoint}
 use Rattle.std.specs.Cmp.Lexicographic.{bytes_decides}
 use Rattle.std.proofs.lemmas.Bool.{both_ways, cases_lt, false_from_ne_true, true_from_ne_false}
 use Rattle.std.proofs.lemmas.List.Sorted.{sorted_far}
-use Rattle.lrs_measure.specs.Lists.{each_two}
+use Rattle.lrs_measure.specs.Lists.{In, each_two}
 use Rattle.lrs_measure.specs.Texts.{Name, same_name, name_before}
+use Rattle.lrs_measure.proofs.Members.{any_found, any_of}
+use Rattle.lrs_measure.proofs.Places.{two_pass, place_in, member_at}
 use Rattle.lrs_events.proofs.LaneLists.Ranks.{itself}
-use Rattle.lrs_machine.proofs.Members.{In, any_found, any_of}
-use Rattle.lrs_image_sound.proofs.Keyed.{two_pass, place_in, member_at}
 use Rattle.lrs_store_tables.specs.Contents.Decoders.{only_if}
 use Rattle.lrs_store_image.specs.DecodedRoutes.Marks.{is_name_of}
 use Rattle.lrs_store_image.proofs.DecodedRoutes.Grouped.{names_rank, names_tell}

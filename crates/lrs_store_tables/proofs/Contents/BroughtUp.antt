@@ -1,18 +1,18 @@
 -- A store of version 1 that is brought up to version 2 holds the image that it held.
-use Rattle.std.proofs.Common.{◌≡◌, ℕ, inl, inr, Bool, true, false, cond, List, [], ◌∷◌, map, length, pos, Option, Some, None, Ok, Err, refl, sym, ap, ◌∙◌, arith}
+use Rattle.std.proofs.Common.{◌≡◌, ℕ, Bool, true, false, cond, List, [], ◌∷◌, map, length, pos, Option, Some, None, Ok, Err, refl, sym, ap, ◌∙◌, arith}
 use Rattle.std.specs.Prelude.{◌&&◌, ◌^◌, nat_eq, nat_le, nat_lt, Result}
 use Rattle.std.specs.List.{list_all}
 use Rattle.std.proofs.lemmas.Bool.{and_parts, and_from, leb-true, lt-ltb, eqb-true, eq-eqb}
-use Rattle.lrs_measure.specs.Lists.{each_two}
+use Rattle.lrs_measure.specs.Lists.{In, each_two}
 use Rattle.lrs_measure.specs.OrderedLists.{insert_by}
 use Rattle.lrs_events.specs.declared.class.Asset.{Asset}
 use Rattle.lrs_machine.specs.declared.image.Image.{Image}
 use Rattle.lrs_machine.specs.declared.table.Table.{Table}
 use Rattle.lrs_machine.specs.declared.table.Table.TheVariants as table
 use Rattle.lrs_measure.specs.Limits.{most_edits}
+use Rattle.lrs_measure.proofs.Members.{any_found, all_at, all_of}
 use Rattle.lrs_machine.specs.EnteredNumbers.{is_asset_number, is_lateral_offset}
 use Rattle.lrs_machine.specs.Sound.{is_asset, are_origins, is_named_by}
-use Rattle.lrs_machine.proofs.Members.{In, any_found, all_at}
 use Rattle.lrs_machine.proofs.Pairs.{each_two-map}
 use Rattle.lrs_machine.proofs.SoundImages.{Tested, tested, origin_of, entered_by_entry}
 use Rattle.lrs_store_tables.specs.Contents.Tables.{Tables}
@@ -33,10 +33,6 @@ origin a = record { asset = a.number; edit = a.entered_by }
 abbrev is_stored : Asset → Bool
 is_stored a = nat_lt a.number (2 ^ 63) && nat_lt a.entered_by (2 ^ 63)
 
-all_from : {X : Type 0} (p : X → Bool) (xs : List X) → ((x : X) → In x xs → p x ≡ true) → list_all p xs ≡ true
-all_from p [] h = refl
-all_from p (x ∷ xs) h = and_from _ _ (h x (inl refl)) (all_from p xs (λ y m. h y (inr m)))
-
 module _ (i : Image) (t : Tested i) where
   number_fits : (a : Asset) → In a i.assets → nat_lt a.number (2 ^ 63) ≡ true
   number_fits a m =
@@ -53,7 +49,7 @@ module _ (i : Image) (t : Tested i) where
       lt-ltb _ _ (omega (arith, edit, leb-true _ _ named.1, leb-true (length i.edits) most_edits t.few_edits))
 
   all_stored : list_all is_stored i.assets ≡ true
-  all_stored = all_from is_stored i.assets (λ a m. and_from _ _ (number_fits a m) (entry_fits a m))
+  all_stored = all_of is_stored i.assets (λ a m. and_from _ _ (number_fits a m) (entry_fits a m))
 
 -- ---- what the rows that are written say
 

@@ -15,9 +15,9 @@ use Rattle.lrs_events.specs.declared.part.Gone.{Gone}
 use Rattle.lrs_events.specs.Spans.{are_rows}
 use Rattle.lrs_machine.specs.Segments.{is_exclusive}
 use Rattle.lrs_measure.specs.Limits.{most_assets, most_pairs}
+use Rattle.lrs_measure.proofs.Members.{list_any-map}
 use Rattle.lrs_events.specs.Parts.{part_before}
 use Rattle.lrs_machine.specs.Sound.{RouteSpans, asset_before, is_asset, are_assets, holds_in, places_of, are_spans, share_nothing, pairs_of, are_parts, are_entered, gone_before, parts_of, is_balanced_at, are_gone}
-use Rattle.lrs_machine.proofs.Members.{list_any-map}
 use Rattle.lrs_machine.proofs.Pairs.{each_two-map}
 use Rattle.lrs_store_tables.specs.Contents.Content.{with_edit}
 

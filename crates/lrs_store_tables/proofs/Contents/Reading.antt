@@ -8,6 +8,7 @@ use Rattle.std.proofs.lemmas.List.Sorted.{IsPermutation-map, list_any-IsPermutat
 use Rattle.lrs_measure.specs.Lists.{each_two, is_nothing}
 use Rattle.lrs_measure.specs.OrderedLists.{insert_by}
 use Rattle.lrs_measure.specs.Texts.{Name, same_name, name_before}
+use Rattle.lrs_measure.proofs.Members.{all_weaker}
 use Rattle.lrs_element.specs.declared.link.Link.{Link}
 use Rattle.lrs_element.specs.declared.link.Ground.{Ground}
 use Rattle.lrs_element.specs.declared.link.Piece.{Piece}
@@ -25,7 +26,6 @@ use Rattle.lrs_events.proofs.Row.Rows.{NameCases, name_cases, before, same, behi
 use Rattle.lrs_machine.specs.declared.image.RouteRow.{RouteRow}
 use Rattle.lrs_machine.specs.declared.table.Table.TheVariants as table
 use Rattle.lrs_machine.specs.Sound.{RouteCourse, are_spans_of, keeps_exclusive, are_spans}
-use Rattle.lrs_machine.proofs.Members.{all_weaker}
 use Rattle.lrs_image_sound.proofs.Along.{along_permutation}
 use Rattle.lrs_image_sound.proofs.Rearranged.{all_alike}
 use Rattle.lrs_store_tables.specs.Contents.Tables.{PieceRow, MarkRow, RefRow, SpanRow, EditRow}

@@ -7,10 +7,11 @@ use Rattle.std.proofs.lemmas.Bool.{both_ways, and_parts, and_from, or_from, or_l
 use Rattle.std.proofs.lemmas.List.Sorted.{IsPermutation-refl, IsPermutation-cons, IsPermutation-trans, IsPermutation-middle}
 use Rattle.lrs_measure.specs.Lists.{each_two}
 use Rattle.lrs_measure.specs.OrderedLists.{insert_by}
-use Rattle.lrs_events.proofs.LaneLists.Inserted.{IsPermutation-insert_by, order_of_others}
+use Rattle.lrs_measure.proofs.Members.{all_weaker}
+use Rattle.lrs_measure.proofs.Insertions.{order_of_others}
+use Rattle.lrs_events.proofs.LaneLists.Inserted.{IsPermutation-insert_by}
 use Rattle.lrs_events.proofs.LaneLists.Ranks.{before_trans}
 use Rattle.lrs_machine.specs.declared.table.Table.{Table}
-use Rattle.lrs_machine.proofs.Members.{all_weaker}
 use Rattle.lrs_image_sound.proofs.Along.{along_permutation}
 use Rattle.lrs_image_sound.proofs.Sweeping.{each_two-permutation}
 use Rattle.lrs_store_tables.specs.Contents.Decoders.{each_of, each_sorted, sorted}

@@ -6,14 +6,14 @@ use Rattle.std.specs.Cmp.Lexicographic.{bytes_decides}
 use Rattle.std.proofs.lemmas.Bool.{or_left, or_right, cases_eq, ne_eqb, leb-true, le-leb, le-ltb, lt-ltb}
 use Rattle.lrs_measure.specs.Texts.{Name}
 use Rattle.lrs_measure.specs.Limits.{longest_route}
+use Rattle.lrs_measure.specs.Lists.{In}
+use Rattle.lrs_measure.proofs.Members.{all_at, all_of, two_at}
 use Rattle.lrs_events.specs.declared.side.LinkSide.{LinkSide}
 use Rattle.lrs_events.specs.declared.span.Span.{Span}
 use Rattle.lrs_events.specs.Members.{has_member, is_member}
 use Rattle.lrs_events.specs.Spans.{are_rows, are_apart}
 use Rattle.lrs_events.specs.Row.Clips.{clip}
 use Rattle.lrs_events.specs.Row.Joins.{end_by, have_room, is_of_one_class, are_of_one_class, IsJoin}
-use Rattle.lrs_events.specs.Row.Order.{In}
-use Rattle.lrs_events.proofs.Row.Members.{any_found, any_of, all_at, all_from, two_at}
 use Rattle.lrs_events.proofs.Row.Pieces.{clip_pieces, clip_bounds, clips_hold, found_in}
 use Rattle.lrs_events.proofs.Row.Rows.{rows_from, apart_from}
 use Rattle.lrs_events.proofs.Row.Unique.{IsOver, over, its_sides, some_side, has_some, kept}
@@ -43,13 +43,13 @@ module _ (from to len : ℕ) (rows front rear : List Span) (h : are_rows rows �
   rear_of q m = said_by rows q.class q.asset ((q.to - 1) + to) (some_side q.side) (sym (b q.class q.asset (q.to - 1) (some_side q.side)) ∙ its_end q rear m ((rows_from rear k).full q m).some)
 
   pub front_ends : end_by (from + len) front ≡ true
-  front_ends = all_from (λ r. nat_le r.to (from + len)) front (λ p m.
+  front_ends = all_of (λ r. nat_le r.to (from + len)) front (λ p m.
       let r = front_of p m in
       let e = (clip_bounds 0 from r.0 p r.2).1 in
       le-leb p.to (from + len) (omega (arith, e)))
 
   pub rear_fits : have_room_behind to (from + len) rows ≡ true → have_room (from + len) rear ≡ true
-  rear_fits room = all_from (λ r. nat_le (r.to + (from + len)) longest_route) rear (λ q m.
+  rear_fits room = all_of (λ r. nat_le (r.to + (from + len)) longest_route) rear (λ q m.
       let r = rear_of q m in
       let some = ((rows_from rear k).full q m).some in
       let high = r.2.high in
@@ -57,7 +57,7 @@ module _ (from to len : ℕ) (rows front rear : List Span) (h : are_rows rows �
       le-leb (q.to + (from + len)) longest_route (omega (arith, some, high, short)))
 
   pub of_one_class : are_of_one_class front rear ≡ true
-  of_one_class = all_from (λ p. list_all (is_of_one_class p) rear) front (λ p m. all_from (is_of_one_class p) rear (λ q n. by p q m n (cases_eq p.asset q.asset)))
+  of_one_class = all_of (λ p. list_all (is_of_one_class p) rear) front (λ p m. all_of (is_of_one_class p) rear (λ q n. by p q m n (cases_eq p.asset q.asset)))
     where
       by : (p q : Span) → In p front → In q rear → (p.asset ≡ q.asset) ⊎ (p.asset ≡ q.asset → ⊥) → is_of_one_class p q ≡ true
       by p q m n (inr e) = or_left _ _ (ap not (ne_eqb p.asset q.asset e))

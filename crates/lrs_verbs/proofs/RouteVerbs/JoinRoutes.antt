@@ -10,14 +10,16 @@ use Rattle.lrs_inventory.specs.Prelude.{each_two, Name, same_name, Ground, Piece
 use Rattle.lrs_measure.specs.OrderedLists.{insert_all}
 use Rattle.lrs_element.specs.Course.{piece_count}
 use Rattle.lrs_measure.specs.Limits.{most_marks, most_pieces}
+use Rattle.lrs_measure.specs.Lists.{In}
+use Rattle.lrs_measure.proofs.Members.{any_found, all_at, all_of, two_at, In-map}
+use Rattle.lrs_measure.proofs.Filters.{filter_all}
+use Rattle.lrs_measure.proofs.Insertions.{In-insert_all, insert_all-In}
 use Rattle.lrs_element.specs.Lines.{moved_on}
 use Rattle.lrs_element.specs.Marks.{joined_marks, is_out_of_range, first_mark, last_mark}
 use Rattle.lrs_events.specs.Row.Joins.{is_of_one_class}
-use Rattle.lrs_events.proofs.LaneLists.Members.{filter_all}
 use Rattle.lrs_machine.specs.declared.answer.Cause.TheVariants as cause
 use Rattle.lrs_machine.specs.declared.command.Command.TheVariants as verb
 use Rattle.lrs_machine.specs.Machine.{refuse_if, drop_route, do_join, do_join_of}
-use Rattle.lrs_machine.proofs.Members.{In, any_found, all_at, all_of, two_at, In-map}
 use Rattle.lrs_image_sound.proofs.Fitting.{fits}
 use Rattle.lrs_image.proofs.Becoming.{HasBecome, becomes}
 use Rattle.lrs_image.proofs.Tables.{assets_in_order, routes_in_order}
@@ -27,7 +29,7 @@ use Rattle.lrs_image_laws.specs.Rewrites.{rewritten, with_routes}
 use Rattle.lrs_image_laws.proofs.Differences.{difference_rewrites, reroutes}
 use Rattle.lrs_image_laws.proofs.Joined.{joins_are_routes, joins_have_rows}
 use Rattle.lrs_image_laws.proofs.Joining.{join_makes, moves, same_state}
-use Rattle.lrs_image_laws.proofs.Listed.{In-insert_all, insert_all-In, made_two}
+use Rattle.lrs_image_laws.proofs.Listed.{made_two}
 use Rattle.lrs_image_laws.proofs.Naming.{same_either, found_in, order_stays}
 use Rattle.lrs_image_laws.proofs.Rewriting.{are_unlike, refs_at, old_spans, old_unlike}
 use Rattle.lrs_image_laws.proofs.Running.{runs_there}

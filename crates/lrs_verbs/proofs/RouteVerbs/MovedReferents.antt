@@ -7,13 +7,15 @@ use Rattle.std.specs.Ordering.{eq_by_cmp}
 use Rattle.std.specs.Cmp.Lexicographic.{nat_list_cmp_total, texts_ties}
 use Rattle.lrs_inventory.specs.Prelude.{each_two, insert_by, name_cmp, same_name, Referent, are_referents, referent_before, RouteRow, changed_refs}
 use Rattle.lrs_measure.specs.OrderedLists.{insert_all}
-use Rattle.lrs_events.proofs.LaneLists.Members.{each_two-filter}
-use Rattle.lrs_machine.proofs.Members.{In, any_found, all_at, all_of, two_at, In-map, map_found}
+use Rattle.lrs_measure.specs.Lists.{In}
+use Rattle.lrs_measure.proofs.Members.{any_found, all_at, all_of, two_at, In-map, map_found, In-filter, filter-In}
+use Rattle.lrs_measure.proofs.Filters.{each_two-filter, filter_alike}
+use Rattle.lrs_measure.proofs.Insertions.{In-insert, In-insert_all, insert_all-In}
 use Rattle.lrs_machine.proofs.Pairs.{each_two-map}
 use Rattle.lrs_image_sound.proofs.Fitting.{fits}
 use Rattle.lrs_image_laws.specs.Splits.{is_ahead}
 use Rattle.lrs_image_laws.proofs.InOrder.{is_false, each_two-insert_by, before-chain, before-comparable}
-use Rattle.lrs_image_laws.proofs.Listed.{In-filter, filter-In, In-insert, In-insert_all, insert_all-In, all-insert_all}
+use Rattle.lrs_image_laws.proofs.Listed.{all-insert_all}
 use Rattle.lrs_image_laws.proofs.Naming.{same_either}
 use Rattle.lrs_image_laws.proofs.Renaming.{own_names}
 use Rattle.lrs_image_laws.proofs.Rewriting.{are_unlike}
@@ -21,7 +23,7 @@ use Rattle.lrs_image_laws.specs.Realignments.{is_off, moved}
 use Rattle.lrs_image_laws.proofs.Realigning.{off_from, off_is}
 use Rattle.lrs_verbs.specs.RouteVerbs.Realignments.{on_from, referents_moved}
 use Rattle.lrs_verbs.specs.RouteVerbs.Splits.{refs_behind}
-use Rattle.lrs_verbs.proofs.RouteVerbs.SplitRoute.{names, filter_alike, goes_behind}
+use Rattle.lrs_verbs.proofs.RouteVerbs.SplitRoute.{names, goes_behind}
 
 -- referents of other names put among referents in order
 ordered : (xs ys : List Referent) → each_two are_unlike xs ≡ true → each_two referent_before ys ≡ true → ((x y : Referent) → In x xs → In y ys → same_name x.name y.name ≡ false)

@@ -5,16 +5,14 @@ use Rattle.std.proofs.lemmas.Bool.{not-true, and_parts, or_left, or_right, or_ca
 use Rattle.std.specs.Prelude.{◌||◌, ◌&&◌, not, nat_lt, nat_le, nat_eq, slice_range, unwrap_or}
 use Rattle.std.specs.Option.{option_map, ok_or}
 use Rattle.lrs_inventory.specs.Prelude.{each_two, Name, Ground, Piece, Mark, course_of, is_too_long, longest_route, Referent, Alignment, referent_before, Span, are_rows, end_by, Cause, Image, RouteRow, state_of, route_entry, attempt, ◌>>=◌, ◌>>◌, set_route, is_span, are_spans_of, IsSound, State, is_named}
-use Rattle.lrs_measure.specs.Lists.{is_nothing}
+use Rattle.lrs_measure.specs.Lists.{is_nothing, In}
 use Rattle.lrs_element.specs.Course.{continues, piece_count}
 use Rattle.lrs_measure.specs.Limits.{most_pieces}
-use Rattle.lrs_events.proofs.Row.Members.{all_at, all_from}
+use Rattle.lrs_measure.proofs.Members.{all_at, all_of}
 use Rattle.lrs_events.specs.RouteSpans.Realignment.{have_room_behind}
 use Rattle.lrs_machine.specs.declared.answer.Cause.TheVariants as cause
 use Rattle.lrs_machine.specs.declared.command.Command.TheVariants as verb
 use Rattle.lrs_machine.specs.Machine.{refuse_if, check_pieces, check_free, check_marks, abandon}
-use Rattle.lrs_machine.proofs.Members as members
-use Rattle.lrs_machine.proofs.Members.{all_of}
 use Rattle.lrs_image_sound.proofs.Fitting.{fits}
 use Rattle.lrs_image_laws.proofs.Rewriting.{old_spans}
 use Rattle.lrs_image_laws.specs.Realignments.{replaced}
@@ -158,7 +156,7 @@ module _ (old come new : List Ground) (from to : ℕ) (low : from ≤ to) (high 
 
   -- rows on the old course end on the new one
   pub room : (rows : List Span) → end_by (length old) rows ≡ true → have_room_behind to (from + length come) rows ≡ true
-  room rows ends = all_from (λ r. nat_le ((r.to - to) + (from + length come)) longest_route) rows (λ r m.
+  room rows ends = all_of (λ r. nat_le ((r.to - to) + (from + length come)) longest_route) rows (λ r m.
       let a = total in
       let b = longest in
       let e = leb-true r.to (length old) (all_at (λ r. nat_le r.to (length old)) r rows ends m) in
@@ -169,16 +167,16 @@ pub in_limits : (r : RouteRow) → list_all (λ q. nat_lt q.at longest_route) r.
 in_limits r = all_of (λ q. nat_lt q.at longest_route) r.route.refs (λ q m.
     let short = not-true (is_too_long r.route.course) (and_parts (not (is_nothing r.route.course)) (not (is_too_long r.route.course)) (fits r).0).1 in
     let most = ltb-false longest_route (length r.route.course) (or_parts (nat_lt most_pieces (piece_count r.route.course)) (nat_lt longest_route (length r.route.course)) short).1 in
-    let low = ltb-true q.at (length r.route.course) (members.all_at (λ (q : Referent). nat_lt q.at (length r.route.course)) q r.route.refs
+    let low = ltb-true q.at (length r.route.course) (all_at (λ (q : Referent). nat_lt q.at (length r.route.course)) q r.route.refs
     (and_parts (each_two referent_before r.route.refs) (list_all (λ (q : Referent). nat_lt q.at (length r.route.course)) r.route.refs) (fits r).2).1 m) in
     lt-ltb q.at longest_route (omega (arith, most, low)))
 
 -- the rows of a route end on it
-pub end_there : (i : Image) (r : RouteRow) → IsSound i → members.In r i.routes → end_by (length r.route.course) r.spans ≡ true
+pub end_there : (i : Image) (r : RouteRow) → IsSound i → In r i.routes → end_by (length r.route.course) r.spans ≡ true
 end_there i r s m =
-    let spans = members.all_at (λ (e : RouteRow). are_spans_of i.assets (record { course = e.route.course; rows = e.spans })) r i.routes (old_spans i s) m in
+    let spans = all_at (λ (e : RouteRow). are_spans_of i.assets (record { course = e.route.course; rows = e.spans })) r i.routes (old_spans i s) m in
     let each = (and_parts (are_rows r.spans) (list_all (is_span i.assets (length r.route.course)) r.spans) spans).1 in
-    all_from (λ q. nat_le q.to (length r.route.course)) r.spans (λ q k. (and_parts (nat_le q.to (length r.route.course)) _ (all_at (is_span i.assets (length r.route.course)) q r.spans each k)).0)
+    all_of (λ q. nat_le q.to (length r.route.course)) r.spans (λ q k. (and_parts (nat_le q.to (length r.route.course)) _ (all_at (is_span i.assets (length r.route.course)) q r.spans each k)).0)
 
 -- ---- what the verb does
 

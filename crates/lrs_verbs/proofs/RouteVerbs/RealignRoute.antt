@@ -6,13 +6,14 @@ use Rattle.std.proofs.lemmas.List.Folds.{list_any-append}
 use Rattle.std.specs.Prelude.{◌||◌, ◌&&◌, not, is_some, nat_lt, slice_get, slice_range, unwrap_or}
 use Rattle.std.specs.Option.{option_map, option_or}
 use Rattle.std.specs.Cmp.Lexicographic.{bytes_decides}
+use Rattle.lrs_measure.specs.Lists.{In}
+use Rattle.lrs_measure.proofs.Members.{any_found, any_of, all_at, two_at, In-map, map_found, In-filter, filter-In}
 use Rattle.lrs_inventory.specs.Prelude.{each_two, Name, same_name, Ground, Piece, Mark, Millimetre, course_of, expand, runs_over, meets, is_run_once, Referent, is_route, is_route_course, have_marks, are_referents, referent_before, differs, is_within, Image, RouteRow, state_of, referent_entry, referents_on, set_route, are_spans_of, route_before, IsSound, State, Makes, RouteChange, Difference, is_named, changed_refs, fits_after, route_after, entry_after, with_difference, CanDiffer, are_names_of, rerouting}
 use Rattle.lrs_element.specs.Course.{is_at}
 use Rattle.lrs_position.proofs.Index.Pieces.{across, behind}
 use Rattle.lrs_events.specs.RouteSpans.Realignment.{IsRealigned}
 use Rattle.lrs_machine.specs.declared.command.Command.TheVariants as verb
 use Rattle.lrs_machine.specs.Machine.{is_taken, do_realign, abandon}
-use Rattle.lrs_machine.proofs.Members.{In, any_found, any_of, all_at, two_at, In-map, map_found}
 use Rattle.lrs_image_sound.proofs.Fitting.{fits}
 use Rattle.lrs_image.specs.declared.change.ReferentChange.{ReferentChange}
 use Rattle.lrs_image.proofs.Becoming.{HasBecome, becomes}
@@ -23,7 +24,6 @@ use Rattle.lrs_image_laws.specs.RoutesOver.{runs_on, is_run_by}
 use Rattle.lrs_image_laws.proofs.Apart.{meet_at}
 use Rattle.lrs_image_laws.proofs.Differences.{difference_rewrites, reroutes}
 use Rattle.lrs_image_laws.proofs.InOrder.{is_false, none_found}
-use Rattle.lrs_image_laws.proofs.Listed.{In-filter, filter-In}
 use Rattle.lrs_image_laws.proofs.Naming.{found_in, only_one}
 use Rattle.lrs_image_laws.proofs.Renaming.{own_names}
 use Rattle.lrs_image_laws.proofs.Rewriting.{are_unlike, its_course, old_spans, new_order}

@@ -1,5 +1,5 @@
 -- A route becomes two.
-use Rattle.std.proofs.Common.{◌≡◌, ℕ, Bool, true, false, cond, ◌⊎◌, inl, inr, List, [], ◌∷◌, map, filter, take, drop, length, Option, Some, None, Result, Ok, Err, refl, sym, ap, subst, ◌∙◌}
+use Rattle.std.proofs.Common.{◌≡◌, ℕ, true, false, cond, ◌⊎◌, inl, inr, List, [], ◌∷◌, map, filter, take, drop, length, Option, Some, None, Result, Ok, Err, refl, sym, ap, subst, ◌∙◌}
 use Rattle.std.specs.List.{find, list_any, cons_option, AllByRecursion}
 use Rattle.std.proofs.lemmas.Bool.{false≢true, both_ways, not-true, or_right, cases_Bool}
 use Rattle.std.proofs.lemmas.List.{take-append-drop}
@@ -7,6 +7,9 @@ use Rattle.std.proofs.lemmas.List.Folds.{list_any-append}
 use Rattle.std.specs.Prelude.{◌&&◌, not, is_some, nat_lt, nat_eq, unwrap_or}
 use Rattle.std.specs.Option.{option_map, ok_or}
 use Rattle.std.specs.Cmp.Lexicographic.{bytes_decides}
+use Rattle.lrs_measure.specs.Lists.{In}
+use Rattle.lrs_measure.proofs.Members.{any_found, any_of, all_at, two_at, In-map, map_found, In-filter, filter-In}
+use Rattle.lrs_measure.proofs.Filters.{filter_alike}
 use Rattle.lrs_inventory.specs.Prelude.{each_two, Name, same_name, Piece, Mark, Millimetre, course_of, runs_over, is_too_long, IsFilled, Referent, Alignment, is_route, Cause, Image, RouteRow, state_of, route_entry, State, attempt, ◌>>◌, ◌>>=◌, set_route, contains_key, are_spans_of, route_before, IsSound, Makes, RouteChange, Difference, is_named, changed_refs, fits_after, route_after, entry_after, with_difference, CanDiffer, are_names_of, rerouting}
 use Rattle.lrs_element.specs.Course.{is_at}
 use Rattle.lrs_element.specs.Marks.{is_inner_mark, marks_to, marks_from}
@@ -14,7 +17,6 @@ use Rattle.lrs_element.proofs.LineLemmas.{KeepRules-from_none, ends_at}
 use Rattle.lrs_machine.specs.declared.answer.Cause.TheVariants as cause
 use Rattle.lrs_machine.specs.declared.command.Command.TheVariants as verb
 use Rattle.lrs_machine.specs.Machine.{refuse_if}
-use Rattle.lrs_machine.proofs.Members.{In, any_found, any_of, all_at, two_at, In-map, map_found}
 use Rattle.lrs_image_sound.proofs.Fitting.{fits}
 use Rattle.lrs_image.proofs.Becoming.{HasBecome, becomes}
 use Rattle.lrs_image_laws.specs.Differences.{KeepsFromDropped}
@@ -22,7 +24,6 @@ use Rattle.lrs_image_laws.specs.Rewrites.{rewritten, with_routes}
 use Rattle.lrs_image_laws.specs.Splits.{is_ahead, IsSplit}
 use Rattle.lrs_image_laws.proofs.Differences.{difference_rewrites, reroutes}
 use Rattle.lrs_image_laws.proofs.Halved.{parts_are_routes, parts_have_rows}
-use Rattle.lrs_image_laws.proofs.Listed.{In-filter, filter-In}
 use Rattle.lrs_image_laws.proofs.Naming.{found_in, same_either}
 use Rattle.lrs_image_laws.proofs.Renaming.{own_names}
 use Rattle.lrs_image_laws.proofs.Rewriting.{are_unlike, old_spans}
@@ -70,10 +71,6 @@ module _ (route name : Name) (at : ℕ) (i : Image) (n : ℕ) where
         (ap not (sym (inside_is_inner r at)) ∙ missing)
 
 -- ---- referents that go by their names
-
-pub filter_alike : {X : Type 0} (p q : X → Bool) (xs : List X) → ((x : X) → In x xs → p x ≡ q x) → filter p xs ≡ filter q xs
-filter_alike p q [] same = refl
-filter_alike p q (x ∷ xs) same = λ j. cond (same x (inl refl) j) (x ∷ filter_alike p q xs (λ y m. same y (inr m)) j) (filter_alike p q xs (λ y m. same y (inr m)) j)
 
 module _ (r : RouteRow) (at : ℕ) where
   abbrev named : Referent → Name

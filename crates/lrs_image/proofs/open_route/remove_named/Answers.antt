@@ -1,10 +1,10 @@
 use Rattle.std.proofs.Common.{ap, ◌∙◌, not}
 use Rattle.lrs_measure.specs.Lists.{each_two}
 use Rattle.lrs_measure.specs.Texts.{same_name}
+use Rattle.lrs_measure.proofs.Filters.{each_two-filter}
 use Rattle.lrs_ordered.proofs.Keys.{other_names}
 use Rattle.lrs_position.specs.declared.route.Referent.{Referent}
 use Rattle.lrs_position.specs.Routes.{referent_before}
-use Rattle.lrs_events.proofs.Row.Sorted.{each_two-filter}
 use Rattle.lrs_image.proofs.Named.{others-step, others-end}
 use Rattle.lrs_image.proofs.open_route.remove_named.Goals as goal
 

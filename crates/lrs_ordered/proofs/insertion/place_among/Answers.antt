@@ -1,8 +1,9 @@
 use Rattle.std.proofs.Common.{refl, rules}
 use Rattle.std.specs.Prelude.{not}
 use Rattle.std.proofs.lemmas.List.Sorted.{IsPartitionPoint-from_clause}
+use Rattle.lrs_measure.proofs.Insertions.{placed}
 use Rattle.lrs_ordered.specs.SearchedLists.{first_passes}
-use Rattle.lrs_ordered.proofs.Places.{parted, placed, placed_between}
+use Rattle.lrs_ordered.proofs.Places.{parted, placed_between}
 use Rattle.lrs_ordered.proofs.Joins.{firsts_parted}
 use Rattle.lrs_ordered.proofs.insertion.place_among.Goals as goal
 

@@ -1,6 +1,6 @@
 use Rattle.std.proofs.Common.{[], ◌∷◌, ◌++◌, insert, append-nil, sym, ap, ◌∙◌}
 use Rattle.std.proofs.lemmas.List.Edits.{insert_end}
-use Rattle.lrs_ordered.proofs.Places.{insert_by-place}
+use Rattle.lrs_measure.proofs.Insertions.{insert_by-place}
 use Rattle.lrs_ordered.proofs.insertion.put_in_chunk.Goals as goal
 use Rattle.lrs_ordered.proofs.insertion.put_in_chunk.Goals.{then-is_last+then-at-count, else-is_last}
 

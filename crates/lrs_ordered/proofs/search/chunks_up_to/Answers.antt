@@ -2,8 +2,9 @@ use Rattle.std.proofs.Common.{refl, rules}
 use Rattle.std.specs.Prelude.{not}
 use Rattle.std.specs.Ordering.{is_gt}
 use Rattle.std.proofs.lemmas.List.Sorted.{IsPartitionPoint-from_clause}
+use Rattle.lrs_measure.proofs.Insertions.{placed}
 use Rattle.lrs_ordered.specs.SearchedLists.{first_passes, joined}
-use Rattle.lrs_ordered.proofs.Places.{parted, placed, placed_between}
+use Rattle.lrs_ordered.proofs.Places.{parted, placed_between}
 use Rattle.lrs_ordered.proofs.Joins.{firsts_parted}
 use Rattle.lrs_ordered.proofs.Finds.{parted_above}
 use Rattle.lrs_ordered.proofs.search.chunks_up_to.Goals as goal

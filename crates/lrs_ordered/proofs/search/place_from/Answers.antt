@@ -2,7 +2,8 @@ use Rattle.std.proofs.Common.{rules}
 use Rattle.std.specs.Prelude.{not}
 use Rattle.std.specs.Ordering.{is_ge}
 use Rattle.std.proofs.lemmas.List.Sorted.{IsPartitionPoint-from_clause}
-use Rattle.lrs_ordered.proofs.Places.{parted, placed}
+use Rattle.lrs_measure.proofs.Insertions.{placed}
+use Rattle.lrs_ordered.proofs.Places.{parted}
 use Rattle.lrs_ordered.proofs.Finds.{parted_from}
 use Rattle.lrs_ordered.proofs.search.place_from.Goals as goal
 

@@ -2,7 +2,8 @@ use Rattle.std.proofs.Common.{rules}
 use Rattle.std.specs.Prelude.{not}
 use Rattle.std.specs.Ordering.{is_ge}
 use Rattle.std.proofs.lemmas.List.Sorted.{IsPartitionPoint-from_clause}
-use Rattle.lrs_ordered.proofs.Places.{parted, placed}
+use Rattle.lrs_measure.proofs.Insertions.{placed}
+use Rattle.lrs_ordered.proofs.Places.{parted}
 use Rattle.lrs_report.proofs.Keyed.{below_first}
 use Rattle.lrs_report.proofs.known_rows.rows_below.Goals as goal
 

@@ -4,7 +4,8 @@ use Rattle.std.specs.Ordering.{is_ge}
 use Rattle.std.proofs.lemmas.List.Sorted.{IsPartitionPoint-from_clause}
 use Rattle.lrs_machine.specs.declared.total.Total.{Total}
 use Rattle.lrs_measure.specs.KeyOrder.{name_after}
-use Rattle.lrs_ordered.proofs.Places.{parted, placed}
+use Rattle.lrs_measure.proofs.Insertions.{placed}
+use Rattle.lrs_ordered.proofs.Places.{parted}
 use Rattle.lrs_report.specs.ListTally.{class_order, total_before}
 use Rattle.lrs_report.proofs.Keyed.{below_first}
 use Rattle.lrs_report.proofs.list_tally.totals_below.Goals as goal

@@ -1,7 +1,7 @@
 use Rattle.std.proofs.Common.{◌∙◌, sym, ap, insert}
 use Rattle.lrs_measure.specs.OrderedLists.{place_by}
+use Rattle.lrs_measure.proofs.Insertions.{insert_by-place}
 use Rattle.lrs_events.specs.LaneLists.Order.{row_before}
-use Rattle.lrs_events.proofs.LaneLists.Inserted.{insert_by-place}
 use Rattle.lrs_events.proofs.lanes.sorted_rows.insert_row.Goals as goal
 
 pub returns-clause-items : goal.returns-clause-items

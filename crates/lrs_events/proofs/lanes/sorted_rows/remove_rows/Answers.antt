@@ -1,8 +1,8 @@
 use Rattle.std.proofs.Common.{◌∙◌, ap, not, arith}
 use Rattle.lrs_measure.specs.Lists.{each_two}
+use Rattle.lrs_measure.proofs.Filters.{each_two-filter}
 use Rattle.lrs_events.specs.Changes.{same_row}
 use Rattle.lrs_events.specs.LaneLists.Order.{row_before}
-use Rattle.lrs_events.proofs.LaneLists.Members.{each_two-filter}
 use Rattle.lrs_events.proofs.LaneLists.Inserted.{without_more, without_done}
 use Rattle.lrs_events.proofs.lanes.sorted_rows.remove_rows.Goals as goal
 

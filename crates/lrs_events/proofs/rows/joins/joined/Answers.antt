@@ -1,13 +1,13 @@
 use Rattle.std.proofs.Common.{subst, sym}
-use Rattle.lrs_events.specs.Row.Order.{In}
-use Rattle.lrs_events.proofs.Row.Places.{In-get}
+use Rattle.lrs_measure.specs.Lists.{In}
+use Rattle.lrs_measure.proofs.Places.{member_at}
 use Rattle.lrs_events.proofs.Row.Seams.{two_from, moved_free, joined_more, IsJoined, joined_whole}
 use Rattle.lrs_events.proofs.rows.joins.joined.Goals as goal
 
 pub push_seam-requires-clause-free : goal.push_seam-requires-clause-free
 push_seam-requires-clause-free c =
     let t = two_from c.args.shift c.args.first.now c.args.second.now c.requires.first_rows c.requires.second_rows c.requires.ends c.requires.room c.requires.one_class in
-    moved_free c.args.shift c.args.first.now c.args.second.now c.row-item.result t (subst (λ z. In z c.args.second.now) (sym c.row-item.is) (In-get c.args.second.now c.loop-row.row-index c.row-item.result c.loop-row-test.true))
+    moved_free c.args.shift c.args.first.now c.args.second.now c.row-item.result t (subst (λ z. In z c.args.second.now) (sym c.row-item.is) (member_at c.args.second.now c.loop-row.row-index c.row-item.result c.loop-row-test.true))
 
 pub loop-row-preserved : goal.loop-row-preserved
 loop-row-preserved c =

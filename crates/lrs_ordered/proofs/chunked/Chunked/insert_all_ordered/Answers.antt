@@ -1,7 +1,7 @@
 use Rattle.std.proofs.Common.{sym, ap, ◌∙◌}
 use Rattle.lrs_measure.specs.Lists.{each_two}
 use Rattle.lrs_measure.specs.OrderedLists.{insert_all}
-use Rattle.lrs_ordered.proofs.Places.{order_of_first}
+use Rattle.lrs_measure.proofs.Insertions.{order_of_first}
 use Rattle.lrs_ordered.proofs.chunked.Chunked.insert_all_ordered.Goals as goal
 
 pub insert_ordered-requires-clause-order : goal.insert_ordered-requires-clause-order

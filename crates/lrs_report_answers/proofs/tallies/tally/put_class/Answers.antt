@@ -1,6 +1,6 @@
 use Rattle.std.proofs.Common.{◌∙◌, sym, insert}
 use Rattle.lrs_measure.specs.OrderedLists.{place_by}
-use Rattle.lrs_events.proofs.LaneLists.Inserted.{insert_by-place}
+use Rattle.lrs_measure.proofs.Insertions.{insert_by-place}
 use Rattle.lrs_report_answers.specs.Tally.Counts.{no_count, count_before}
 use Rattle.lrs_report_answers.proofs.tallies.tally.put_class.Goals as goal
 
