@@ -11,7 +11,8 @@ use Rattle.lrs_machine.specs.declared.table.Table.{Table}
 use Rattle.lrs_desk.specs.DeskView.{DeskView}
 use Rattle.lrs_machine.specs.declared.stops.fault.Fault.TheVariants as stop
 use Rattle.lrs_sheet_records.specs.declared.sheet.Sheet.{Sheet}
-use Rattle.lrs_sheet.specs.Sheets.{BreaksOff, BreaksOffBehind, GoesAlong, IsAfterCommands, LeavesDesk, Runs, StandsForEither, records_together}
+use Rattle.lrs_sheet.specs.Runs.{IsWholeRun}
+use Rattle.lrs_sheet.specs.Sheets.{BreaksOffBehind, GoesAlong, LeavesDesk, StandsForEither, records_together}
 use Rattle.lrs_sheet_records.specs.declared.fault.SheetFault.{SheetFault}
 use Rattle.lrs_sheet_records.specs.declared.fault.SheetFault.TheVariants as fault
 use Rattle.lrs_sheet.specs.declared.reply.Tally.{Tally}
@@ -108,18 +109,10 @@ module _ {K : Type 0} (holds : K → Result Image Table → Type 0) (old new : D
 
   -- a sheet that ended in a fault, by what its run says
   pub sheet_left : (sheet : Sheet) (input none lines : Text) (ended : SheetFault) (result : Result Tally SheetFault) → result ≡ Err ended → none ≡ []
-      → IsAfterCommands old.limits (state_of old.image) (state_of new.image) → Runs sheet 1 old.limits input (state_of old.image) (state_of new.image) (Some none) (Some lines) result → LeavesDesk holds old new result
-      → (result ≡ Err (fault.Desk stop.Keep) → (c : Result Image Table) → holds new.keeper c → BreaksOff sheet 1 old.limits input (state_of old.image) (state_of new.image) (Some none) (Some lines) c)
-      → (result ≡ Err (fault.Desk stop.Keep) → new.is_ahead ≡ false) → SheetLeft holds sheet input (why.Sheet ended) old new
-  sheet_left sheet input none lines ended result is empty commands runs desk broken still = record {
+      → IsWholeRun holds sheet 1 (Some input) old new (Some none) (Some lines) result → SheetLeft holds sheet input (why.Sheet ended) old new
+  sheet_left sheet input none lines ended result is empty run = record {
     ended = ended;
     is = refl;
     lines = lines;
-    left = record {
-      commands = commands;
-      runs = coe 0 1 (k. Runs sheet 1 old.limits input (state_of old.image) (state_of new.image) (Some (empty k)) (Some lines) (is k)) runs;
-      desk = subst (LeavesDesk holds old new) is desk;
-      broken = λ e c may. coe 0 1 (k. BreaksOff sheet 1 old.limits input (state_of old.image) (state_of new.image) (Some (empty k)) (Some lines) c) (broken (is ∙ e) c may);
-      alone = λ e one. still (is ∙ e);
-    };
+    left = coe 0 1 (k. IsWholeRun holds sheet 1 (Some input) old new (Some (empty k)) (Some lines) (is k)) run;
   }

@@ -79,10 +79,6 @@ sheet_gave passed sheet together limits input before after old new (Err fault.Wr
 sheet_gave passed sheet together limits input before after old new (Err fault.Memory) d h = absurd (false≢true d)
 sheet_gave passed sheet together limits input before after old new (Err (fault.Desk e)) d h = absurd (false≢true d)
 
-pub not_begun : (must_reopen : Bool) (before after : State) (old new : Option Text) (ended : Result Tally SheetFault) → IsNotBegun must_reopen before after old new ended → after ≡ before
-not_begun must_reopen before after old new (Ok tally) h = absurd h
-not_begun must_reopen before after old new (Err e) h = h.1
-
 -- a sheet that is not begun is not decided
 pub undecided : (must_reopen : Bool) (before after : State) (old new : Option Text) (ended : Result Tally SheetFault) → is_decided ended ≡ true → IsNotBegun must_reopen before after old new ended → ⊥
 undecided must_reopen before after old new (Ok tally) d h = h

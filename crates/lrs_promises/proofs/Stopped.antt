@@ -28,8 +28,8 @@ module _ {K : Type 0} (holds : K → Result Image Table → Type 0) where
   Ended next fault old new = Left holds next fault old new ⊎ ((fault ≡ why.Memory) × (text : Text) × Did holds next text old new)
 
   left_after : (next : Call) (fault : CallFault) (old new : DeskView K) → Left holds next fault old new → IsAfterCommands old.limits (state_of old.image) (state_of new.image)
-  left_after (call.Edits bytes) fault old new h = h.left.commands
-  left_after (call.Survey bytes) fault old new h = h.left.commands
+  left_after (call.Edits bytes) fault old new h = h.left.left
+  left_after (call.Survey bytes) fault old new h = h.left.left
   left_after (call.Request bytes) fault old new h = h.left.commands
 
   ended_after : (next : Call) (fault : CallFault) (old new : DeskView K) → Ended next fault old new → IsAfterCommands old.limits (state_of old.image) (state_of new.image)

@@ -25,6 +25,7 @@ use Rattle.lrs_image.specs.KeeperCalls.{HoldsOnly}
 use Rattle.lrs_desk.specs.DeskView.{DeskView}
 use Rattle.lrs_sheet_records.specs.declared.sheet.Sheet.{Sheet}
 use Rattle.lrs_sheet_records.specs.declared.sheet.Sheet.TheVariants as sheet
+use Rattle.lrs_sheet.specs.Runs.{IsWholeRun}
 use Rattle.lrs_sheet.specs.Sheets.{IsAfterCommands}
 use Rattle.lrs_sheet_records.specs.declared.fault.SheetFault.{SheetFault}
 use Rattle.lrs_web.specs.declared.request.WebFault.{WebFault}
@@ -33,7 +34,7 @@ use Rattle.lrs_promises.specs.declared.calls.Call.TheVariants as call
 use Rattle.lrs_promises.specs.declared.calls.CallFault.{CallFault}
 use Rattle.lrs_promises.specs.declared.calls.CallFault.TheVariants as why
 use Rattle.lrs_promises.specs.Calls.{AllGive, Did, DidAll}
-use Rattle.lrs_promises.specs.Safe.{RequestLeaves, SheetLeaves}
+use Rattle.lrs_promises.specs.Safe.{RequestLeaves}
 
 -- This is so of the state before the first of the commands, and after each.
 abbrev pub Throughout : (State → Type 0) → Limits → List Record → State → Type 0
@@ -103,7 +104,7 @@ pub record SheetLeft {K : Type 0} (holds : K → Result Image Table → Type 0) 
   pub ended : SheetFault
   pub is : fault ≡ why.Sheet ended
   pub lines : Text
-  pub left : SheetLeaves holds kind 1 (Some input) (Some []) (Some lines) old new (Err ended)
+  pub left : IsWholeRun holds kind 1 (Some input) old new (Some []) (Some lines) (Err ended)
 
 -- A request ended in this fault, or with a 503, and left what a request leaves. Its reply is lost.
 pub record RequestLeft {K : Type 0} (holds : K → Result Image Table → Type 0) (input : Text) (fault : CallFault) (old new : DeskView K) : Type 0 where

@@ -14,11 +14,7 @@ use Rattle.lrs_desk.specs.Desk.{HasBroken, IsUnchanged}
 use Rattle.lrs_desk.specs.DeskView.{DeskView}
 use Rattle.lrs_machine.specs.declared.stops.fault.Fault.{Fault}
 use Rattle.lrs_machine.specs.declared.stops.fault.Fault.TheVariants as stop
-use Rattle.lrs_sheet_records.specs.declared.sheet.Sheet.{Sheet}
-use Rattle.lrs_sheet.specs.Sheets.{BreaksOff, GoesAlong, IsAfterCommands, LeavesDesk, MustReopen, Runs, StandsForEither}
-use Rattle.lrs_sheet_records.specs.declared.fault.SheetFault.{SheetFault}
-use Rattle.lrs_sheet_records.specs.declared.fault.SheetFault.TheVariants as fault
-use Rattle.lrs_sheet.specs.declared.reply.Tally.{Tally}
+use Rattle.lrs_sheet.specs.Sheets.{GoesAlong, IsAfterCommands, MustReopen, StandsForEither}
 use Rattle.lrs_web_requests.specs.Request.{Asked}
 use Rattle.lrs_web_requests.specs.Text.{Answer as Reply}
 use Rattle.lrs_web.specs.RequestAnswers.{Responds, Serves, Writes}
@@ -56,22 +52,6 @@ pub record ActLeaves {K : Type 0} (holds : K → Result Image Table → Type 0) 
   pub reopen : (result ≡ Err stop.MustReopen) ↔ (old.must_reopen ≡ true)
   pub stays : result ≡ Err stop.MustReopen → IsUnchanged holds old new
   pub limits : new.limits ≡ old.limits
-
--- ---- sheets
-
--- What a sheet leaves of a desk, however it ends, from what the reader tells that it has and what the writer tells that it was given.
-pub record SheetLeaves {K : Type 0} (holds : K → Result Image Table → Type 0) (sheet : Sheet) (together : ℕ) (input written text : Option Text) (old new : DeskView K) (result : Result Tally SheetFault) : Type 0 where
-  -- some commands were done in order
-  pub commands : IsAfterCommands old.limits (state_of old.image) (state_of new.image)
-  -- where the reader tells its bytes, these are commands of its first records, as far as this end allows
-  pub runs : IfSome input (λ bytes. Runs sheet together old.limits bytes (state_of old.image) (state_of new.image) written text result)
-  -- the keeper goes along, unless a commit failed: then the desk asks to be opened again
-  pub desk : LeavesDesk holds old new result
-  -- an opening then finds the state of the records that have lines, or that after all in flight
-  pub broken : result ≡ Err (fault.Desk stop.Keep) → (c : Result Image Table) → holds new.keeper c
-      → IfSome input (λ bytes. BreaksOff sheet together old.limits bytes (state_of old.image) (state_of new.image) written text c)
-  -- if records are done one at a time, the image is not ahead of that, and questions are answered
-  pub alone : result ≡ Err (fault.Desk stop.Keep) → together ≡ 1 → new.is_ahead ≡ false
 
 -- ---- requests
 

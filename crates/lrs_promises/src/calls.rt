@@ -1,14 +1,15 @@
 //! Calls over bytes that are there as a whole.
 
 ghost use Rattle.std.specs.Prelude.{IfErr, IfOk};
-ghost use Rattle.lrs_sheet_records.specs.declared.sheet.Sheet.TheVariants as kind;
+ghost use Rattle.lrs_sheet.specs.Runs.{IsWholeRun};
 ghost use Rattle.lrs_promises.specs.Calls.{Did, DidRequest, DidSheet};
 ghost use Rattle.lrs_promises.specs.Headline.{Left, RequestLeft, SheetLeft};
 
 use lrs_desk::{Desk, Keeper};
-use lrs_sheet::{SheetFault, run_edits, run_survey};
+use lrs_sheet::{Sheet, SheetFault, Tally, run_edits, run_survey};
 use lrs_web::{WebFault, serve_one};
 use std::alloc::{AllocFailed, Global};
+use std::io::{Read, Write};
 
 /// A call, with the bytes that it reads.
 #[derive(Drop)]
@@ -45,38 +46,37 @@ impl<T: Drop> From<AllocFailed<T>> for CallFault {
     }
 }
 
-/// Runs an edit sheet, and gives its lines.
-fn do_edits<K: Keeper>(
+/// Runs a sheet of this kind, one record after the other.
+fn run_one_by_one<R: Read + Drop, W: Write, K: Keeper>(
     alloc: Global,
-    bytes: &[u8],
+    kind: Sheet,
+    reader: R,
+    writer: &mut W,
     desk: &mut Desk<K>,
-) -> Result<Vec<u8>, CallFault>
-    ensures done { IfOk result (λ lines. DidSheet K.may_hold kind.Edits bytes.now lines.items
-        desk.old desk.new) }
-    ensures left { IfErr result (λ fault. SheetLeft K.may_hold kind.Edits bytes.now fault
-        desk.old desk.new) }
+) -> Result<Tally, SheetFault>
+    ensures { IsWholeRun K.may_hold kind 1 (R.remaining reader) desk.old desk.new
+        (W.contents writer.old) (W.contents writer.new) result }
 {
-    let mut lines = Vec::new(alloc);
-    match run_edits(alloc, bytes, &mut lines, desk) {
-        Ok(_) => Ok(lines),
-        Err(SheetFault::BadHeader | SheetFault::BadCsv) => Ok(lines),
-        Err(fault) => Err(CallFault::Sheet(fault)),
+    match kind {
+        Sheet::Edits => run_edits(alloc, reader, writer, desk),
+        Sheet::Survey => run_survey(alloc, reader, writer, desk),
     }
 }
 
-/// Runs a survey, and gives its lines.
-fn do_survey<K: Keeper>(
+/// Runs a sheet, and gives its lines.
+fn do_sheet<K: Keeper>(
     alloc: Global,
+    kind: Sheet,
     bytes: &[u8],
     desk: &mut Desk<K>,
 ) -> Result<Vec<u8>, CallFault>
-    ensures done { IfOk result (λ lines. DidSheet K.may_hold kind.Survey bytes.now lines.items
+    ensures done { IfOk result (λ lines. DidSheet K.may_hold kind bytes.now lines.items
         desk.old desk.new) }
-    ensures left { IfErr result (λ fault. SheetLeft K.may_hold kind.Survey bytes.now fault
+    ensures left { IfErr result (λ fault. SheetLeft K.may_hold kind bytes.now fault
         desk.old desk.new) }
 {
     let mut lines = Vec::new(alloc);
-    match run_survey(alloc, bytes, &mut lines, desk) {
+    match run_one_by_one(alloc, kind, bytes, &mut lines, desk) {
         Ok(_) => Ok(lines),
         Err(SheetFault::BadHeader | SheetFault::BadCsv) => Ok(lines),
         Err(fault) => Err(CallFault::Sheet(fault)),
@@ -113,8 +113,8 @@ pub(crate) fn do_call<K: Keeper>(
     ensures left { IfErr result (λ fault. Left K.may_hold call.now fault desk.old desk.new) }
 {
     match call {
-        Call::Edits(bytes) => do_edits(alloc, bytes.as_slice(), desk),
-        Call::Survey(bytes) => do_survey(alloc, bytes.as_slice(), desk),
+        Call::Edits(bytes) => do_sheet(alloc, Sheet::Edits, bytes.as_slice(), desk),
+        Call::Survey(bytes) => do_sheet(alloc, Sheet::Survey, bytes.as_slice(), desk),
         Call::Request(bytes) => do_request(alloc, bytes.as_slice(), desk),
     }
 }

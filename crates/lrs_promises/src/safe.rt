@@ -1,7 +1,8 @@
 //! What each call leaves, by what it answers.
 
 ghost use Rattle.std.specs.Prelude.{◌≤◌};
-ghost use Rattle.lrs_promises.specs.Safe.{ActLeaves, RequestLeaves, SheetLeaves};
+ghost use Rattle.lrs_sheet.specs.Runs.{IsWholeRun};
+ghost use Rattle.lrs_promises.specs.Safe.{ActLeaves, RequestLeaves};
 
 use lrs_desk::{Answer, Command, Desk, Fault, Keeper, Key};
 use lrs_sheet::{Sheet, SheetFault, Tally, run_sheet};
@@ -35,8 +36,8 @@ pub fn sheet<R: Read + Drop, W: Write, K: Keeper>(
     desk: &mut Desk<K>,
 ) -> Result<Tally, SheetFault>
     requires together { 1 ≤ together }
-    ensures { SheetLeaves K.may_hold sheet together (R.remaining reader) (W.contents writer.old)
-        (W.contents writer.new) desk.old desk.new result }
+    ensures { IsWholeRun K.may_hold sheet together (R.remaining reader) desk.old desk.new
+        (W.contents writer.old) (W.contents writer.new) result }
 {
     run_sheet(alloc, sheet, together, reader, writer, desk)
 }

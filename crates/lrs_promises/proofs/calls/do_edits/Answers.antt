@@ -1,9 +1,0 @@
-use Rattle.lrs_sheet_records.specs.declared.sheet.Sheet.TheVariants.{Edits}
-use Rattle.lrs_promises.proofs.Amid.{sheet_left}
-use Rattle.lrs_promises.proofs.calls.do_edits.Goals as goal
-
-pub returns-in-Err-clause-left : goal.returns-in-Err-clause-left
-returns-in-Err-clause-left g c =
-    let e = c.run_edits.ensures in
-    sheet_left g.K.Holder.may_hold c.args.desk.now c.run_edits.new.desk Edits c.args.bytes.now c.new-lines.result.items c.run_edits.new.writer.items c.in-Err.fault c.run_edits.result c.in-Err.is
-    c.new-lines.ensures.items e.left e.runs e.desk e.broken e.still
