@@ -100,5 +100,5 @@ told_text (told.Totals totals) = totals_text totals
 told_text (told.Found rows) = found_text rows
 told_text (told.Where w) = whereabouts_text w
 told_text (told.Lengths lengths) = lengths_text lengths
-told_text (told.Listing l of) = listing_text of.now l
+told_text (told.Listing l inventory) = listing_text inventory.now l
 told_text (told.Health edits) = []

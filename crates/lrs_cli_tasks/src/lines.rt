@@ -171,11 +171,15 @@ fn write_whereabouts<W: Write>(writer: &mut W, found: &Whereabouts) -> io::Resul
 }
 
 /// Writes a list of an inventory: a header, and a line for each entry; of the log, an edit sheet.
-fn write_listing<W: Write>(writer: &mut W, of: &Inventory, listing: &Listing) -> io::Result<()>
+fn write_listing<W: Write>(
+    writer: &mut W,
+    inventory: &Inventory,
+    listing: &Listing,
+) -> io::Result<()>
     ensures { OnOk result (Appends (W.contents writer.old) (W.contents writer.new)
-        (listing_text of.now listing.now)) }
+        (listing_text inventory.now listing.now)) }
 {
-    let kept = of.kept();
+    let kept = inventory.kept();
     match listing {
         Listing::Routes => write_routes(writer, kept),
         Listing::Links => write_links(writer, kept),
@@ -217,7 +221,7 @@ pub(crate) fn write_told<W: Write>(writer: &mut W, told: Told<'_>) -> io::Result
         Told::Found(rows) => write_found(writer, rows.as_slice()),
         Told::Where(found) => write_whereabouts(writer, &found),
         Told::Lengths(rows) => write_lengths(writer, rows.as_slice()),
-        Told::Listing { listing, of } => write_listing(writer, of, &listing),
+        Told::Listing { listing, inventory } => write_listing(writer, inventory, &listing),
         // No command asks for one route or for the health.
         Told::Route(_) | Told::Health(_) => Ok(()),
     }

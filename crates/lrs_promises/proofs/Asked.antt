@@ -194,10 +194,10 @@ module _ (i : Image) (query : Text) (answer : Answer) (served : answer.status �
   found_said (Err fault) None rows is shows = shows ∙ ap refusal (same_err fault asset_missing is)
   found_said (Err fault) (Some a) rows memory shows = absurd (lacks_memory fault memory shows)
 
-  listed_said : (said : Result Told AskFault) (l : Listing) (o : Option Missing) → Tells (UnlessMissing o (λ result. MatchResult result (λ of. of.now ≡ i) (λ fault. ⊥))) (told.Listing l) said → IsReplyTo said answer
+  listed_said : (said : Result Told AskFault) (l : Listing) (o : Option Missing) → Tells (UnlessMissing o (λ result. MatchResult result (λ inventory. inventory.now ≡ i) (λ fault. ⊥))) (told.Listing l) said → IsReplyTo said answer
       → answer ≡ list_reply o (listing_answer i l)
-  listed_said (Ok t) l None (of, same, is) shows = subst (λ u. ShowsTold u answer) is shows ∙ ap (λ (j : Image). listing_answer j l) same
-  listed_said (Ok t) l (Some what) (of, never, is) shows = absurd (ok_is_not_err of (asked.Missing what) never)
+  listed_said (Ok t) l None (inventory, same, is) shows = subst (λ u. ShowsTold u answer) is shows ∙ ap (λ (j : Image). listing_answer j l) same
+  listed_said (Ok t) l (Some what) (inventory, never, is) shows = absurd (ok_is_not_err inventory (asked.Missing what) never)
   listed_said (Err fault) l None never shows = absurd never
   listed_said (Err fault) l (Some what) is shows = shows ∙ ap refusal (same_err fault (asked.Missing what) is)
 

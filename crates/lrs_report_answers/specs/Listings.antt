@@ -31,7 +31,7 @@ missing_of i _ = None
 
 -- The answer is the inventory that is listed, or what is missing.
 abbrev pub IsListing : Image → Listing → Result (Bor Image) AskFault → Type 0
-IsListing i l = UnlessMissing (missing_of i l) (λ result. MatchResult result (λ of. of.now ≡ i) (λ fault. ⊥))
+IsListing i l = UnlessMissing (missing_of i l) (λ result. MatchResult result (λ inventory. inventory.now ≡ i) (λ fault. ⊥))
 
 -- The answer is the lengths of values on the route of a name, or on all; or the route is missing.
 abbrev pub AreLengthsOf : Image → Option Name → Result (List ValueLength) AskFault → Type 0

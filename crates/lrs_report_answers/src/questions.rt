@@ -230,8 +230,8 @@ fn tell_listing<'a>(inventory: &'a Inventory, listing: Listing) -> Result<Told<'
     ensures answer { Tells (IsListing inventory.now listing) (told.Listing listing) result }
     ensures never { result ≡ Err AskFault.MustReopen → ⊥ }
 {
-    let of = listed(inventory, &listing)?;
-    Ok(Told::Listing { listing, of })
+    let inventory = listed(inventory, &listing)?;
+    Ok(Told::Listing { listing, inventory })
 }
 
 /// Answers a question of any kind. `counts` are those of the inventory.

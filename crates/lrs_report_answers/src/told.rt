@@ -52,7 +52,7 @@ pub enum Told<'a> {
     /// What is listed of this inventory, which has all that the listing names. Each entry is made where it is written.
     Listing {
         listing: Listing,
-        of: &'a Inventory,
+        inventory: &'a Inventory,
     },
     /// How many edits were accepted.
     Health(u64),

@@ -25,7 +25,7 @@ ShowsTold (told.Totals totals) answer = answer ≡ json_answer 200 (totals_data 
 ShowsTold (told.Found rows) answer = answer ≡ json_answer 200 (found_data rows)
 ShowsTold (told.Where w) answer = answer ≡ json_answer 200 (whereabouts_data w)
 ShowsTold (told.Lengths lengths) answer = answer ≡ json_answer 200 (lengths_data lengths)
-ShowsTold (told.Listing l of) answer = answer ≡ listing_answer of.now l
+ShowsTold (told.Listing l inventory) answer = answer ≡ listing_answer inventory.now l
 ShowsTold (told.Health edits) answer = answer ≡ json_answer 200 (health_data edits)
 
 -- What is told is shown, or why nothing is told.

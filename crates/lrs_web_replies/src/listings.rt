@@ -361,12 +361,12 @@ fn log_bytes(alloc: Global, kept: &KeptImage, from: u64) -> Result<Vec<u8>, Allo
 /// When memory runs out.
 pub(crate) fn listing_reply(
     alloc: Global,
-    of: &Inventory,
+    inventory: &Inventory,
     listing: &Listing,
 ) -> Result<Response, AllocError>
-    ensures { IfOk result (λ reply. answer_of reply ≡ listing_answer of.now listing.now) }
+    ensures { IfOk result (λ reply. answer_of reply ≡ listing_answer inventory.now listing.now) }
 {
-    let kept = of.kept();
+    let kept = inventory.kept();
     match listing {
         Listing::Routes => Ok(found_reply(routes_json(alloc, kept)?)),
         Listing::Links => Ok(found_reply(links_json(alloc, kept)?)),

@@ -103,7 +103,7 @@ fn told_reply(alloc: Global, told: Told<'_>) -> Result<Response, AllocError>
         Told::Found(rows) => Ok(found_reply(found_json(alloc, rows.as_slice())?)),
         Told::Where(found) => Ok(found_reply(whereabouts_json(alloc, &found)?)),
         Told::Lengths(rows) => Ok(found_reply(lengths_json(alloc, rows.as_slice())?)),
-        Told::Listing { listing, of } => listing_reply(alloc, of, &listing),
+        Told::Listing { listing, inventory } => listing_reply(alloc, inventory, &listing),
         Told::Health(edits) => Ok(found_reply(health_json(alloc, edits)?)),
     }
 }
