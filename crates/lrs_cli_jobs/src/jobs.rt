@@ -6,7 +6,7 @@ ghost use Rattle.lrs_cli_jobs.specs.Jobs.{EndsInFile, EndsInMemory, EndsJob, End
 
 use crate::desk::{open_desk, open_desk_to_look};
 use crate::service::do_service;
-use lrs_cli_sheets::{Pace, Shown, do_audit, do_check, do_questions, do_records};
+use lrs_cli_sheets::{Pace, ProgressDisplay, do_audit, do_check, do_questions, do_records};
 use lrs_cli_tasks::{
     Ending, ProgramFault, Task, Work, do_page, do_question, is_in_memory, open_in_memory, task_of,
 };
@@ -28,7 +28,7 @@ fn do_work<R: Runtime<A = Global> + Net, K: Keeper>(
     desk: &mut Desk<K>,
     work: Work<'_>,
     of_file: Pace,
-    shown: Shown,
+    shown: ProgressDisplay,
 ) -> Ending
     requires behind { desk.old.is_ahead ≡ false }
     ensures { HasWorked K.may_hold work.entry desk.old desk.new result }
@@ -49,7 +49,11 @@ fn do_work<R: Runtime<A = Global> + Net, K: Keeper>(
 }
 
 // Does work in a fresh inventory in memory.
-fn do_in_memory<R: Runtime<A = Global> + Net>(rt: &R, work: Work<'_>, shown: Shown) -> Ending
+fn do_in_memory<R: Runtime<A = Global> + Net>(
+    rt: &R,
+    work: Work<'_>,
+    shown: ProgressDisplay,
+) -> Ending
     ensures { EndsInMemory ⟦<Plain as Holder>⟧.may_hold work.entry result }
 {
     match open_in_memory(rt.alloc()) {
@@ -63,8 +67,8 @@ fn do_in_memory<R: Runtime<A = Global> + Net>(rt: &R, work: Work<'_>, shown: Sho
 }
 
 // Says on a terminal that a file is opened, where it is so long that this takes a while.
-fn tell_opening(rt: &HostRuntime, path: &str, shown: Shown) -> bool {
-    if shown == Shown::Nowhere {
+fn tell_opening(rt: &HostRuntime, path: &str, shown: ProgressDisplay) -> bool {
+    if shown == ProgressDisplay::Nowhere {
         return false;
     }
     match fs::metadata(rt, path) {
@@ -93,7 +97,7 @@ fn do_and_close<F: Files>(
     files: &F,
     mut desk: Desk<F::Kept>,
     work: Work<'_>,
-    shown: Shown,
+    shown: ProgressDisplay,
 ) -> Ending
     requires behind { desk.is_ahead ≡ false }
     ensures { (after : DeskView F.Kept) × HasWorked F.Kept.may_hold work.entry desk after result }
@@ -111,7 +115,7 @@ fn do_with_log<F: Files>(
     path: &str,
     new_has_sums: bool,
     work: Work<'_>,
-    shown: Shown,
+    shown: ProgressDisplay,
 ) -> Ending
     ensures { EndsWithLog F.Kept.may_hold F.has_opened work.entry result }
 {
@@ -128,7 +132,7 @@ fn look<F: Files>(
     files: &F,
     mut desk: Desk<F::Seen>,
     work: Work<'_>,
-    shown: Shown,
+    shown: ProgressDisplay,
 ) -> Ending
     requires behind { desk.is_ahead ≡ false }
     ensures { (after : DeskView F.Seen) × HasWorked F.Seen.may_hold work.entry desk after result }
@@ -162,7 +166,7 @@ fn do_in_file<F: Files>(
     path: &str,
     new_has_sums: bool,
     work: Work<'_>,
-    shown: Shown,
+    shown: ProgressDisplay,
 ) -> Ending
     ensures { EndsInFile ⟦<Plain as Holder>⟧.may_hold F.Kept.may_hold F.Seen.may_hold
         F.has_opened F.has_read work.entry result }
@@ -219,7 +223,7 @@ fn do_at_path<F: Files>(
     new_has_sums: bool,
     existing: bool,
     work: Work<'_>,
-    shown: Shown,
+    shown: ProgressDisplay,
 ) -> Ending
     ensures { EndsInFile ⟦<Plain as Holder>⟧.may_hold F.Kept.may_hold F.Seen.may_hold
         F.has_opened F.has_read work.entry result }
@@ -240,7 +244,7 @@ fn do_task<F: Files>(
     task: Task<'_>,
     new_has_sums: bool,
     existing: bool,
-    shown: Shown,
+    shown: ProgressDisplay,
 ) -> Ending
     ensures { EndsTask ⟦<Plain as Holder>⟧.may_hold F.Kept.may_hold F.Seen.may_hold
         F.has_opened F.has_read task.entry result }
@@ -263,7 +267,7 @@ pub fn do_job<F: Files>(
     files: &F,
     job: &Job<'_>,
     existing: bool,
-    shown: Shown,
+    shown: ProgressDisplay,
 ) -> Ending
     ensures { EndsJob ⟦<Plain as Holder>⟧.may_hold F.Kept.may_hold F.Seen.may_hold
         F.has_opened F.has_read job.now result }

@@ -3,7 +3,7 @@
 use crate::explanation::explain;
 use crate::jobs::do_job;
 use lrs_cli_help::{Options, hint_at, is_reader_gone, keep_job_words, options_of, verb_help};
-use lrs_cli_sheets::Shown;
+use lrs_cli_sheets::ProgressDisplay;
 use lrs_cli_tasks::{Ending, ProgramFault, status};
 use lrs_cli_words::{Job, WordsFault, job_of};
 use lrs_desk::Files;
@@ -19,7 +19,7 @@ fn do_explained<F: Files>(
     files: &F,
     job: &Job<'_>,
     options: Options,
-    shown: Shown,
+    shown: ProgressDisplay,
 ) -> Ending {
     let ending = do_job(rt, files, job, options.existing, shown);
     match ending {
@@ -72,7 +72,7 @@ fn do_given<F: Files>(
     files: &F,
     words: &[&str],
     options: Options,
-    shown: Shown,
+    shown: ProgressDisplay,
 ) -> Ending {
     if let Some(text) = help_on_verb(words) {
         return show_text(rt, text);
@@ -83,7 +83,7 @@ fn do_given<F: Files>(
     }
 }
 
-fn do_words<F: Files>(rt: &HostRuntime, files: &F, shown: Shown) -> Ending {
+fn do_words<F: Files>(rt: &HostRuntime, files: &F, shown: ProgressDisplay) -> Ending {
     let given = match env::args(rt) {
         Ok(given) => given,
         Err(error) if error.kind() == ErrorKind::OutOfMemory => {
@@ -119,9 +119,9 @@ fn tell_ending(rt: &HostRuntime, ending: Ending) {
 /// Does what the words of the program say, over what opens its files, and gives its status.
 pub fn run<F: Files>(rt: &HostRuntime, files: &F) -> ExitCode {
     let shown = match (rt.stderr().is_terminal(), rt.stdout().is_terminal()) {
-        (false, _) => Shown::Nowhere,
-        (true, false) => Shown::Alone,
-        (true, true) => Shown::BetweenLines,
+        (false, _) => ProgressDisplay::Nowhere,
+        (true, false) => ProgressDisplay::Alone,
+        (true, true) => ProgressDisplay::BetweenLines,
     };
     let ending = do_words(rt, files, shown);
     tell_ending(rt, ending);

@@ -6,7 +6,7 @@ ghost use Rattle.lrs_cli_jobs.specs.Services.{EndsService, fault_of_service};
 use lrs_cli_tasks::{Ending, ProgramFault};
 use lrs_cli_words::Service;
 use lrs_desk::{Desk, Keeper};
-use lrs_web_server::{Manner, Served, ServiceFault, serve};
+use lrs_web_server::{Served, ServiceFault, ServiceOptions, serve};
 use std::alloc::Global;
 use std::io::Eprint;
 use std::net::Net;
@@ -38,7 +38,7 @@ pub(crate) fn do_service<R: Runtime<A = Global> + Net, K: Keeper>(
 ) -> Ending
     ensures { EndsService K.may_hold service desk.old desk.new result }
 {
-    let manner = Manner {
+    let manner = ServiceOptions {
         logs: service.logs,
         ends_on_fault: service.ends_on_fault,
     };

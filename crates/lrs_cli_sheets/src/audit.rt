@@ -10,7 +10,7 @@ ghost use Rattle.lrs_cli_sheets.specs.Audits.{EndsAudit, IsAudited, IsMadeBy, lo
 use crate::difference::tell_row;
 use crate::sheets::{Pace, Way, run};
 use lrs_cli_tasks::{Ending, ProgramFault, open_in_memory};
-use lrs_image::KeptImage;
+use lrs_image::ImageLists;
 use lrs_inventory::Inventory;
 use lrs_machine::Table;
 use lrs_sheet::{Desk, Keeper, Sheet, SheetFault};
@@ -55,8 +55,8 @@ fn run_log<K: Keeper>(alloc: Global, sheet: &[u8], desk: &mut Desk<K>) -> Result
 // The first table in which two images differ, if there is one. Its first row that is another is told on standard error.
 fn told_difference<R: Runtime<A = Global>>(
     rt: &R,
-    kept: &KeptImage,
-    made: &KeptImage,
+    kept: &ImageLists,
+    made: &ImageLists,
 ) -> Option<Table>
     ensures { IsFirstDifference (image_of kept.now) (image_of made.now) result }
 {

@@ -2,7 +2,7 @@
 
 use lrs_element::{Link, Mark, Piece};
 use lrs_events::{Asset, Class, Gone, LinkSide, Part, Span};
-use lrs_image::KeptImage;
+use lrs_image::ImageLists;
 use lrs_machine::{Edit, RouteRow, Table};
 use lrs_ordered::Chunked;
 use lrs_position::{Referent, RouteName};
@@ -178,7 +178,7 @@ fn push_on_route(
 fn push_routes(
     alloc: Global,
     texts: &mut Texts,
-    kept: &KeptImage,
+    kept: &ImageLists,
     table: Table,
 ) -> Result<(), AllocError> {
     for row in kept.routes.iter() {
@@ -190,7 +190,7 @@ fn push_routes(
 fn push_table(
     alloc: Global,
     texts: &mut Texts,
-    kept: &KeptImage,
+    kept: &ImageLists,
     table: Table,
 ) -> Result<(), AllocError> {
     match table {
@@ -204,7 +204,7 @@ fn push_table(
     }
 }
 
-fn texts_of(alloc: Global, kept: &KeptImage, table: Table) -> Result<Texts, AllocError> {
+fn texts_of(alloc: Global, kept: &ImageLists, table: Table) -> Result<Texts, AllocError> {
     let mut texts = Vec::new(alloc);
     push_table(alloc, &mut texts, kept, table)?;
     Ok(texts)
@@ -234,8 +234,8 @@ fn tell_first<R: Runtime<A = Global>>(rt: &R, kept: &[String], made: &[String]) 
 /// Where standard error takes nothing, or memory runs out, the table alone is told.
 pub(crate) fn tell_row<R: Runtime<A = Global>>(
     rt: &R,
-    kept: &KeptImage,
-    made: &KeptImage,
+    kept: &ImageLists,
+    made: &ImageLists,
     table: Table,
 ) {
     let Ok(kept) = texts_of(rt.alloc(), kept, table) else {

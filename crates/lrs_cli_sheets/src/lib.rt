@@ -11,7 +11,7 @@ mod sheets;
 mod trial;
 
 pub use audit::do_audit;
-pub use progress::Shown;
+pub use progress::ProgressDisplay;
 pub use question_sheets::{QuestionPace, answer_sheet, do_questions};
 pub use sheets::Pace;
 pub use trial::{do_check, do_records};

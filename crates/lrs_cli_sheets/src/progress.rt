@@ -14,7 +14,7 @@ const PAUSE_MILLIS: u64 = 200;
 
 /// Where progress is shown.
 #[derive(Clone, Copy, PartialEq, Eq)]
-pub enum Shown {
+pub enum ProgressDisplay {
     Nowhere,
     /// On a terminal that has nothing else.
     Alone,
@@ -26,7 +26,7 @@ pub enum Shown {
 pub struct Progress<'a, W: Write + Drop, R: Eprint + Clock> {
     to: W,
     rt: &'a R,
-    shown: Shown,
+    shown: ProgressDisplay,
     lines: u64,
     last: Option<Instant>,
     is_standing: bool,
@@ -40,7 +40,7 @@ fn lines_in(bytes: &[u8]) -> u64
 
 impl<'a, W: Write + Drop, R: Eprint + Clock> Progress<'a, W, R> {
     /// Counts the lines that go to this writer.
-    pub fn new(to: W, rt: &'a R, shown: Shown) -> Progress<'a, W, R>
+    pub fn new(to: W, rt: &'a R, shown: ProgressDisplay) -> Progress<'a, W, R>
         ensures { result.to ≡ to }
     {
         Progress {
@@ -103,17 +103,17 @@ impl<'a, W: Write + Drop, R: Eprint + Clock> Write for Progress<'a, W, R> {
     ghost contents = { λ p. W.contents p.to };
 
     fn write(&mut self, buf: &[u8]) -> io::Result<usize> {
-        if self.shown == Shown::Nowhere {
+        if self.shown == ProgressDisplay::Nowhere {
             return self.to.write(buf);
         }
-        if self.shown == Shown::BetweenLines {
+        if self.shown == ProgressDisplay::BetweenLines {
             self.clear();
         }
         let n = self.to.write(buf)?;
         let written = &buf[..n];
         self.lines = self.lines.saturating_add(lines_in(written));
         let at_line = written.last() == Some(&b'\n');
-        if (at_line || self.shown == Shown::Alone) && self.is_due() {
+        if (at_line || self.shown == ProgressDisplay::Alone) && self.is_due() {
             self.show();
         }
         Ok(n)

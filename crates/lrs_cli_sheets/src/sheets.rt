@@ -6,11 +6,11 @@ ghost use Rattle.lrs_sheet.specs.Runs.{IsWholeRun};
 ghost use Rattle.lrs_sheet.specs.Sheets.{IsAfterCommands};
 ghost use Rattle.lrs_cli_sheets.specs.Sheets.{EndsRun, EndsSheet, HasRun, WritesReplies, ending_of_sheet, run_of, together_at};
 
-use crate::progress::{Progress, Shown};
+use crate::progress::{Progress, ProgressDisplay};
 use lrs_cli_tasks::{Ending, ProgramFault, behind, buffered};
 use lrs_sheet::{
-    Decided, Desk, Keeper, RECORDS_TOGETHER, Run, Sheet, SheetFault, Tally, last_edit, run_arriving, run_behind,
-    run_edits, run_survey,
+    Decided, Desk, Keeper, RECORDS_TOGETHER, Run, Sheet, SheetFault, Tally, last_edit,
+    run_arriving, run_behind, run_edits, run_survey,
 };
 use std::alloc::Global;
 use std::io::{ErrorKind, LineWriter, Read, Write};
@@ -173,7 +173,7 @@ pub(crate) fn print_replies<R: Runtime<A = Global>, S: Read + Drop, K: Keeper>(
     way: Way,
     sheet: S,
     desk: &mut Desk<K>,
-    shown: Shown,
+    shown: ProgressDisplay,
 ) -> Ending
     ensures ended { EndsRun K.may_hold way (S.remaining sheet) desk.old desk.new result }
     ensures left { IsAfterCommands desk.old.limits (state_of desk.old.image)
@@ -233,7 +233,7 @@ fn do_whole<R: Runtime<A = Global>, K: Keeper>(
     kind: Sheet,
     sheet: &str,
     of_file: Pace,
-    shown: Shown,
+    shown: ProgressDisplay,
 ) -> Ending
     ensures ended { EndsSheet K.may_hold kind false desk.old desk.new result }
     ensures left { IsAfterCommands desk.old.limits (state_of desk.old.image)
@@ -279,7 +279,7 @@ fn go_on<R: Runtime<A = Global>, K: Keeper>(
     kind: Sheet,
     sheet: &str,
     pace: Pace,
-    shown: Shown,
+    shown: ProgressDisplay,
 ) -> Ending
     ensures ended { EndsSheet K.may_hold kind true desk.old desk.new result }
     ensures left { IsAfterCommands desk.old.limits (state_of desk.old.image)
@@ -308,7 +308,7 @@ pub fn do_sheet<R: Runtime<A = Global>, K: Keeper>(
     resumes: bool,
     sheet: &str,
     of_file: Pace,
-    shown: Shown,
+    shown: ProgressDisplay,
 ) -> Ending
     ensures ended { EndsSheet K.may_hold kind resumes desk.old desk.new result }
     ensures left { IsAfterCommands desk.old.limits (state_of desk.old.image)

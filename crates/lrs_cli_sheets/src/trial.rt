@@ -7,7 +7,7 @@ ghost use Rattle.lrs_cli_sheets.specs.Sheets.{ending_of_sheet};
 ghost use Rattle.lrs_cli_sheets.specs.Trials.{ArePassed, EndsAll, EndsCheck, EndsRecords, EndsTried, IsFull, IsTried};
 
 use crate::advice::{Trial, advise};
-use crate::progress::Shown;
+use crate::progress::ProgressDisplay;
 use crate::sheets::{
     Pace, Way, do_sheet, ending_of, print_replies, read_whole, tell, unopened, write_replies,
 };
@@ -174,7 +174,7 @@ fn do_tried<R: Runtime<A = Global>, K: Keeper>(
     desk: &mut Desk<K>,
     trial: &Trial<'_>,
     pace: Pace,
-    shown: Shown,
+    shown: ProgressDisplay,
 ) -> Ending
     ensures ended { EndsTried K.may_hold
         (record { kind = trial.now.kind; pace = pace; passed = trial.now.passed })
@@ -206,7 +206,7 @@ fn do_text<R: Runtime<A = Global>, K: Keeper>(
     resumes: bool,
     text: &[u8],
     of_file: Pace,
-    shown: Shown,
+    shown: ProgressDisplay,
 ) -> Ending
     ensures ended { EndsAll K.may_hold kind resumes desk.old desk.new result }
     ensures left { IsAfterCommands desk.old.limits (state_of desk.old.image)
@@ -241,7 +241,7 @@ fn do_all<R: Runtime<A = Global>, K: Keeper>(
     resumes: bool,
     sheet: &str,
     of_file: Pace,
-    shown: Shown,
+    shown: ProgressDisplay,
 ) -> Ending
     ensures ended { EndsAll K.may_hold kind resumes desk.old desk.new result }
     ensures left { IsAfterCommands desk.old.limits (state_of desk.old.image)
@@ -262,7 +262,7 @@ pub fn do_records<R: Runtime<A = Global>, K: Keeper>(
     all: bool,
     sheet: &str,
     of_file: Pace,
-    shown: Shown,
+    shown: ProgressDisplay,
 ) -> Ending
     ensures ended { EndsRecords K.may_hold kind resumes all desk.old desk.new result }
     ensures left { IsAfterCommands desk.old.limits (state_of desk.old.image)

@@ -22,8 +22,8 @@ use Rattle.lrs_machine.specs.declared.question.Listing.TheVariants as listing
 use Rattle.lrs_machine.specs.declared.question.Question.{Question}
 use Rattle.lrs_machine.specs.declared.question.Question.TheVariants as question
 use Rattle.lrs_machine.specs.declared.question.RowsWanted.{RowsWanted}
-use Rattle.lrs_machine.specs.declared.question.Spot.{Spot}
-use Rattle.lrs_machine.specs.declared.question.Spot.TheVariants as spot
+use Rattle.lrs_machine.specs.declared.question.AskedPlace.{AskedPlace}
+use Rattle.lrs_machine.specs.declared.question.AskedPlace.TheVariants as spot
 use Rattle.lrs_cli_words.specs.declared.question.Service.{Service}
 use Rattle.lrs_cli_words.specs.declared.question.QuestionFault.{QuestionFault}
 use Rattle.lrs_cli_words.specs.declared.question.QuestionFault.TheVariants.{Unreadable, Memory}
@@ -147,17 +147,17 @@ AsksDiagram route classes from to (question.Diagram r names first last) = SaysRo
 AsksDiagram route classes from to _ = ⊥
 
 -- a chainage of a route
-abbrev pub IsOnRoute : Text → Text → Spot → Type 0
+abbrev pub IsOnRoute : Text → Text → AskedPlace → Type 0
 IsOnRoute route chainage (spot.OnRoute r c) = SaysRoute route r × SaysChainage chainage c
 IsOnRoute route chainage p = ⊥
 
 -- a millimetre of a link
-abbrev pub IsOnLink : Text → Text → Spot → Type 0
+abbrev pub IsOnLink : Text → Text → AskedPlace → Type 0
 IsOnLink link mm (spot.OnLink l m) = SaysLink link l × SaysMillimetre mm m
 IsOnLink link mm p = ⊥
 
 -- a route and a chainage; or `link`, a link and a millimetre
-abbrev pub IsPlace : Text → Text → Option Text → Spot → Type 0
+abbrev pub IsPlace : Text → Text → Option Text → AskedPlace → Type 0
 IsPlace route chainage None p = IsOnRoute route chainage p
 IsPlace route chainage (Some mm) p = (route ≡ codes "link") × IsOnLink chainage mm p
 

@@ -143,7 +143,7 @@ job_name (Audit db) = job.Audit
 job_name (Serve db port max sums log end_on_fault) = job.Serve
 job_name (Page dir) = job.Page
 
--- its words that come once, each with what it is called
+-- its words that stand once, each with what it is called
 abbrev pub words_of : Job → List (Text × Text)
 words_of (Edit db sheet sums resume all) = (codes "DB", db.now) ∷ (codes "SHEET", sheet.now) ∷ []
 words_of (Survey db sheet sums resume all) = (codes "DB", db.now) ∷ (codes "SHEET", sheet.now) ∷ []

@@ -6,7 +6,7 @@ ghost use Rattle.lrs_cli_words.specs.Parts.{app_of_line};
 ghost use Rattle.lrs_cli_words.specs.Words.{app_of_job, bare_line, line_of_program, with_job};
 
 use crate::job::JobName;
-use crate::parts::{Line, Part, line_of};
+use crate::parts::{JobLine, LinePart, line_of};
 use clap::Command;
 use std::alloc::{AllocError, Global};
 
@@ -149,228 +149,237 @@ It changes nothing. See docs/SHEETS.md.
 
 Example: roadlrs ask roads.db questions.csv";
 
-static EDIT: Line = Line {
+static EDIT: JobLine = JobLine {
     name: "edit",
     about: "Applies an edit sheet and prints one reply per record",
     example: RECORDS,
     usage: Some("roadlrs edit <DB> <SHEET>"),
     parts: &[
-        Part::Required("DB", DB),
-        Part::Required("SHEET", SHEET),
-        Part::Switch("sums", SUMS),
-        Part::Switch("resume", RESUME),
-        Part::Switch("all", ALL),
+        LinePart::Required("DB", DB),
+        LinePart::Required("SHEET", SHEET),
+        LinePart::Switch("sums", SUMS),
+        LinePart::Switch("resume", RESUME),
+        LinePart::Switch("all", ALL),
     ],
 };
 
-static SURVEY: Line = Line {
+static SURVEY: JobLine = JobLine {
     name: "survey",
     about: "Enters the assets of a survey and prints one reply per record",
     example: SURVEYED,
     usage: Some("roadlrs survey <DB> <SHEET>"),
     parts: &[
-        Part::Required("DB", DB),
-        Part::Required("SHEET", SHEET),
-        Part::Switch("sums", SUMS),
-        Part::Switch("resume", RESUME),
-        Part::Switch("all", ALL),
+        LinePart::Required("DB", DB),
+        LinePart::Required("SHEET", SHEET),
+        LinePart::Switch("sums", SUMS),
+        LinePart::Switch("resume", RESUME),
+        LinePart::Switch("all", ALL),
     ],
 };
 
-static CHECK: Line = Line {
+static CHECK: JobLine = JobLine {
     name: "check",
     about: "Prints the replies that edit would give, with advice; writes nothing",
     example: "Example: roadlrs check roads.db first.csv",
     usage: None,
     parts: &[
-        Part::Required("DB", DB),
-        Part::Required("SHEET", SHEET),
-        Part::Switch("survey", AS_SURVEY),
+        LinePart::Required("DB", DB),
+        LinePart::Required("SHEET", SHEET),
+        LinePart::Switch("survey", AS_SURVEY),
     ],
 };
 
-static AT: Line = Line {
+static AT: JobLine = JobLine {
     name: "at",
     about: "Shows a position's place on its link and the assets there",
     example: "Example: roadlrs at roads.db A1 abs 3000",
     usage: None,
     parts: &[
-        Part::Required("DB", DB),
-        Part::Required("ROUTE", ROUTE),
-        Part::Required("METHOD", METHOD),
-        Part::Required("POS", POS),
+        LinePart::Required("DB", DB),
+        LinePart::Required("ROUTE", ROUTE),
+        LinePart::Required("METHOD", METHOD),
+        LinePart::Required("POS", POS),
     ],
 };
 
-static WHERE: Line = Line {
+static WHERE: JobLine = JobLine {
     name: "where",
     about: "Shows what is at a chainage, and its position by each method",
     example: "Examples: roadlrs where roads.db A1 3000
           roadlrs where roads.db link 101 3000",
     usage: None,
     parts: &[
-        Part::Required("DB", DB),
-        Part::Required("ROUTE", ROUTE),
-        Part::Required("CHAINAGE", CHAINAGE),
-        Part::Optional("MM", MM),
+        LinePart::Required("DB", DB),
+        LinePart::Required("ROUTE", ROUTE),
+        LinePart::Required("CHAINAGE", CHAINAGE),
+        LinePart::Optional("MM", MM),
     ],
 };
 
-static TRANSLATE: Line = Line {
+static TRANSLATE: JobLine = JobLine {
     name: "translate",
     about: "Converts a position to another method or to its link",
     example: "Example: roadlrs translate roads.db A1 int 1/3 abs",
     usage: None,
     parts: &[
-        Part::Required("DB", DB),
-        Part::Required("ROUTE", ROUTE),
-        Part::Required("METHOD", METHOD),
-        Part::Required("POS", POS),
-        Part::Required("TO", TO),
+        LinePart::Required("DB", DB),
+        LinePart::Required("ROUTE", ROUTE),
+        LinePart::Required("METHOD", METHOD),
+        LinePart::Required("POS", POS),
+        LinePart::Required("TO", TO),
     ],
 };
 
-static STRIP: Line = Line {
+static STRIP: JobLine = JobLine {
     name: "strip",
     about: "Divides a route wherever the value of a listed class changes",
     example: "Example: roadlrs strip roads.db A1 R SPEED WIDTH",
     usage: None,
     parts: &[
-        Part::Required("DB", DB),
-        Part::Required("ROUTE", ROUTE),
-        Part::Required("SIDE", SIDE),
-        Part::Several("CLASS", CLASS),
+        LinePart::Required("DB", DB),
+        LinePart::Required("ROUTE", ROUTE),
+        LinePart::Required("SIDE", SIDE),
+        LinePart::Several("CLASS", CLASS),
     ],
 };
 
-static DIAGRAM: Line = Line {
+static DIAGRAM: JobLine = JobLine {
     name: "diagram",
     about: "Draws a straight-line diagram of a route as SVG",
     example: "Example: roadlrs diagram roads.db A1 SPEED > a1.svg",
     usage: Some("roadlrs diagram <DB> <ROUTE> [CLASS]..."),
     parts: &[
-        Part::Required("DB", DB),
-        Part::Required("ROUTE", ROUTE),
-        Part::Any("CLASS", CLASSES),
-        Part::Valued("from", "C", FROM_CHAINAGE),
-        Part::Valued("to", "C", TO_CHAINAGE),
+        LinePart::Required("DB", DB),
+        LinePart::Required("ROUTE", ROUTE),
+        LinePart::Any("CLASS", CLASSES),
+        LinePart::Valued("from", "C", FROM_CHAINAGE),
+        LinePart::Valued("to", "C", TO_CHAINAGE),
     ],
 };
 
-static TOTALS: Line = Line {
+static TOTALS: JobLine = JobLine {
     name: "totals",
     about: "Counts what each class has entered, retired, abandoned and present",
     example: "Example: roadlrs totals roads.db",
     usage: None,
-    parts: &[Part::Required("DB", DB)],
+    parts: &[LinePart::Required("DB", DB)],
 };
 
-static LENGTHS: Line = Line {
+static LENGTHS: JobLine = JobLine {
     name: "lengths",
     about: "Lists the length of each value of each class in metres, as CSV",
     example: "Example: roadlrs lengths roads.db --route A1",
     usage: None,
     parts: &[
-        Part::Required("DB", DB),
-        Part::Valued("route", "ROUTE", OF_ROUTE),
+        LinePart::Required("DB", DB),
+        LinePart::Valued("route", "ROUTE", OF_ROUTE),
     ],
 };
 
-static FIND: Line = Line {
+static FIND: JobLine = JobLine {
     name: "find",
     about: "Shows where an asset is",
     example: "Example: roadlrs find roads.db 10",
     usage: None,
-    parts: &[Part::Required("DB", DB), Part::Required("ASSET", ASSET)],
+    parts: &[
+        LinePart::Required("DB", DB),
+        LinePart::Required("ASSET", ASSET),
+    ],
 };
 
-static ASK: Line = Line {
+static ASK: JobLine = JobLine {
     name: "ask",
     about: "Answers a sheet of questions",
     example: ASKED,
     usage: None,
     parts: &[
-        Part::Required("DB", DB),
-        Part::Required("QUESTIONS", QUESTIONS),
+        LinePart::Required("DB", DB),
+        LinePart::Required("QUESTIONS", QUESTIONS),
     ],
 };
 
-static LIST: Line = Line {
+static LIST: JobLine = JobLine {
     name: "list",
     about: "Lists the routes, links, classes, referents or marks as CSV",
     example: "Example: roadlrs list roads.db routes",
     usage: None,
-    parts: &[Part::Required("DB", DB), Part::Required("WHAT", WHAT)],
+    parts: &[
+        LinePart::Required("DB", DB),
+        LinePart::Required("WHAT", WHAT),
+    ],
 };
 
-static ROWS: Line = Line {
+static ROWS: JobLine = JobLine {
     name: "rows",
     about: "Lists the stretches that assets hold as CSV",
     example: "Example: roadlrs rows roads.db --route A1 --class SPEED",
     usage: None,
     parts: &[
-        Part::Required("DB", DB),
-        Part::Valued("route", "ROUTE", OF_ROUTE),
-        Part::Valued("from", "C", ROWS_FROM),
-        Part::Valued("to", "C", ROWS_TO),
-        Part::Valued("class", "CLASS", OF_CLASS),
-        Part::Valued("asset", "ASSET", OF_ASSET),
+        LinePart::Required("DB", DB),
+        LinePart::Valued("route", "ROUTE", OF_ROUTE),
+        LinePart::Valued("from", "C", ROWS_FROM),
+        LinePart::Valued("to", "C", ROWS_TO),
+        LinePart::Valued("class", "CLASS", OF_CLASS),
+        LinePart::Valued("asset", "ASSET", OF_ASSET),
     ],
 };
 
-static GONE: Line = Line {
+static GONE: JobLine = JobLine {
     name: "gone",
     about: "Lists what was retired, or abandoned with its ground, as CSV",
     example: "Example: roadlrs gone roads.db --edit 17",
     usage: None,
-    parts: &[Part::Required("DB", DB), Part::Valued("edit", "N", OF_EDIT)],
+    parts: &[
+        LinePart::Required("DB", DB),
+        LinePart::Valued("edit", "N", OF_EDIT),
+    ],
 };
 
-static LOG: Line = Line {
+static LOG: JobLine = JobLine {
     name: "log",
     about: "Prints the accepted commands as an edit sheet",
     example: "Example: roadlrs log roads.db > log.csv",
     usage: None,
     parts: &[
-        Part::Required("DB", DB),
-        Part::Optional("FROM", FROM_EDIT),
-        Part::Valued("key", "KEY", OF_KEY),
+        LinePart::Required("DB", DB),
+        LinePart::Optional("FROM", FROM_EDIT),
+        LinePart::Valued("key", "KEY", OF_KEY),
     ],
 };
 
-static AUDIT: Line = Line {
+static AUDIT: JobLine = JobLine {
     name: "audit",
     about: "Applies the log to an empty inventory and compares the two",
     example: "Example: roadlrs audit roads.db",
     usage: None,
-    parts: &[Part::Required("DB", DB)],
+    parts: &[LinePart::Required("DB", DB)],
 };
 
-static SERVE: Line = Line {
+static SERVE: JobLine = JobLine {
     name: "serve",
     about: "Serves the inventory over HTTP on 127.0.0.1, one request at a time",
     example: "Example: roadlrs serve roads.db 8080 1000000",
     usage: Some("roadlrs serve <DB> <PORT> <MAX>"),
     parts: &[
-        Part::Required("DB", DB),
-        Part::Required("PORT", PORT),
-        Part::Required("MAX", MAX),
-        Part::Switch("sums", SUMS),
-        Part::Switch("log", TELLING),
-        Part::Switch("end-on-fault", END_ON_FAULT),
+        LinePart::Required("DB", DB),
+        LinePart::Required("PORT", PORT),
+        LinePart::Required("MAX", MAX),
+        LinePart::Switch("sums", SUMS),
+        LinePart::Switch("log", TELLING),
+        LinePart::Switch("end-on-fault", END_ON_FAULT),
     ],
 };
 
-static PAGE: Line = Line {
+static PAGE: JobLine = JobLine {
     name: "page",
     about: "Writes a web page for a served inventory",
     example: "Example: roadlrs page www",
     usage: None,
-    parts: &[Part::Required("DIR", DIR)],
+    parts: &[LinePart::Required("DIR", DIR)],
 };
 
 // The line of a job.
-fn line_in_table(job: JobName) -> &'static Line
+fn line_in_table(job: JobName) -> &'static JobLine
     ensures { app_of_line result.now ≡ app_of_job job }
 {
     match job {

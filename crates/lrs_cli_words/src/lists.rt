@@ -5,7 +5,7 @@ ghost use Rattle.lrs_cli_words.specs.Questions.{AsksLog, AsksRows, Cannot, Canno
 
 use crate::question::{BadWord, QuestionFault, asset_of, class_of, end_of, number_of, route_of};
 use lrs_events::ClassName;
-use lrs_machine::{Key, Listing, RowsWanted, Spot};
+use lrs_machine::{AskedPlace, Key, Listing, RowsWanted};
 use lrs_measure::limits::{GREATEST_LINK, LONGEST_LINK, LONGEST_ROUTE, MOST_EDITS};
 use lrs_position::RouteName;
 
@@ -31,26 +31,30 @@ fn link_of(text: &str) -> Result<u32, QuestionFault>
     Ok(link as u32)
 }
 
-fn place_on_link(link: &str, mm: &str) -> Result<Spot, QuestionFault>
+fn place_on_link(link: &str, mm: &str) -> Result<AskedPlace, QuestionFault>
     ensures read { IfOk result (IsOnLink link.now mm.now) }
     ensures unread { IfErr result (CannotLink link.now mm.now) }
 {
     let link = link_of(link)?;
     let mm = number_of(mm, 0, u64::from(LONGEST_LINK), BadWord::Millimetre)?;
-    Ok(Spot::OnLink { link, mm })
+    Ok(AskedPlace::OnLink { link, mm })
 }
 
-fn place_on_route(route: &str, chainage: &str) -> Result<Spot, QuestionFault>
+fn place_on_route(route: &str, chainage: &str) -> Result<AskedPlace, QuestionFault>
     ensures read { IfOk result (IsOnRoute route.now chainage.now) }
     ensures unread { IfErr result (CannotPlace route.now chainage.now) }
 {
     let route = route_of(route)?;
     let chainage = number_of(chainage, 0, LONGEST_ROUTE, BadWord::Chainage)?;
-    Ok(Spot::OnRoute { route, chainage })
+    Ok(AskedPlace::OnRoute { route, chainage })
 }
 
 // A route's name is in capitals, so `link` is none.
-pub(crate) fn place_of(route: &str, chainage: &str, mm: Option<&str>) -> Result<Spot, QuestionFault>
+pub(crate) fn place_of(
+    route: &str,
+    chainage: &str,
+    mm: Option<&str>,
+) -> Result<AskedPlace, QuestionFault>
     ensures read { IfOk result (IsPlace route.now chainage.now
         (option_map (λ t. t.now) mm.entry)) }
     ensures unread { IfErr result (CannotWhere route.now chainage.now

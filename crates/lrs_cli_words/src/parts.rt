@@ -11,7 +11,7 @@ use std::alloc::{AllocError, Global};
 
 /// What stands on a line behind the job's name, and what help says of it.
 #[derive(Clone, Copy)]
-pub(crate) enum Part {
+pub(crate) enum LinePart {
     /// A word that has to be there.
     Required(&'static str, &'static str),
     /// The same, and more of its kind may follow it.
@@ -27,13 +27,13 @@ pub(crate) enum Part {
 }
 
 /// The line of a job: its name, what help says of it, its example, and its parts.
-pub(crate) struct Line {
+pub(crate) struct JobLine {
     pub name: &'static str,
     pub about: &'static str,
     pub example: &'static str,
     /// Where there is one, it names the words alone, and help the options too.
     pub usage: Option<&'static str>,
-    pub parts: &'static [Part],
+    pub parts: &'static [LinePart],
 }
 
 // One word, which has to be there or may be.
@@ -75,22 +75,26 @@ fn switch<'a>(alloc: Global, name: &'a str, help: &'a str) -> Arg<'a>
         .help(help)
 }
 
-fn argument<'a>(alloc: Global, part: Part) -> Arg<'a>
+fn argument<'a>(alloc: Global, part: LinePart) -> Arg<'a>
     ensures rule { rule_of result ≡ rule_of_part part }
     ensures local { result.global ≡ false }
 {
     match part {
-        Part::Required(id, help) => word(alloc, id, help, true),
-        Part::Several(id, help) => words(alloc, id, help, true),
-        Part::Any(id, help) => words(alloc, id, help, false),
-        Part::Optional(id, help) => word(alloc, id, help, false),
-        Part::Valued(name, value, help) => valued(alloc, name, value, help),
-        Part::Switch(name, help) => switch(alloc, name, help),
+        LinePart::Required(id, help) => word(alloc, id, help, true),
+        LinePart::Several(id, help) => words(alloc, id, help, true),
+        LinePart::Any(id, help) => words(alloc, id, help, false),
+        LinePart::Optional(id, help) => word(alloc, id, help, false),
+        LinePart::Valued(name, value, help) => valued(alloc, name, value, help),
+        LinePart::Switch(name, help) => switch(alloc, name, help),
     }
 }
 
 /// A line with one more part.
-fn with_part<'a>(alloc: Global, line: Command<'a>, part: Part) -> Result<Command<'a>, AllocError>
+fn with_part<'a>(
+    alloc: Global,
+    line: Command<'a>,
+    part: LinePart,
+) -> Result<Command<'a>, AllocError>
     requires { (out-Command line).has_globals ≡ false }
     ensures app { IfOk result (λ c. app_of c ≡ with_part (app_of line.entry) part) }
     ensures local { IfOk result (λ c. (out-Command c).has_globals ≡ false) }
@@ -102,7 +106,7 @@ fn with_part<'a>(alloc: Global, line: Command<'a>, part: Part) -> Result<Command
 fn with_parts<'a>(
     alloc: Global,
     line: Command<'a>,
-    parts: &[Part],
+    parts: &[LinePart],
 ) -> Result<Command<'a>, AllocError>
     requires { (out-Command line).has_globals ≡ false }
     ensures app { IfOk result (λ c. app_of c ≡ fold with_part (app_of line.entry) parts.now) }
@@ -116,7 +120,7 @@ fn with_parts<'a>(
 }
 
 /// The line as `clap` takes it.
-pub(crate) fn line_of<'a>(alloc: Global, line: &Line) -> Result<Command<'a>, AllocError>
+pub(crate) fn line_of<'a>(alloc: Global, line: &JobLine) -> Result<Command<'a>, AllocError>
     ensures app { IfOk result (λ c. app_of c ≡ app_of_line line.now) }
     ensures local { IfOk result (λ c. (out-Command c).has_globals ≡ false) }
 {

@@ -52,6 +52,6 @@ pub trait Files {
     /// Lets a keeper go, which is not closed: what was committed may be in its log alone, where the next opening finds it.
     fn discard(&self, keeper: Self::Kept);
 
-    /// Lets go a keeper for questions.
+    /// Drops a keeper for questions.
     fn discard_seen(&self, keeper: Self::Seen);
 }

@@ -74,7 +74,7 @@ fn list_of(rt: &(impl Abort + AllocGlobal), spans: &Spans) -> Vec<Span>
 
 /// The calls. One that answers other spans leaves them in the place of the first.
 #[derive(Clone, Copy)]
-enum Call {
+enum MemoryCall {
     Add,
     RemoveWithin,
     RemoveAssetWithin,
@@ -159,21 +159,21 @@ fn find_met(spans: &mut Spans, alloc: Global) -> Result<usize, AllocError> {
 fn done(
     rt: &(impl Abort + Print + AllocGlobal),
     spans: &mut Spans,
-    call: Call,
+    call: MemoryCall,
 ) -> Result<usize, AllocError> {
     let alloc = rt.alloc();
     match call {
-        Call::Add => fill_gap(rt, alloc, spans),
-        Call::RemoveWithin => clear(spans, alloc),
-        Call::RemoveAssetWithin => clear_asset(rt, alloc, spans),
-        Call::RemoveClassPlaces => clear_side(rt, alloc, spans),
-        Call::Cut => cut(spans, alloc),
-        Call::Concat => concat(rt, alloc, spans),
-        Call::Turned => turn(spans, alloc),
-        Call::Copy => take_copy(spans, alloc),
-        Call::OfRows => make_again(rt, alloc, spans),
-        Call::At => find_at(spans, alloc),
-        Call::Met => find_met(spans, alloc),
+        MemoryCall::Add => fill_gap(rt, alloc, spans),
+        MemoryCall::RemoveWithin => clear(spans, alloc),
+        MemoryCall::RemoveAssetWithin => clear_asset(rt, alloc, spans),
+        MemoryCall::RemoveClassPlaces => clear_side(rt, alloc, spans),
+        MemoryCall::Cut => cut(spans, alloc),
+        MemoryCall::Concat => concat(rt, alloc, spans),
+        MemoryCall::Turned => turn(spans, alloc),
+        MemoryCall::Copy => take_copy(spans, alloc),
+        MemoryCall::OfRows => make_again(rt, alloc, spans),
+        MemoryCall::At => find_at(spans, alloc),
+        MemoryCall::Met => find_met(spans, alloc),
     }
 }
 
@@ -181,7 +181,7 @@ fn done(
 fn tried(
     rt: &(impl Abort + Print + AllocGlobal),
     spans: &mut Spans,
-    call: Call,
+    call: MemoryCall,
     name: &str,
 ) -> usize {
     are_the_rows(rt, spans);
@@ -203,7 +203,7 @@ fn is_count(rt: &impl Abort, name: &str, found: usize, expected: usize) {
 /// The call leaves so many rows, and its answer is this.
 fn leaves(
     rt: &(impl Abort + Print + AllocGlobal),
-    call: Call,
+    call: MemoryCall,
     name: &str,
     rows: usize,
     answer: usize,
@@ -215,25 +215,25 @@ fn leaves(
 }
 
 /// The call leaves spans of the same rows.
-fn leaves_the_rows(rt: &(impl Abort + Print + AllocGlobal), call: Call, name: &str) {
+fn leaves_the_rows(rt: &(impl Abort + Print + AllocGlobal), call: MemoryCall, name: &str) {
     let mut spans = route(rt);
     let _ = tried(rt, &mut spans, call, name);
     are_the_rows(rt, &spans);
 }
 
 fn spans_are_changed(rt: &(impl Abort + Print + AllocGlobal)) {
-    leaves(rt, Call::Add, "Spans::add", 2, 1);
-    leaves(rt, Call::RemoveWithin, "Spans::remove_within", 4, 1);
+    leaves(rt, MemoryCall::Add, "Spans::add", 2, 1);
+    leaves(rt, MemoryCall::RemoveWithin, "Spans::remove_within", 4, 1);
     leaves(
         rt,
-        Call::RemoveAssetWithin,
+        MemoryCall::RemoveAssetWithin,
         "Spans::remove_asset_within",
         3,
         1,
     );
     leaves(
         rt,
-        Call::RemoveClassPlaces,
+        MemoryCall::RemoveClassPlaces,
         "Spans::remove_class_places",
         6,
         1,
@@ -241,19 +241,19 @@ fn spans_are_changed(rt: &(impl Abort + Print + AllocGlobal)) {
 }
 
 fn routes_are_cut_and_joined(rt: &(impl Abort + Print + AllocGlobal)) {
-    leaves(rt, Call::Cut, "Spans::cut", 3, 2);
-    leaves(rt, Call::Concat, "Spans::concat", 5, 1);
-    leaves(rt, Call::Turned, "Spans::turned", 3, 3);
+    leaves(rt, MemoryCall::Cut, "Spans::cut", 3, 2);
+    leaves(rt, MemoryCall::Concat, "Spans::concat", 5, 1);
+    leaves(rt, MemoryCall::Turned, "Spans::turned", 3, 3);
 }
 
 fn spans_are_made_of_others(rt: &(impl Abort + Print + AllocGlobal)) {
-    leaves_the_rows(rt, Call::Copy, "Spans::copy");
-    leaves_the_rows(rt, Call::OfRows, "Spans::of_rows");
+    leaves_the_rows(rt, MemoryCall::Copy, "Spans::copy");
+    leaves_the_rows(rt, MemoryCall::OfRows, "Spans::of_rows");
 }
 
 fn rows_are_found(rt: &(impl Abort + Print + AllocGlobal)) {
-    leaves(rt, Call::At, "Spans::at", 3, 2);
-    leaves(rt, Call::Met, "Spans::met", 3, 3);
+    leaves(rt, MemoryCall::At, "Spans::at", 3, 2);
+    leaves(rt, MemoryCall::Met, "Spans::met", 3, 3);
 }
 
 #[test]

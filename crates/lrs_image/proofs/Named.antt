@@ -1,4 +1,4 @@
--- Rows in the order of their names: a row of a name that is taken out and put back, and rows of names that go.
+-- Rows in the order of their names: a row of a name that is taken out and put back, and rows whose names are removed.
 use Rattle.std.proofs.Common.{◌≡◌, ℕ, ◌+◌, ◌<◌, ◌≤◌, Bool, true, false, cond, List, [], ◌∷◌, Some, filter, drop, get_or, length, refl, sym, ap, ◌∙◌}
 use Rattle.std.specs.Prelude.{not, ◌||◌, unwrap_or}
 use Rattle.std.specs.List.{find, list_any}

@@ -8,13 +8,13 @@ use Rattle.lrs_machine.specs.declared.image.RouteRow.{RouteRow}
 use Rattle.lrs_events.specs.RouteSpans.OpenRows.{HasRoom}
 use Rattle.lrs_image.specs.declared.change.RouteChange.{RouteChange}
 use Rattle.lrs_image.specs.declared.change.Difference.{Difference}
-use Rattle.lrs_image.specs.declared.kept_image.KeptImage.{KeptImage}
+use Rattle.lrs_image.specs.declared.image_lists.ImageLists.{ImageLists}
 use Rattle.lrs_image.specs.declared.open_route.OpenRoute.{OpenRoute}
 use Rattle.lrs_machine.specs.Sound.{route_before}
 use Rattle.lrs_image.specs.Change.{changed_refs, is_named, without}
 
 -- the image of lists
-abbrev pub image_of : KeptImage → Image
+abbrev pub image_of : ImageLists → Image
 image_of k = record {
   links = k.links.rows;
   classes = k.classes.rows;
@@ -34,7 +34,7 @@ abbrev pub routes_with : Option OpenRoute → List RouteRow → List RouteRow
 routes_with opened routes = insert_some route_before (option_map row_of_open opened) routes
 
 -- the image of lists with the route that is out of its place
-abbrev pub image_with : Option OpenRoute → KeptImage → Image
+abbrev pub image_with : Option OpenRoute → ImageLists → Image
 image_with opened k = record (image_of k) { routes = routes_with opened k.routes.rows }
 
 -- It has the referents from after the change, and room for the inserted rows.
@@ -58,7 +58,7 @@ HasOpened None opened others = opened ≡ None
 HasOpened (Some c) opened others = IsTakenFor c opened others (routes_with opened others)
 
 -- There is room for what is inserted, and for one edit.
-pub record HasRoomFor (d : Difference) (k : KeptImage) : Type 0 where
+pub record HasRoomFor (d : Difference) (k : ImageLists) : Type 0 where
   pub links : 1 ≤ k.links.room
   pub classes : 1 ≤ k.classes.room
   pub assets : 1 ≤ k.assets.room
@@ -67,6 +67,6 @@ pub record HasRoomFor (d : Difference) (k : KeptImage) : Type 0 where
   pub gone : vec_len k.gone + length d.gone ≤ vec_capacity k.gone
   pub edits : vec_len k.edits + 1 ≤ vec_capacity k.edits
 
-pub record IsPrepared (d : Difference) (opened : Option OpenRoute) (k : KeptImage) : Type 0 where
+pub record IsPrepared (d : Difference) (opened : Option OpenRoute) (k : ImageLists) : Type 0 where
   pub route : HasOpened d.changed opened k.routes.rows
   pub room : HasRoomFor d k

@@ -183,7 +183,7 @@ pub struct Difference {
     pub asset: Option<Asset>,
     pub changed: Option<RouteChange>,
     pub dropped: Option<RouteName>,
-    /// What lies on the route that goes.
+    /// What lies on the route that is dropped.
     pub keys: RouteKeys,
     pub made: Option<RouteRow>,
     pub entered: Rows<Part>,

@@ -10,8 +10,8 @@ ghost use Rattle.lrs_image.specs.OpenLists.{image_of, image_with, IsPrepared};
 ghost use Rattle.lrs_image.specs.ChangeLists.{Keeps, KeepsOne};
 
 use crate::change::Change;
+use crate::image_lists::ImageLists;
 use crate::keeper::{CommitFault, Keeper};
-use crate::kept_image::KeptImage;
 use crate::open_route::OpenRoute;
 use lrs_measure::TryCopy;
 use std::alloc::{AllocError, Global};
@@ -22,7 +22,7 @@ use std::alloc::{AllocError, Global};
 /// When memory runs out; nothing has changed then.
 pub fn stage_change<K: Keeper>(
     alloc: Global,
-    kept: &mut KeptImage,
+    kept: &mut ImageLists,
     keeper: &mut K,
     change: Change,
 ) -> Result<(), AllocError>
@@ -54,7 +54,7 @@ pub fn stage_change<K: Keeper>(
 /// `Memory` when memory runs out, in the commit too, and `Store` where the device fails; here nothing has changed then.
 pub fn make_change<K: Keeper>(
     alloc: Global,
-    kept: &mut KeptImage,
+    kept: &mut ImageLists,
     keeper: &mut K,
     change: Change,
 ) -> Result<(), CommitFault>
@@ -84,7 +84,7 @@ pub fn make_change<K: Keeper>(
 /// Prepares the lists for a change, and stages a copy of it. Where that fails, the route is put back.
 fn stage_prepared<K: Keeper>(
     alloc: Global,
-    kept: &mut KeptImage,
+    kept: &mut ImageLists,
     keeper: &mut K,
     change: &Change,
 ) -> Result<Option<OpenRoute>, AllocError>
@@ -110,7 +110,7 @@ fn stage_prepared<K: Keeper>(
 /// Prepares the lists for a change, and keeps it. Where that fails, the route is put back.
 fn keep_prepared<K: Keeper>(
     alloc: Global,
-    kept: &mut KeptImage,
+    kept: &mut ImageLists,
     keeper: &mut K,
     change: &Change,
 ) -> Result<Option<OpenRoute>, CommitFault>

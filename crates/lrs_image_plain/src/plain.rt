@@ -8,7 +8,7 @@ ghost use Rattle.lrs_image_plain.specs.PlainKeeper.{IsBase};
 ghost use Rattle.lrs_image.specs.ChangeLists.{apply_all};
 ghost use Rattle.lrs_image.specs.KeeperCalls.{content_of};
 
-use lrs_image::{Change, CommitFault, Holder, Keeper, KeptImage, LoadFault};
+use lrs_image::{Change, CommitFault, Holder, ImageLists, Keeper, LoadFault};
 use lrs_image_sound::first_unsound;
 use lrs_machine::{Image, Table};
 use std::alloc::{AllocError, Global};
@@ -17,7 +17,7 @@ use std::mem;
 
 #[derive(Drop)]
 enum Content {
-    Sound(KeptImage),
+    Sound(ImageLists),
     Unsound(Table),
 }
 
@@ -53,7 +53,7 @@ impl Plain {
     {
         let base = match first_unsound(alloc, &image)? {
             Some(table) => Content::Unsound(table),
-            None => Content::Sound(KeptImage::of_image(alloc, image)?),
+            None => Content::Sound(ImageLists::of_image(alloc, image)?),
         };
         Ok(Plain {
             base,
@@ -67,13 +67,13 @@ impl Plain {
         ensures { result ≡ record { content = Ok nothing; staged = [] } }
     {
         Plain {
-            base: Content::Sound(KeptImage::empty(alloc)),
+            base: Content::Sound(ImageLists::empty(alloc)),
             changes: Vec::new(alloc),
             kept: 0,
         }
     }
 
-    /// Lets it go. As a call of this crate it is one step to prove for a caller, and not one for each part.
+    /// Drops it. As a call of this crate it is one step to prove for a caller, and not one for each part.
     pub fn discard(self) {
         drop(self);
     }
@@ -87,7 +87,7 @@ impl Plain {
     }
 
     // Has the image that its changes made, in place of the one before them.
-    fn fold(&mut self, made: KeptImage)
+    fn fold(&mut self, made: ImageLists)
         requires sound { IsSound (image_of made) }
         requires same { self.old.content ≡ Ok (image_of made) }
         ensures { self.new ≡ record self.old { staged = [] } }
@@ -152,13 +152,13 @@ impl Keeper for Plain {
 }
 
 /// What changes make of an image.
-fn made_of(alloc: Global, base: &KeptImage, changes: &[Change]) -> Result<KeptImage, AllocError>
+fn made_of(alloc: Global, base: &ImageLists, changes: &[Change]) -> Result<ImageLists, AllocError>
     requires base { IsBase changes.now (image_of base.now) }
     ensures made { IfOk result (λ made. image_of made ≡ apply_all changes.now (image_of base.now)) }
     ensures sound { IfOk result (λ made. IsSound (image_of made)) }
 {
     let image = base.image(alloc)?;
-    let mut made = KeptImage::of_image(alloc, image)?;
+    let mut made = ImageLists::of_image(alloc, image)?;
     match made.change_all(alloc, changes) {
         Ok(()) => Ok(made),
         Err(AllocError) => {

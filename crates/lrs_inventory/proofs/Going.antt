@@ -1,4 +1,4 @@
--- Rows and referents that go are of the route.
+-- Rows and referents that are removed are of the route.
 use Rattle.std.proofs.Common.{◌≡◌, Bool, true, inl, inr, List, [], ◌∷◌, map, filter, refl, sym}
 use Rattle.std.proofs.lemmas.Bool.{and_from}
 use Rattle.std.specs.List.{list_any, list_all}
@@ -16,7 +16,7 @@ pub rows_there : (rows gone : List Span) → ((r : Span) → In r gone → In r 
 rows_there rows [] were = refl
 rows_there rows (g ∷ gs) were = and_from (has_row rows g) (list_all (has_row rows) gs) (has_in rows g (were g (inl refl))) (rows_there rows gs (λ r m. were r (inr m)))
 
--- the rows that go by a plan were there
+-- the rows that a plan removes were there
 pub plan_there : (rows : List Span) (plan : SpanChange) → IsPlan rows plan → list_all (has_row rows) plan.gone.items ≡ true
 plan_there rows plan is = rows_there rows plan.gone.items is.change.were
 

@@ -199,6 +199,6 @@ module _ (g : GroundChange) (old : Stretches) (can : CanChange g (route_over old
     passed = keeps g.passed (parted (route_over old) (course_of g.passed) (course_of g.come) can.passed can.come) passed;
   }
 
--- what came is out again
+-- what was inserted is out again
 pub out_again : (g : GroundChange) (old now new : Stretches) → IsReady g old now → ((before : Stretches) (route : Name) → HasGained before now route g.come → new ≡ before) → (m : Millimetre) → route_over new m ≡ route_over old m
 out_again g old now new r undo m = ap (λ (s : Stretches). route_over s m) (undo r.before g.route r.come) ∙ r.same m

@@ -6,7 +6,7 @@ use Rattle.std.proofs.Math.Nat.{mul-div-mul_left}
 use Rattle.std.proofs.lemmas.Bool.{and_parts, eqb-true, leb-true, le-ltb, cases_Bool}
 use Rattle.std.proofs.lemmas.Int.{ints}
 use Rattle.std.specs.Option.{ok_or}
-use Rattle.lrs_inventory.specs.Prelude.{Name, Alignment, alignment_of, Cause, RouteRow, Image, State, Extent, extent_of, ◌>>◌, ◌>>=◌, state_of, IsSound, is_named}
+use Rattle.lrs_inventory.specs.Prelude.{Name, Alignment, alignment_of, Cause, RouteRow, Image, State, EventStretch, located_stretch, ◌>>◌, ◌>>=◌, state_of, IsSound, is_named}
 use Rattle.lrs_measure.specs.Fraction.{Fraction, IsLowest}
 use Rattle.lrs_measure.specs.Lists.{In}
 use Rattle.lrs_position.specs.declared.expression.Expr.{Expr}
@@ -20,11 +20,11 @@ use Rattle.lrs_position.proofs.Located.{located-sound}
 use Rattle.lrs_position.proofs.Answering.{IsSound-from_route}
 use Rattle.lrs_position.proofs.Whole.{rounded_limit}
 use Rattle.lrs_machine.specs.declared.answer.Cause.TheVariants as cause
-use Rattle.lrs_machine.specs.Machine.{extent_between, located_chainage, referent_chainage, refuse_if}
+use Rattle.lrs_machine.specs.Machine.{stretch_between, located_chainage, referent_chainage, refuse_if}
 use Rattle.lrs_inventory.specs.declared.plan.Stop.{Stop}
 use Rattle.lrs_inventory.specs.declared.plan.Stop.TheVariants.{Refused, Memory}
 use Rattle.lrs_inventory.specs.Plans.{Answers}
-use Rattle.lrs_inventory.specs.Extents.{cause_of, IsRouteIn, IsLocatedAt, located_cell, located_end}
+use Rattle.lrs_inventory.specs.RouteStretches.{cause_of, IsRouteIn, IsLocatedAt, located_cell, located_end}
 use Rattle.lrs_image_laws.proofs.FromReferents.{referents_found}
 
 -- ---- one chainage in two ways
@@ -151,17 +151,17 @@ end_on_route len q some on = rounded_limit (unsigned_abs q.num) q.den len some (
 
 -- ---- extents by their ends
 
-pub point_extent : (s : State) (a : Alignment) (first : Expr) → extent_between s a first None ≡ (located_cell s a (length a.course) first >>= (λ at. Ok (record { from = at; to = at + 1 })))
-point_extent s a first = by (located_chainage s a first)
+pub point_stretch : (s : State) (a : Alignment) (first : Expr) → stretch_between s a first None ≡ (located_cell s a (length a.course) first >>= (λ at. Ok (record { from = at; to = at + 1 })))
+point_stretch s a first = by (located_chainage s a first)
   where
-    by : (r : Result (ℕ × ℕ) Cause) → (r >>= (λ x. let j = cell (length a.course) x in let e : Extent = record { from = j; to = j + 1 } in Ok e)) ≡ ((r >>= (λ x. Ok (cell (length a.course) x))) >>= (λ at. Ok (record { from = at; to = at + 1 })))
+    by : (r : Result (ℕ × ℕ) Cause) → (r >>= (λ x. let j = cell (length a.course) x in let e : EventStretch = record { from = j; to = j + 1 } in Ok e)) ≡ ((r >>= (λ x. Ok (cell (length a.course) x))) >>= (λ at. Ok (record { from = at; to = at + 1 })))
     by (Ok x) = refl
     by (Err c) = refl
 
-pub stretch_extent : (s : State) (a : Alignment) (first end : Expr) → extent_between s a first (Some end) ≡ (located_end s a first >>= (λ from. located_end s a end >>= (λ to. Ok (record { from = from; to = to }))))
-stretch_extent s a first end = by (located_chainage s a first) (located_chainage s a end)
+pub wide_stretch : (s : State) (a : Alignment) (first end : Expr) → stretch_between s a first (Some end) ≡ (located_end s a first >>= (λ from. located_end s a end >>= (λ to. Ok (record { from = from; to = to }))))
+wide_stretch s a first end = by (located_chainage s a first) (located_chainage s a end)
   where
-    by : (r q : Result (ℕ × ℕ) Cause) → (r >>= (λ x. q >>= (λ y. let e : Extent = record { from = snap x; to = snap y } in Ok e)))
+    by : (r q : Result (ℕ × ℕ) Cause) → (r >>= (λ x. q >>= (λ y. let e : EventStretch = record { from = snap x; to = snap y } in Ok e)))
         ≡ ((r >>= (λ x. Ok (snap x))) >>= (λ from. (q >>= (λ y. Ok (snap y))) >>= (λ to. Ok (record { from = from; to = to }))))
     by (Ok x) (Ok y) = refl
     by (Ok x) (Err c) = refl
@@ -177,23 +177,23 @@ goes_on : {X Y : Type 0} (r : Result X Cause) (f : X → Result Y Cause) (x : X)
 goes_on r f x (Refused c) is h = ap (λ q. q >>= f) is ∙ h
 goes_on r f x Memory is h = tt
 
--- What stops an end of an extent stops the extent.
+-- What stops an end of a stretch stops the stretch.
 module _ (s : State) (a : Alignment) (ends : Ends) (first : Expr) (is_first : first ≡ ends.from) (e : Stop) where
-  pub point_stops : None ≡ ends.to → Answers (located_cell s a (length a.course) first) (Err e) → Answers (extent_of s a ends) (Err e)
+  pub point_stops : None ≡ ends.to → Answers (located_cell s a (length a.course) first) (Err e) → Answers (located_stretch s a ends) (Err e)
   point_stops no_end h =
-      subst (λ (q : Result Extent Cause). Answers q (Err e)) (sym (point_extent s a first) ∙ (λ j. extent_between s a (is_first j) (no_end j)))
+      subst (λ (q : Result EventStretch Cause). Answers q (Err e)) (sym (point_stretch s a first) ∙ (λ j. stretch_between s a (is_first j) (no_end j)))
       (stops (located_cell s a (length a.course) first) (λ at. Ok (record { from = at; to = at + 1 })) e h)
 
   module _ (end : Expr) (is_end : Some end ≡ ends.to) where
-    abbrev to_end : ℕ → Result Extent Cause
+    abbrev to_end : ℕ → Result EventStretch Cause
     to_end from = located_end s a end >>= (λ to. Ok (record { from = from; to = to }))
 
-    pub from_stops : Answers (located_end s a first) (Err e) → Answers (extent_of s a ends) (Err e)
+    pub from_stops : Answers (located_end s a first) (Err e) → Answers (located_stretch s a ends) (Err e)
     from_stops h =
-        subst (λ (q : Result Extent Cause). Answers q (Err e)) (sym (stretch_extent s a first end) ∙ (λ j. extent_between s a (is_first j) (is_end j)))
+        subst (λ (q : Result EventStretch Cause). Answers q (Err e)) (sym (wide_stretch s a first end) ∙ (λ j. stretch_between s a (is_first j) (is_end j)))
         (stops (located_end s a first) to_end e h)
 
-    pub to_stops : (from : ℕ) → located_end s a first ≡ Ok from → Answers (located_end s a end) (Err e) → Answers (extent_of s a ends) (Err e)
+    pub to_stops : (from : ℕ) → located_end s a first ≡ Ok from → Answers (located_end s a end) (Err e) → Answers (located_stretch s a ends) (Err e)
     to_stops from is h =
-        subst (λ (q : Result Extent Cause). Answers q (Err e)) (sym (stretch_extent s a first end) ∙ (λ j. extent_between s a (is_first j) (is_end j)))
+        subst (λ (q : Result EventStretch Cause). Answers q (Err e)) (sym (wide_stretch s a first end) ∙ (λ j. stretch_between s a (is_first j) (is_end j)))
         (goes_on (located_end s a first) to_end from e is (stops (located_end s a end) (λ to. Ok (record { from = from; to = to })) e h))

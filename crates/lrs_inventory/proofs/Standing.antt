@@ -118,7 +118,7 @@ come_routes es i e a b c within is h k =
 pub all_placed : (es : List RouteRow) (s : Places) → HaveCome empty s (flat_map referents_on es) → IsPlaced s (referent_among es)
 all_placed es s h = record { at = λ name. h.at name ∙ ap (λ o. option_or o (referent_among es name)) (get-empty name_cmp name) }
 
--- ---- referents that come and go
+-- ---- referents that are inserted and removed
 
 module _ (s : Places) (r : ReferentPlace) (name : Name) where
   pub put_in_is : get (insert s r.name (r.link, r.mm)) name ≡ with_referent (Some r) (get s) name
@@ -127,7 +127,7 @@ module _ (s : Places) (r : ReferentPlace) (name : Name) where
   pub taken_out_is : get (remove s r.name) name ≡ without_referent (Some r) (get s) name
   taken_out_is = get-remove nat_list_cmp_total s r.name name ∙ ap (λ b. cond b None (get s name)) (sym (texts_ties name r.name))
 
--- what came is out again
+-- what was inserted is out again
 pub referents_back : (come : Option ReferentPlace) (stands : Name → Option Millimetre) (name : Name) → IsNewReferent come stands → without_referent come (with_referent come stands) name ≡ stands name
 referents_back None stands name new = refl
 referents_back (Some r) stands name new = by (same_name name r.name) refl

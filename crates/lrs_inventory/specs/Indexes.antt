@@ -45,7 +45,7 @@ abbrev pub ground_made : Option GroundChange → (Millimetre → Option Name) �
 ground_made None on m = on m
 ground_made (Some g) on m = made_by g on m
 
--- What comes by an edit is in: its key, and ground and a referent that were not there.
+-- What an edit inserts is in: its key, and ground and a referent that were not there.
 pub record IsPutIn (key : Name) (place : ℕ) (change : Option GroundChange) (come : Option ReferentPlace) (old new : Indexes) : Type 0 where
   pub keys : IsKeyPutIn key place old.keys new.keys
   pub ground : IsReadyFor change old.ground new.ground

@@ -6,5 +6,5 @@ pub mod Indexes
 pub mod Inventory
 pub mod Plans
 pub mod NewCourses
-pub mod Extents
+pub mod RouteStretches
 pub mod NewRoutes

@@ -29,7 +29,7 @@ pub use Rattle.lrs_image.specs.declared.change.RouteKeys.{RouteKeys}
 unfoldable pub use Rattle.lrs_machine.specs.Image.{state_of}
 pub use Rattle.lrs_machine.specs.Image.{route_entry, referents_on, referent_entry, asset_entry, holds_on}
 unfoldable pub use Rattle.lrs_machine.specs.Machine.{attempt}
-pub use Rattle.lrs_machine.specs.Machine.{◌>>◌, ◌>>=◌, Extent, part_of, set_route, extent_of, refuse_at}
+pub use Rattle.lrs_machine.specs.Machine.{◌>>◌, ◌>>=◌, EventStretch, part_of, set_route, located_stretch, refuse_at}
 pub use Rattle.lrs_machine.specs.Register.{contains_key}
 pub use Rattle.lrs_machine.specs.Sound.{IsSound, route_before, are_spans_of, is_span, is_on_a_link, RouteCourse, asset_before, are_courses}
 pub use Rattle.lrs_machine.specs.State.{State, Retired}

@@ -7,22 +7,22 @@ ghost use Rattle.lrs_inventory.specs.Prelude.{IsSound, image_of};
 ghost use Rattle.lrs_image.specs.Change.{apply, CanMake};
 ghost use Rattle.lrs_inventory.specs.Plans.{change_of, TellsGround};
 
-mod extents;
 mod lookups;
+mod stretches;
 
 use crate::indexes::Indexes;
 use crate::plan::Plan;
-pub use extents::RouteStretch;
-use lrs_image::{Change, CommitFault, Keeper, KeptImage, make_change, stage_change};
+use lrs_image::{Change, CommitFault, ImageLists, Keeper, make_change, stage_change};
 use lrs_machine::{Edit, Image};
 use std::alloc::{AllocError, Global};
 use std::marker::Model;
+pub use stretches::RouteStretch;
 
 /// A sound image, with indexes of its keys, of the ground of its routes and of its referents. Contracts see
 /// the image.
 #[derive(Drop)]
 pub struct Inventory {
-    kept: KeptImage,
+    kept: ImageLists,
     indexes: Indexes,
 }
 
@@ -48,11 +48,11 @@ impl Inventory {
         ensures { IfOk result (λ inventory. inventory ≡ image) }
     {
         let indexes = Indexes::of_image(alloc, &image)?;
-        let kept = KeptImage::of_image(alloc, image)?;
+        let kept = ImageLists::of_image(alloc, image)?;
         Ok(Inventory { kept, indexes })
     }
 
-    /// Lets it go. As a call of this crate it is one step to prove for a caller, and not one for each part.
+    /// Drops it. As a call of this crate it is one step to prove for a caller, and not one for each part.
     pub fn discard(self) {
         drop(self);
     }
@@ -69,7 +69,7 @@ impl Inventory {
     }
 
     /// The lists of the image, for those who read them.
-    pub fn kept(&self) -> &KeptImage
+    pub fn kept(&self) -> &ImageLists
         ensures image { image_of result.now ≡ self.now }
         ensures sound { IsSound self.now }
     {

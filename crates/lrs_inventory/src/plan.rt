@@ -111,7 +111,7 @@ impl Plan {
         }
     }
 
-    /// Lets it go. As a call of this crate it is one step to prove for a caller, and not one for each part.
+    /// Drops it. As a call of this crate it is one step to prove for a caller, and not one for each part.
     pub fn discard(self) {
         drop(self);
     }

@@ -39,7 +39,7 @@ use Rattle.lrs_machine.specs.declared.command.Command.TheVariants as verb
 use Rattle.lrs_machine.specs.Register.{Register, by_order, put, get, insert, contains_key, entries}
 use Rattle.lrs_machine.specs.State.{State, Asset, Retired}
 use Rattle.lrs_machine.specs.Machine.{◌>>=◌, ◌>>◌, refuse_if, refuse_at, route_named, is_wrong_kind, is_bad_piece, check_pieces, check_free, check_marks, located_chainage, kind_of_asset, part_of, abandon, take_away, is_of_class, set_route, drop_route}
-use Rattle.lrs_machine.specs.Machine.{extent_of, is_empty_extent, Wanted, wanted_of, first_holder, enter_asset, do_join_of, attempt, length_of_link}
+use Rattle.lrs_machine.specs.Machine.{located_stretch, is_empty_stretch, Wanted, wanted_of, first_holder, enter_asset, do_join_of, attempt, length_of_link}
 use Rattle.lrs_machine.specs.Laws.{IsGrounded, is_known, are_numbered}
 use Rattle.lrs_machine.proofs.Checks.{behind, bind, bind_known, unless, unless_at, given}
 use Rattle.lrs_machine.proofs.Pairs.{beside_ground}
@@ -212,9 +212,9 @@ module _ (s : State) (h : IsGrounded s) where
   asked : (test : Kind → Bool) (e : NewAsset) → IfOk (wanted_of test e s) IsKnown
   asked test e =
       unless IsKnown (contains_key s.assets e.asset) _ _ (λ _. bind IsKnown (ok_or (get s.classes e.class) cause.NoClass) _ (λ kind _. bind IsKnown (route_named s e.route) _ (λ a is.
-      unless IsKnown (is_wrong_kind kind e.location.to || test kind) _ _ (λ _. bind IsKnown (extent_of s a e.location) _ (λ extent _. unless IsKnown (is_nothing (part_of a.course extent)) _ _ (λ _.
-      λ p. among_on s e.side (part_of a.course extent) p (all-take (on s.links) (extent.to - extent.from) (drop extent.from a.course)
-      (all-drop (on s.links) extent.from a.course (route_on e.route a (given (get s.routes e.route) cause.NoRoute a is))))))))))
+      unless IsKnown (is_wrong_kind kind e.location.to || test kind) _ _ (λ _. bind IsKnown (located_stretch s a e.location) _ (λ stretch _. unless IsKnown (is_nothing (part_of a.course stretch)) _ _ (λ _.
+      λ p. among_on s e.side (part_of a.course stretch) p (all-take (on s.links) (stretch.to - stretch.from) (drop stretch.from a.course)
+      (all-drop (on s.links) stretch.from a.course (route_on e.route a (given (get s.routes e.route) cause.NoRoute a is))))))))))
 
   -- a link that was not known: what was known still is
   new_link : (n len : ℕ) → contains_key s.links n ≡ false → IsGrounded (record s { links = insert s.links n len })
@@ -251,7 +251,7 @@ attempt_grounded s h n (verb.Enter e) = bind_known _ _ (wanted_of (λ kind. fals
     unless_at _ (if is_exclusive w.kind then first_holder s e.class w.places else None) _ _ (λ _. enters s h n e w.places known))
 attempt_grounded s h n (verb.Retire asset route location) =
     bind _ (ok_or (kind_of_asset s asset) cause.NoAsset) _ (λ kind _. named s h _ route _ (λ a _. unless _ (is_wrong_kind kind location.to) _ _ (λ _.
-    bind _ (extent_of s a location) _ (λ extent _. unless _ (is_empty_extent extent || not (list_any (s.holds asset) (places_on B (part_of a.course extent)))) _ _ (λ _.
+    bind _ (located_stretch s a location) _ (λ stretch _. unless _ (is_empty_stretch stretch || not (list_any (s.holds asset) (places_on B (part_of a.course stretch)))) _ _ (λ _.
     beside s h _ refl refl refl refl)))))
 attempt_grounded s h n (verb.Split route at name) =
     named s h _ route _ (λ a runs. unless _ (contains_key s.routes name) _ _ (λ _. unless _ (not (is_inner_mark a.marks at)) _ _ (λ _. two a runs)))

@@ -28,7 +28,7 @@ use Rattle.lrs_machine.specs.declared.command.Command.TheVariants as verb
 use Rattle.lrs_machine.specs.Register.{Register, get, insert, contains_key, entries}
 use Rattle.lrs_machine.specs.State.{State, Asset, Edit, Reason, Retired, Abandoned, nothing_known}
 use Rattle.lrs_machine.specs.Machine.{route_named, is_wrong_kind, check_pieces, check_free, check_marks, located_chainage, kind_of_asset, part_of, belongs_to}
-use Rattle.lrs_machine.specs.Machine.{extent_of, is_empty_extent, Wanted, wanted_of, first_holder, is_of_class, take_away, enter_asset, do_enter, do_supersede, do_join_of, attempt}
+use Rattle.lrs_machine.specs.Machine.{located_stretch, is_empty_stretch, Wanted, wanted_of, first_holder, is_of_class, take_away, enter_asset, do_enter, do_supersede, do_join_of, attempt}
 use Rattle.lrs_machine.specs.Machine.{next, check_room, accept, outcome_of, step_by_key, place_of_key, step, step_record, Record, state_after}
 use Rattle.lrs_machine.specs.Laws.{IsBalanced, IsGrounded, IsLawful, StepKeepsLaws, RunsAreLawful}
 use Rattle.lrs_machine.proofs.Checks.{behind, bind, bind_known, unless, unless_at, given}
@@ -95,7 +95,7 @@ record Asked (s : State) (e : NewAsset) (test : Kind → Bool) (w : Wanted) : Ty
 asked : (test : Kind → Bool) (e : NewAsset) (s : State) → IfOk (wanted_of test e s) (Asked s e test)
 asked test e s =
     unless _ (contains_key s.assets e.asset) _ _ (λ new. bind _ (ok_or (get s.classes e.class) cause.NoClass) _ (λ kind is. bind _ (route_named s e.route) _ (λ a _.
-    unless _ (is_wrong_kind kind e.location.to || test kind) _ _ (λ right. bind _ (extent_of s a e.location) _ (λ extent _. unless _ (is_nothing (part_of a.course extent)) _ _ (λ some.
+    unless _ (is_wrong_kind kind e.location.to || test kind) _ _ (λ right. bind _ (located_stretch s a e.location) _ (λ stretch _. unless _ (is_nothing (part_of a.course stretch)) _ _ (λ some.
     record { new = new; kind = given _ _ kind is; passes = (or_parts (is_wrong_kind kind e.location.to) (test kind) right).1; some = place_beside e.side _ some }))))))
 
 module _ (n : ℕ) (s : State) (low : 1 ≤ n) (h : Fits n s) where
@@ -161,8 +161,8 @@ module _ (n : ℕ) (s : State) (low : 1 ≤ n) (h : Fits n s) where
   attempt_fits (verb.Enter e) = do_enter_fits e
   attempt_fits (verb.Retire asset route location) =
       bind _ (ok_or (kind_of_asset s asset) cause.NoAsset) _ (λ kind _. bind _ (route_named s route) _ (λ a _. unless _ (is_wrong_kind kind location.to) _ _ (λ _.
-      bind _ (extent_of s a location) _ (λ extent _. unless _ (is_empty_extent extent || not (list_any (s.holds asset) (places_on B (part_of a.course extent)))) _ _ (λ _.
-      away Retired (belongs_to asset (part_of a.course extent)) s.routes s.referents)))))
+      bind _ (located_stretch s a location) _ (λ stretch _. unless _ (is_empty_stretch stretch || not (list_any (s.holds asset) (places_on B (part_of a.course stretch)))) _ _ (λ _.
+      away Retired (belongs_to asset (part_of a.course stretch)) s.routes s.referents)))))
   attempt_fits (verb.Split route at name) =
       bind _ (route_named s route) _ (λ a _. unless _ (contains_key s.routes name) _ _ (λ _. unless _ (not (is_inner_mark a.marks at)) _ _ (λ _. only_beside s.links _ s.referents)))
   attempt_fits (verb.Join first second) = bind _ (route_named s first) _ (λ a _. bind _ (route_named s second) _ (λ b _. join_fits a b))

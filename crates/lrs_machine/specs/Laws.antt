@@ -14,7 +14,7 @@ use Rattle.lrs_machine.specs.declared.answer.Limits.{Limits}
 use Rattle.lrs_machine.specs.declared.image.Image.{Image}
 use Rattle.lrs_machine.specs.Register.{get, contains_key, entries}
 use Rattle.lrs_machine.specs.State.{State, Asset, Reason, Retired, Abandoned, nothing_known}
-use Rattle.lrs_machine.specs.Machine.{length_of_link, Extent, is_empty_extent, part_of, Record, step, step_record, state_after, place_of_key}
+use Rattle.lrs_machine.specs.Machine.{length_of_link, EventStretch, is_empty_stretch, part_of, Record, step, step_record, state_after, place_of_key}
 use Rattle.lrs_machine.specs.Image.{state_of, nothing}
 use Rattle.lrs_machine.specs.Readings.{all_places, assets_of, edits_of, total_present, total_entered, total_gone}
 use Rattle.lrs_machine.specs.Sound.{IsSound}
@@ -131,7 +131,7 @@ OnlyDoneChanges = (limits : Limits) (key : Name) (command : Command) (s : State)
 
 -- Between chainages of a course there is no entry exactly where they are not in order: so an entry is `Empty` where its snapped ends meet or are exchanged.
 abbrev pub NothingBetween : Type 0
-NothingBetween = (course : List Ground) (e : Extent) → e.to ≤ length course → is_nothing (part_of course e) ≡ is_empty_extent e
+NothingBetween = (course : List Ground) (e : EventStretch) → e.to ≤ length course → is_nothing (part_of course e) ≡ is_empty_stretch e
 
 -- A sound image stands for a lawful state.
 abbrev pub SoundIsLawful : Type 0

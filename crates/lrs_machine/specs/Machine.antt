@@ -104,29 +104,29 @@ is_wrong_kind Exclusive None = true
 is_wrong_kind Exclusive (Some e) = false
 
 -- the millimetres from <= j < to of a course
-pub record Extent : Type 0 where
+pub record EventStretch : Type 0 where
   pub from : ℕ
   pub to : ℕ
 
 -- over which millimetres something lies: a point over one, a stretch between its snapped ends
-abbrev pub extent_between : State → Alignment → Expr → Option Expr → Result Extent Cause
-extent_between s a first None = do
+abbrev pub stretch_between : State → Alignment → Expr → Option Expr → Result EventStretch Cause
+stretch_between s a first None = do
   x ← located_chainage s a first
   let j = cell (length a.course) x
   Ok (record { from = j; to = j + 1 })
-extent_between s a first (Some end) = do
+stretch_between s a first (Some end) = do
   x ← located_chainage s a first
   y ← located_chainage s a end
   Ok (record { from = snap x; to = snap y })
 
-abbrev pub extent_of : State → Alignment → Ends → Result Extent Cause
-extent_of s a ends = extent_between s a ends.from ends.to
+abbrev pub located_stretch : State → Alignment → Ends → Result EventStretch Cause
+located_stretch s a ends = stretch_between s a ends.from ends.to
 
-abbrev pub is_empty_extent : Extent → Bool
-is_empty_extent e = nat_le e.to e.from
+abbrev pub is_empty_stretch : EventStretch → Bool
+is_empty_stretch e = nat_le e.to e.from
 
 -- the entries of a course that an extent has
-abbrev pub part_of : List Ground → Extent → List Ground
+abbrev pub part_of : List Ground → EventStretch → List Ground
 part_of course e = slice_range course e.from e.to
 
 -- the least asset of a class that holds one of the places
@@ -214,8 +214,8 @@ wanted_of is_not_taken e s = do
   kind ← ok_or (get s.classes e.class) cause.NoClass
   a ← route_named s e.route
   refuse_if (is_wrong_kind kind e.location.to || is_not_taken kind) cause.WrongKind
-  extent ← extent_of s a e.location
-  let part = part_of a.course extent
+  stretch ← located_stretch s a e.location
+  let part = part_of a.course stretch
   refuse_if (is_nothing part) cause.Empty
   Ok (record { kind = kind; places = places_on e.side part })
 
@@ -242,9 +242,9 @@ do_retire n asset route location s = do
   kind ← ok_or (kind_of_asset s asset) cause.NoAsset
   a ← route_named s route
   refuse_if (is_wrong_kind kind location.to) cause.WrongKind
-  extent ← extent_of s a location
-  let part = part_of a.course extent
-  refuse_if (is_empty_extent extent || not (list_any (s.holds asset) (places_on B part))) cause.Empty
+  stretch ← located_stretch s a location
+  let part = part_of a.course stretch
+  refuse_if (is_empty_stretch stretch || not (list_any (s.holds asset) (places_on B part))) cause.Empty
   Ok (take_away n Retired (belongs_to asset part) s)
 
 abbrev pub do_split : Name → ℕ → Name → State → Result State Cause
@@ -283,7 +283,7 @@ do_recalibrate route marks s = do
   Ok (set_route route a.course marks s)
 
 -- `Taken` looks at all routes as they are, the stretch that is replaced included
-abbrev pub do_realign : ℕ → Name → Extent → List Piece → List Mark → State → Result State Cause
+abbrev pub do_realign : ℕ → Name → EventStretch → List Piece → List Mark → State → Result State Cause
 do_realign n route e pieces marks s = do
   a ← route_named s route
   refuse_if (nat_lt (length a.course) e.from || nat_lt (length a.course) e.to) cause.OffRoute

@@ -29,7 +29,7 @@ pub use image::{Edit, Image, RouteRow};
 pub use key::Key;
 pub use line::Line;
 pub use operands::{AssetNumber, Chainage, LateralOffset, MarkList, PieceList};
-pub use question::{Destination, Listing, Question, RowsWanted, Spot};
+pub use question::{AskedPlace, Destination, Listing, Question, RowsWanted};
 pub use segment::{SegFault, Segment};
 pub use stops::Fault;
 pub use table::Table;

@@ -16,7 +16,7 @@ pub enum Destination {
 
 /// A place that is asked for.
 #[derive(Clone, Copy, PartialEq, Eq)]
-pub enum Spot {
+pub enum AskedPlace {
     /// A chainage of the route of a name, in millimetres from 0 to the route's length.
     OnRoute { route: RouteName, chainage: u64 },
     /// A millimetre of the link of a number, from 0 to the link's length; at the link's end the last one is meant.
@@ -94,7 +94,7 @@ pub enum Question {
         asset: u64,
     },
     /// What is at a place, and its position by each method.
-    Where(Spot),
+    Where(AskedPlace),
     /// How long each value of each class is, on a route where it is given.
     Lengths(Option<RouteName>),
     /// A list of the inventory.

@@ -29,7 +29,7 @@ module _ {A : Type 0} (same : A → A → Bool) (itself : (x : A) → same x x �
   alone j x [] h = refl
   alone j x (r ∷ rs) h = ap (λ b. if b then record { from = j; to = r.to; value = x } ∷ rs else record { from = j; to = j + 1; value = x } ∷ r ∷ rs) (not-true (same x r.value) h)
 
-  -- the first places have one value, and what comes behind them begins with another
+  -- the first places have one value, and the rest begins with another
   stretch : (x : A) (n j to : ℕ) (xs : List A) → j + suc n ≡ to → ((k : ℕ) → k < suc n → slice_get xs k ≡ Some x) → begin_other same x (runs_from same to (drop (suc n) xs)) ≡ true
       → runs_from same j xs ≡ record { from = j; to = to; value = x } ∷ runs_from same to (drop (suc n) xs)
   stretch x n j to [] e h b = let none : None ≡ Some x = h 0 (omega arith) in absurd cc

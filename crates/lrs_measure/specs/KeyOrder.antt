@@ -20,7 +20,7 @@ module _ {K : Type 0} {R : K → K → Ordering} (o : IsTotalOrder R) where
   after_by a b k Equal e less from = absurd (false≢true (sym from ∙ ap is_lt (sym (alike_right o b k a e) ∙ less)))
   after_by a b k Greater e less from = refl
 
-  -- What comes after one that is not below k is above k.
+  -- Behind one that is not below k, each is above k.
   pub key_after : (a b k : K) → is_lt (R a b) ≡ true → is_lt (R a k) ≡ false → R b k ≡ Greater
   key_after a b k less from = after_by a b k (R b k) refl (is_less (R a b) less) from
 

@@ -75,7 +75,7 @@ express_fault a chainage_on x target = if misses_referent chainage_on target the
 abbrev pub IsExpression : Alignment → (Name → Option ℕ) → Fraction → Target → Result Expr PlaceFault → Type 0
 IsExpression a chainage_on x target answer = MatchOption (express_fault a chainage_on x target) (IsOkAnd answer (Expresses a chainage_on x target)) (λ fault. answer ≡ Err fault)
 
--- The answer is what comes of locating an expression and then expressing its chainage by the target.
+-- The answer is that of locating an expression and then expressing its chainage by the target.
 abbrev pub Translates : Alignment → (Name → Option ℕ) → Expr → Target → Result Expr PlaceFault → Type 0
 Translates a chainage_on e target answer =
     (place : Result Fraction PlaceFault) × IsAnswer (located_or_fault a chainage_on e) place × MatchResult place (λ x. IsExpression a chainage_on x target answer) (λ fault. answer ≡ Err fault)

@@ -33,8 +33,8 @@ use Rattle.lrs_machine.specs.declared.question.RowsWanted.{RowsWanted}
 use Rattle.lrs_report_answers.specs.Place.Answers.{IsThere, IsWhereabouts}
 use Rattle.lrs_report_answers.specs.Place.Places.{Place, place_of}
 use Rattle.lrs_report_answers.specs.declared.places.answer.Whereabouts.{Whereabouts}
-use Rattle.lrs_machine.specs.declared.question.Spot.{Spot}
-use Rattle.lrs_machine.specs.declared.question.Spot.TheVariants as spot
+use Rattle.lrs_machine.specs.declared.question.AskedPlace.{AskedPlace}
+use Rattle.lrs_machine.specs.declared.question.AskedPlace.TheVariants as spot
 use Rattle.lrs_sheet_log.specs.Log.{edits_from, log_text}
 use Rattle.lrs_web_requests.specs.Request.{query as asked}
 use Rattle.lrs_web_requests.specs.Text.{Answer}
@@ -88,7 +88,7 @@ place_moved i j e (Ok (r, chainage)) (Ok w) h = record {
 place_moved i j e (Ok at) (Err fault) h = h
 place_moved i j e (Err what) r h = h
 
-where_moved : (i j : Image) → state_of (with_ledgers i j) ≡ state_of j → (s : Spot) (r : Result Whereabouts AskFault) → IsWhereabouts (with_ledgers i j) s r → IsWhereabouts j s r
+where_moved : (i j : Image) → state_of (with_ledgers i j) ≡ state_of j → (s : AskedPlace) (r : Result Whereabouts AskFault) → IsWhereabouts (with_ledgers i j) s r → IsWhereabouts j s r
 where_moved i j e (spot.OnRoute route chainage) r h = place_moved (with_ledgers i j) j e (place_of j (spot.OnRoute route chainage)) r h
 where_moved i j e (spot.OnLink link mm) r h = place_moved (with_ledgers i j) j e (place_of j (spot.OnLink link mm)) r h
 

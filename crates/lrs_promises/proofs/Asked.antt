@@ -28,8 +28,8 @@ use Rattle.lrs_report_answers.specs.declared.rows.FoundRow.{FoundRow}
 use Rattle.lrs_report_answers.specs.declared.told.Told.{Told}
 use Rattle.lrs_report_answers.specs.declared.told.Told.TheVariants as told
 use Rattle.lrs_machine.specs.declared.question.RowsWanted.{RowsWanted}
-use Rattle.lrs_machine.specs.declared.question.Spot.{Spot}
-use Rattle.lrs_machine.specs.declared.question.Spot.TheVariants as spot
+use Rattle.lrs_machine.specs.declared.question.AskedPlace.{AskedPlace}
+use Rattle.lrs_machine.specs.declared.question.AskedPlace.TheVariants as spot
 use Rattle.lrs_web_requests.specs.Text.{Answer}
 use Rattle.lrs_web_requests.specs.declared.paths.Resource.{Resource}
 use Rattle.lrs_web_requests.specs.declared.paths.Resource.TheVariants as path
@@ -75,7 +75,7 @@ one_split query ps Shows Tells one given given' a b (inr (p, first, is)) (inr (q
     is ∙ ap (λ (x : Parameter). unasked (Malformed x)) (one_malformed query ps p q first first') ∙ sym is'
 
 -- what a place is asked for by
-pub where_given : (query : Text) (s : Spot) → GivesSpot query s → AllByRecursion (IsGiven query) (parameters_of path.Where query)
+pub where_given : (query : Text) (s : AskedPlace) → GivesSpot query s → AllByRecursion (IsGiven query) (parameters_of path.Where query)
 where_given query (spot.OnLink link mm) (on, l, m) =
     subst (λ b. AllByRecursion (IsGiven query) (if b then wanted.OnLink ∷ wanted.Millimetre ∷ [] else wanted.Route ∷ wanted.Chainage ∷ [])) (sym on) ((link, l), ((mm, m), tt))
 where_given query (spot.OnRoute route chainage) (on, r, c) =
@@ -132,7 +132,7 @@ tells_translated i route e destination.Link said h = h
 
 -- a place was asked for, and told
 pub record WhereTold (query : Text) (i : Image) (answer : Answer) : Type 0 where
-  pub spot : Spot
+  pub spot : AskedPlace
   pub gives_spot : GivesSpot query spot
   pub tells : AnswersQuestion i (question.Where spot) answer
   pub served : answer.status ≡ 503 → ⊥

@@ -10,8 +10,8 @@ use Rattle.lrs_events.specs.declared.side.Side.{Side}
 use Rattle.lrs_machine.specs.Lines.{Text}
 use Rattle.lrs_machine.specs.declared.answer.Field.TheVariants.{E}
 use Rattle.lrs_machine.specs.declared.question.RowsWanted.{RowsWanted}
-use Rattle.lrs_machine.specs.declared.question.Spot.{Spot}
-use Rattle.lrs_machine.specs.declared.question.Spot.TheVariants as spot
+use Rattle.lrs_machine.specs.declared.question.AskedPlace.{AskedPlace}
+use Rattle.lrs_machine.specs.declared.question.AskedPlace.TheVariants as spot
 use Rattle.lrs_sheet_records.specs.Shapes.{Argument, At, PositionBy, RouteSide, SideOf}
 use Rattle.lrs_sheet_records.proofs.OneArgument.{one-argument, one-method}
 use Rattle.lrs_web_requests.specs.Query.{parameter}
@@ -69,7 +69,7 @@ one_position query e f (m, by, states) (n, by', states') =
     let same = one_said SaysMethod one-method (parameter (codes "method") query) m n by by' in
     one_said (States n) (one_expression n) (parameter (codes "pos") query) e f (subst (λ k. GivesPositionBy query k e) same states) states'
 
-pub one_spot : (query : Text) (s t : Spot) → GivesSpot query s → GivesSpot query t → s ≡ t
+pub one_spot : (query : Text) (s t : AskedPlace) → GivesSpot query s → GivesSpot query t → s ≡ t
 one_spot query (spot.OnLink link mm) (spot.OnLink other nn) (on, l, m) (on', l', m') =
     let links = one_said _ (one_number _ _) (parameter (codes "link") query) link other l l' in
     let millimetres = one_said _ (one_number _ _) (parameter (codes "mm") query) mm nn m m' in

@@ -15,7 +15,7 @@ use Rattle.lrs_machine.specs.Image.{state_of}
 use Rattle.lrs_machine.specs.declared.image.Image.{Image}
 use Rattle.lrs_machine.specs.declared.image.RouteRow.{RouteRow}
 use Rattle.lrs_machine.specs.declared.absence.Missing.{Missing}
-use Rattle.lrs_machine.specs.declared.question.Spot.{Spot}
+use Rattle.lrs_machine.specs.declared.question.AskedPlace.{AskedPlace}
 use Rattle.lrs_report_lists.specs.Length.Lengths.{AreLengths}
 use Rattle.lrs_report_lists.proofs.Length.Unique.{are_unique}
 use Rattle.lrs_report_answers.specs.Answers.{UnlessMemory, UnlessMissing}
@@ -56,7 +56,7 @@ there_once_or i (Ok (e, chainage)) = unless_memory (IsThere i e chainage) (there
 there_once_or i (Err what) = λ r q h g some also. h ∙ sym g
 
 -- what is at the place of a spot
-pub where_once : (i : Image) (s : Spot) → OneUnlessMemory (IsWhereabouts i s)
+pub where_once : (i : Image) (s : AskedPlace) → OneUnlessMemory (IsWhereabouts i s)
 where_once i s = there_once_or i (place_of i s)
 
 -- the lengths of values

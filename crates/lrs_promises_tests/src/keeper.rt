@@ -49,7 +49,7 @@ impl Failing {
         }
     }
 
-    /// Lets it go.
+    /// Drops it.
     pub fn discard(self) {
         let Failing {
             plain,

@@ -16,7 +16,7 @@ use crate::position::cell_of;
 use crate::route::route_of;
 use lrs_element::Ground;
 use lrs_events::{Asset, Span};
-use lrs_image::KeptImage;
+use lrs_image::ImageLists;
 use lrs_machine::{Hit, Missing, RouteRow};
 use lrs_measure::Rows;
 use lrs_ordered::Chunked;
@@ -65,7 +65,7 @@ fn hits_of(alloc: Global, assets: &Chunked<Asset>, rows: &[Span]) -> Result<Rows
 /// Who holds a millimetre of a route, by asset number.
 fn holders(
     alloc: Global,
-    kept: &KeptImage,
+    kept: &ImageLists,
     row: &RouteRow,
     at: u64,
 ) -> Result<Rows<Hit>, AllocError>
@@ -82,7 +82,7 @@ fn holders(
 /// A millimetre of a route, and who holds it.
 fn answer_at(
     alloc: Global,
-    kept: &KeptImage,
+    kept: &ImageLists,
     row: &RouteRow,
     at: u64,
 ) -> Result<AtAnswer, AllocError>
@@ -108,7 +108,7 @@ fn answer_at(
 /// `Missing(Route)`, then the first that applies of `NoRef`, `TooFine` and `OffRoute`, and `Memory`.
 pub fn at(
     alloc: Global,
-    kept: &KeptImage,
+    kept: &ImageLists,
     route: &RouteName,
     expression: Expr,
 ) -> Result<AtAnswer, AskFault>

@@ -12,7 +12,7 @@ ghost use Rattle.lrs_report_answers.specs.Answers.{AsksRoute};
 
 use crate::fault::AskFault;
 use crate::route::route_of;
-use lrs_image::KeptImage;
+use lrs_image::ImageLists;
 use lrs_machine::{Missing, RouteRow};
 use lrs_measure::Frac;
 use lrs_position::{Expr, PlaceFault, RouteName, Target, cell, locate, route_to_link};
@@ -39,7 +39,7 @@ pub(crate) fn cell_of(row: &RouteRow, expression: Expr) -> Result<u64, PlaceFaul
 /// `Missing(Route)`, then the first that applies of `NoRef` of the expression, `TooFine`, `OffRoute`, `NoRef` of the target, and
 /// `TooFine` and `OffRoute` of the chainage.
 pub fn translate(
-    kept: &KeptImage,
+    kept: &ImageLists,
     route: &RouteName,
     expression: Expr,
     target: Target,
@@ -65,7 +65,7 @@ pub fn translate(
 /// # Errors
 /// `Missing(Route)`, then the first that applies of `NoRef`, `TooFine` and `OffRoute`.
 pub fn to_link(
-    kept: &KeptImage,
+    kept: &ImageLists,
     route: &RouteName,
     expression: Expr,
 ) -> Result<(u32, Frac), AskFault>

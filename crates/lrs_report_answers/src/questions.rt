@@ -20,7 +20,7 @@ use crate::{
 };
 use lrs_events::{ClassName, Side};
 use lrs_inventory::Inventory;
-use lrs_machine::{Destination, Key, Listing, Missing, Question, Spot};
+use lrs_machine::{AskedPlace, Destination, Key, Listing, Missing, Question};
 use lrs_measure::Rows;
 use lrs_position::{Expr, RouteName, Target};
 use lrs_report_lists::{ValueLength, lacks_edit, lacks_route, lengths, missing_row};
@@ -155,7 +155,11 @@ fn tell_found<'a>(alloc: Global, inventory: &'a Inventory, asset: u64) -> Result
     Ok(Told::Found(found))
 }
 
-fn tell_where<'a>(alloc: Global, inventory: &'a Inventory, spot: Spot) -> Result<Told<'a>, AskFault>
+fn tell_where<'a>(
+    alloc: Global,
+    inventory: &'a Inventory,
+    spot: AskedPlace,
+) -> Result<Told<'a>, AskFault>
     ensures answer { Tells (IsWhereabouts inventory.now spot) told.Where result }
     ensures never { result ≡ Err AskFault.MustReopen → ⊥ }
 {

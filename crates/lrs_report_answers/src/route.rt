@@ -13,13 +13,13 @@ ghost use Rattle.lrs_report_answers.specs.Answers.{IsRouteIn};
 ghost use Rattle.lrs_report_answers.specs.ToldAnswers.{IsNamedRoute, length_on};
 
 use crate::fault::AskFault;
-use lrs_image::KeptImage;
+use lrs_image::ImageLists;
 use lrs_machine::{Missing, RouteRow};
 use lrs_position::{Route, RouteName};
 use std::alloc::Global;
 
 /// The route of a name, with what lies on it, found by search.
-pub(crate) fn route_of<'a>(kept: &'a KeptImage, name: &RouteName) -> Option<&'a RouteRow>
+pub(crate) fn route_of<'a>(kept: &'a ImageLists, name: &RouteName) -> Option<&'a RouteRow>
     requires sound { IsSound (image_of kept.now) }
     ensures known { IfSome result (λ row. IsRouteIn (image_of kept.now) row.now) }
     ensures route { option_map (λ row. alignment_of row.now.route) result
@@ -29,7 +29,7 @@ pub(crate) fn route_of<'a>(kept: &'a KeptImage, name: &RouteName) -> Option<&'a 
 }
 
 /// The row of a route of a name, found by search.
-pub(crate) fn row_of<'a>(kept: &'a KeptImage, name: &RouteName) -> Option<&'a RouteRow>
+pub(crate) fn row_of<'a>(kept: &'a ImageLists, name: &RouteName) -> Option<&'a RouteRow>
     requires sound { IsSound (image_of kept.now) }
     ensures { option_map (λ row. row.now) result
         ≡ find (is_named name.now) (image_of kept.now).routes }
@@ -41,7 +41,7 @@ pub(crate) fn row_of<'a>(kept: &'a KeptImage, name: &RouteName) -> Option<&'a Ro
 ///
 /// # Errors
 /// `Missing(Route)` where no route has the name, and `Memory`.
-pub fn named_route(alloc: Global, kept: &KeptImage, name: &RouteName) -> Result<Route, AskFault>
+pub fn named_route(alloc: Global, kept: &ImageLists, name: &RouteName) -> Result<Route, AskFault>
     requires sound { IsSound (image_of kept.now) }
     ensures { IsNamedRoute (image_of kept.now) name.now result }
 {
@@ -52,7 +52,7 @@ pub fn named_route(alloc: Global, kept: &KeptImage, name: &RouteName) -> Result<
 }
 
 /// How long the route of a name is, in millimetres; 0 where no route has the name.
-pub fn length_of(kept: &KeptImage, name: &RouteName) -> u64
+pub fn length_of(kept: &ImageLists, name: &RouteName) -> u64
     requires sound { IsSound (image_of kept.now) }
     ensures { result ≡ length_on (state_of (image_of kept.now)) name.now }
 {

@@ -12,7 +12,7 @@ use crate::fault::AskFault;
 use crate::route::row_of;
 use lrs_element::Course;
 use lrs_events::{Class, ClassName};
-use lrs_image::KeptImage;
+use lrs_image::ImageLists;
 use lrs_machine::{Missing, RouteRow, SegFault};
 use lrs_measure::Rows;
 use lrs_ordered::Chunked;
@@ -144,7 +144,7 @@ fn scale_of(row: &RouteRow, from: u64, to: u64) -> Option<Scale>
 /// A stretch of a route, with these classes.
 fn draw(
     alloc: Global,
-    kept: &KeptImage,
+    kept: &ImageLists,
     row: &RouteRow,
     classes: &[Class],
     scale: Scale,
@@ -167,7 +167,7 @@ fn draw(
 /// A route from a chainage to another, with the classes of these names.
 fn draw_on(
     alloc: Global,
-    kept: &KeptImage,
+    kept: &ImageLists,
     row: &RouteRow,
     names: &[ClassName],
     from: u64,
@@ -197,7 +197,7 @@ fn draw_on(
 /// the stretch is empty or ends behind the route, and `Memory`.
 pub fn diagram(
     alloc: Global,
-    kept: &KeptImage,
+    kept: &ImageLists,
     route: &RouteName,
     names: &[ClassName],
     from: Option<u64>,

@@ -9,7 +9,7 @@ ghost use Rattle.lrs_report_answers.specs.RouteSegments.{asked_fault, IsSegmente
 use crate::fault::AskFault;
 use crate::route::route_of;
 use lrs_events::{Asset, ClassName, Side};
-use lrs_image::KeptImage;
+use lrs_image::ImageLists;
 use lrs_machine::{Missing, SegFault};
 use lrs_ordered::Chunked;
 use lrs_position::RouteName;
@@ -38,7 +38,7 @@ fn asked_fault(fault: SegFault) -> AskFault
 /// (`NotExclusive`), each by its place in `wanted`, and of both sides (`SideB`), and `Memory`.
 pub fn segments<'a>(
     alloc: Global,
-    kept: &'a KeptImage,
+    kept: &'a ImageLists,
     route: &RouteName,
     wanted: &[ClassName],
     side: Side,

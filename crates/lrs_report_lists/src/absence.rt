@@ -7,12 +7,12 @@ ghost use Rattle.lrs_report_lists.specs.Absence.{has_asset, has_class, has_edit,
 
 use crate::presence::{knows_asset, knows_class, knows_edit, knows_route};
 use lrs_events::ClassName;
-use lrs_image::KeptImage;
+use lrs_image::ImageLists;
 use lrs_machine::{Missing, RowsWanted};
 use lrs_position::RouteName;
 
 /// Whether a route is named, and there is none of the name.
-pub fn lacks_route(kept: &KeptImage, route: Option<RouteName>) -> bool
+pub fn lacks_route(kept: &ImageLists, route: Option<RouteName>) -> bool
     requires sound { IsSound (image_of kept.now) }
     ensures { result ≡ lacks (has_route (image_of kept.now)) route }
 {
@@ -22,7 +22,7 @@ pub fn lacks_route(kept: &KeptImage, route: Option<RouteName>) -> bool
     }
 }
 
-fn lacks_class(kept: &KeptImage, class: Option<ClassName>) -> bool
+fn lacks_class(kept: &ImageLists, class: Option<ClassName>) -> bool
     requires sound { IsSound (image_of kept.now) }
     ensures { result ≡ lacks (has_class (image_of kept.now)) class }
 {
@@ -32,7 +32,7 @@ fn lacks_class(kept: &KeptImage, class: Option<ClassName>) -> bool
     }
 }
 
-fn lacks_asset(kept: &KeptImage, asset: Option<u64>) -> bool
+fn lacks_asset(kept: &ImageLists, asset: Option<u64>) -> bool
     requires sound { IsSound (image_of kept.now) }
     ensures { result ≡ lacks (has_asset (image_of kept.now)) asset }
 {
@@ -43,7 +43,7 @@ fn lacks_asset(kept: &KeptImage, asset: Option<u64>) -> bool
 }
 
 /// Whether an edit is named, and there is none of the number.
-pub fn lacks_edit(kept: &KeptImage, edit: Option<u64>) -> bool
+pub fn lacks_edit(kept: &ImageLists, edit: Option<u64>) -> bool
     ensures { result ≡ lacks (has_edit (image_of kept.now)) edit }
 {
     match edit {
@@ -53,7 +53,7 @@ pub fn lacks_edit(kept: &KeptImage, edit: Option<u64>) -> bool
 }
 
 /// The first of the things that are asked of rows, and are not there: the route, then the class, then the asset.
-pub fn missing_row(kept: &KeptImage, wanted: &RowsWanted) -> Option<Missing>
+pub fn missing_row(kept: &ImageLists, wanted: &RowsWanted) -> Option<Missing>
     requires sound { IsSound (image_of kept.now) }
     ensures { result ≡ missing_row (image_of kept.now) wanted.now }
 {

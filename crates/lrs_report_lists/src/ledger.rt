@@ -14,7 +14,7 @@ ghost use Rattle.lrs_report_lists.specs.Parts.{class_part, gone_line_of, ground_
 use crate::assets::asset_numbered;
 use crate::wanted::is_of_edit;
 use lrs_events::{Asset, Gone, LinkSide, Part};
-use lrs_image::KeptImage;
+use lrs_image::ImageLists;
 use lrs_ordered::Chunked;
 use std::io;
 use std::io::Write;
@@ -129,7 +129,7 @@ fn write_each_part<W: Write>(
 ///
 /// # Errors
 /// That of the writer. Part of the list may be written then. An edit that is not known took nothing away.
-pub fn write_gone<W: Write>(writer: &mut W, kept: &KeptImage, edit: Option<u64>) -> io::Result<()>
+pub fn write_gone<W: Write>(writer: &mut W, kept: &ImageLists, edit: Option<u64>) -> io::Result<()>
     requires sound { IsSound (image_of kept.now) }
     ensures { OnOk result (Appends (W.contents writer.old) (W.contents writer.new)
         (gone_text edit (image_of kept.now))) }

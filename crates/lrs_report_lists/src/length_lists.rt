@@ -3,7 +3,7 @@
 
 mod assets;
 mod entries;
-mod extent;
+mod held_lengths;
 pub mod laws;
 mod lines;
 mod order;

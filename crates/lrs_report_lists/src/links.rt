@@ -8,7 +8,7 @@ ghost use Rattle.lrs_report_lists.specs.Lines.{link_line};
 ghost use Rattle.lrs_report_lists.specs.Lists.{links_text};
 
 use lrs_element::Link;
-use lrs_image::KeptImage;
+use lrs_image::ImageLists;
 use lrs_ordered::Chunked;
 use std::io;
 use std::io::Write;
@@ -37,7 +37,7 @@ fn write_each_link<W: Write>(writer: &mut W, links: &Chunked<Link>) -> io::Resul
 ///
 /// # Errors
 /// That of the writer. Part of the list may be written then.
-pub fn write_links<W: Write>(writer: &mut W, kept: &KeptImage) -> io::Result<()>
+pub fn write_links<W: Write>(writer: &mut W, kept: &ImageLists) -> io::Result<()>
     ensures { OnOk result (Appends (W.contents writer.old) (W.contents writer.new)
         (links_text (image_of kept.now))) }
 {

@@ -8,7 +8,7 @@ ghost use Rattle.lrs_report_lists.specs.Lines.{mark_line};
 ghost use Rattle.lrs_report_lists.specs.Lists.{marks_of, marks_text};
 
 use lrs_element::Mark;
-use lrs_image::KeptImage;
+use lrs_image::ImageLists;
 use lrs_machine::RouteRow;
 use lrs_ordered::Chunked;
 use lrs_position::Route;
@@ -58,7 +58,7 @@ fn write_each_mark<W: Write>(writer: &mut W, routes: &Chunked<RouteRow>) -> io::
 ///
 /// # Errors
 /// That of the writer. Part of the list may be written then.
-pub fn write_marks<W: Write>(writer: &mut W, kept: &KeptImage) -> io::Result<()>
+pub fn write_marks<W: Write>(writer: &mut W, kept: &ImageLists) -> io::Result<()>
     ensures { OnOk result (Appends (W.contents writer.old) (W.contents writer.new)
         (marks_text (image_of kept.now))) }
 {

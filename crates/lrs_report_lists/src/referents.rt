@@ -8,7 +8,7 @@ ghost use Rattle.lrs_report_lists.specs.Lines.{ref_line};
 ghost use Rattle.lrs_report_lists.specs.Lists.{refs_of, refs_text};
 
 use crate::measures::write_measure;
-use lrs_image::KeptImage;
+use lrs_image::ImageLists;
 use lrs_machine::RouteRow;
 use lrs_ordered::Chunked;
 use lrs_position::{Referent, Route};
@@ -61,7 +61,7 @@ fn write_each_ref<W: Write>(writer: &mut W, routes: &Chunked<RouteRow>) -> io::R
 ///
 /// # Errors
 /// That of the writer. Part of the list may be written then.
-pub fn write_refs<W: Write>(writer: &mut W, kept: &KeptImage) -> io::Result<()>
+pub fn write_refs<W: Write>(writer: &mut W, kept: &ImageLists) -> io::Result<()>
     ensures { OnOk result (Appends (W.contents writer.old) (W.contents writer.new)
         (refs_text (image_of kept.now))) }
 {

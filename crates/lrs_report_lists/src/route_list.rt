@@ -9,7 +9,7 @@ ghost use Rattle.lrs_report_lists.specs.Lines.{route_line};
 ghost use Rattle.lrs_report_lists.specs.Lists.{routes_text};
 
 use lrs_element::Marks;
-use lrs_image::KeptImage;
+use lrs_image::ImageLists;
 use lrs_machine::RouteRow;
 use lrs_ordered::Chunked;
 use lrs_position::Route;
@@ -62,7 +62,7 @@ fn write_each_route<W: Write>(writer: &mut W, routes: &Chunked<RouteRow>) -> io:
 ///
 /// # Errors
 /// That of the writer. Part of the list may be written then.
-pub fn write_routes<W: Write>(writer: &mut W, kept: &KeptImage) -> io::Result<()>
+pub fn write_routes<W: Write>(writer: &mut W, kept: &ImageLists) -> io::Result<()>
     ensures { OnOk result (Appends (W.contents writer.old) (W.contents writer.new)
         (routes_text (image_of kept.now))) }
 {

@@ -16,7 +16,7 @@ use crate::assets::asset_numbered;
 use crate::measures::write_measure;
 use crate::wanted::is_wanted;
 use lrs_events::{Asset, Span};
-use lrs_image::KeptImage;
+use lrs_image::ImageLists;
 use lrs_machine::{RouteRow, RowsWanted};
 use lrs_ordered::Chunked;
 use lrs_position::{Route, RouteName};
@@ -210,7 +210,11 @@ fn write_asked<W: Write>(
 ///
 /// # Errors
 /// That of the writer. Part of the list may be written then. A route, a class or an asset that is not known has no rows.
-pub fn write_rows<W: Write>(writer: &mut W, kept: &KeptImage, wanted: &RowsWanted) -> io::Result<()>
+pub fn write_rows<W: Write>(
+    writer: &mut W,
+    kept: &ImageLists,
+    wanted: &RowsWanted,
+) -> io::Result<()>
     requires sound { IsSound (image_of kept.now) }
     ensures { OnOk result (Appends (W.contents writer.old) (W.contents writer.new)
         (rows_text wanted.now (image_of kept.now))) }

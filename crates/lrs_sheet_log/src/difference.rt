@@ -7,7 +7,7 @@ ghost use Rattle.lrs_sheet_log.specs.Differences.{AreEach, IsFirstDifference, Sa
 
 use lrs_element::{Course, Link, Mark, Piece};
 use lrs_events::{Asset, Class, Gone, Part, Span};
-use lrs_image::KeptImage;
+use lrs_image::ImageLists;
 use lrs_machine::{Edit, RouteRow, Table};
 use lrs_ordered::{Chunked, RowsIter};
 use lrs_position::Referent;
@@ -220,14 +220,14 @@ impl Compared for RouteRow {
     }
 }
 
-fn have_same_routes(table: Table, left: &KeptImage, right: &KeptImage) -> bool
+fn have_same_routes(table: Table, left: &ImageLists, right: &ImageLists) -> bool
     ensures { IsTrue result ↔ AreEach (SameRoute table) left.now.routes.rows right.now.routes.rows }
 {
     are_each_in_chunks(table, &left.routes, &right.routes)
 }
 
 /// Whether two images have the same rows in a table.
-fn have_same(table: Table, left: &KeptImage, right: &KeptImage) -> bool
+fn have_same(table: Table, left: &ImageLists, right: &ImageLists) -> bool
     ensures { IsTrue result ↔ SameTable table (image_of left.now) (image_of right.now) }
 {
     match table {
@@ -267,7 +267,7 @@ fn table_at(place: u32) -> Table
 }
 
 /// The first table in which two images differ, in the order of tables; none where the images are the same.
-pub fn first_difference(left: &KeptImage, right: &KeptImage) -> Option<Table>
+pub fn first_difference(left: &ImageLists, right: &ImageLists) -> Option<Table>
     ensures { IsFirstDifference (image_of left.now) (image_of right.now) result }
 {
     for place in 1..11 {

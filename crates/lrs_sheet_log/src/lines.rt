@@ -9,7 +9,7 @@ ghost use Rattle.lrs_image.specs.OpenLists.{image_of};
 ghost use Rattle.lrs_sheet_records.specs.Kinds.{edit_header};
 ghost use Rattle.lrs_sheet_log.specs.Log.{edits_from, edits_under, log_text, record_text, row_line};
 
-use lrs_image::KeptImage;
+use lrs_image::ImageLists;
 use lrs_machine::{Edit, Key};
 use std::io;
 use std::io::Write;
@@ -82,7 +82,7 @@ fn rest_from(edits: &[Edit], number: u64) -> &[Edit]
 ///
 /// # Errors
 /// That of the writer. Part of the sheet may be written then.
-pub fn write_log<W: Write>(writer: &mut W, kept: &KeptImage, from: u64) -> io::Result<()>
+pub fn write_log<W: Write>(writer: &mut W, kept: &ImageLists, from: u64) -> io::Result<()>
     ensures { OnOk result (Appends (W.contents writer.old) (W.contents writer.new)
         (log_text (edits_from from (state_of (image_of kept.now)).done))) }
 {
@@ -135,7 +135,7 @@ fn write_edits_under<W: Write>(writer: &mut W, edits: &[Edit], key: &Key) -> io:
 ///
 /// # Errors
 /// That of the writer. Part of the sheet may be written then.
-pub fn write_log_of_key<W: Write>(writer: &mut W, kept: &KeptImage, key: &Key) -> io::Result<bool>
+pub fn write_log_of_key<W: Write>(writer: &mut W, kept: &ImageLists, key: &Key) -> io::Result<bool>
     ensures written { OnOk result (Appends (W.contents writer.old) (W.contents writer.new)
         (log_text (edits_under key.now (state_of (image_of kept.now)).done))) }
     ensures found { IfOk result (λ found. found ≡ list_any (λ e.

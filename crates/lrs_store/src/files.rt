@@ -19,7 +19,9 @@ ghost use Rattle.lrs_store.specs.Refusals.{IsRefusedFor, IsUnsoundLeft, IsSoundL
 use crate::Tables;
 use crate::verdict::judge;
 use lrs_image::LoadFault;
-use lrs_store_files::{CloseFault, Refusal, Untaken, close_tables, open_tables, open_tables_at};
+use lrs_store_files::{
+    CloseFault, TablesNotOpened, Untaken, close_tables, open_tables, open_tables_at,
+};
 use lrs_store_tables::stored_rows::ReadImage;
 use lrs_store_tables::{StoreFault, TableStore};
 use sqlite::{Connection, FileFrom, FileStore, Files, Leftover, Options, Start};
@@ -92,7 +94,7 @@ fn judge_left<D: Disk + Drop, R: ReadImage>(
 /// Why no keeper is there, by why the tables are not opened.
 fn not_opened<D: Disk + Drop, R: ReadImage>(
     alloc: Global,
-    refusal: Refusal<D>,
+    refusal: TablesNotOpened<D>,
     reader: &R,
 ) -> NotOpened<D>
     ensures unsound { (t : Table) → result.fault ≡ LoadFault.Unsound t
@@ -101,7 +103,7 @@ fn not_opened<D: Disk + Drop, R: ReadImage>(
     ensures was { result.fault ≡ LoadFault.Store → refusal.fault ≡ StoreFault.Store }
     ensures still { IsHandedOn refusal.left result.left }
 {
-    let Refusal { fault, left } = refusal;
+    let TablesNotOpened { fault, left } = refusal;
     match (fault, left) {
         (StoreFault::Store, Some(mut left)) => {
             let fault = judge_left(alloc, &mut left, reader);

@@ -133,7 +133,7 @@ pub(crate) fn read_fault(error: Error) -> LoadFault
 
 /// Why no image is loaded, and whether the store must be opened anew, since a call of it answered an error.
 #[derive(Clone, Copy)]
-pub(crate) struct Unloaded {
+pub(crate) struct ImageNotLoaded {
     pub fault: LoadFault,
     pub must_reopen: bool,
 }
@@ -143,7 +143,7 @@ pub(crate) fn load_from<S: Alter, R: ReadImage>(
     reader: &R,
     alloc: Global,
     conn: &mut Connection<S>,
-) -> Result<Image, Unloaded>
+) -> Result<Image, ImageNotLoaded>
     requires autocommit { conn.old.in_transaction ≡ false }
     requires ready { IsReady (state S.Store conn.old) }
     requires second { IsSecond (state S.Store conn.old) }
@@ -167,7 +167,7 @@ pub(crate) fn load_from<S: Alter, R: ReadImage>(
     let rows = match read_open(conn) {
         Ok(rows) => rows,
         Err(error) => {
-            return Err(Unloaded {
+            return Err(ImageNotLoaded {
                 fault: read_fault(error),
                 must_reopen: true,
             });
@@ -175,7 +175,7 @@ pub(crate) fn load_from<S: Alter, R: ReadImage>(
     };
     match image_of(reader, alloc, rows) {
         Ok(image) => Ok(image),
-        Err(fault) => Err(Unloaded {
+        Err(fault) => Err(ImageNotLoaded {
             fault,
             must_reopen: false,
         }),

@@ -17,7 +17,7 @@ ghost use Rattle.lrs_store.specs.TableKeeper.HeldImages.{IsOpenIfClean, IsSafe};
 ghost use Rattle.lrs_store.specs.TableKeeper.Openings.{IsSecond, HoldsAnImage};
 
 use crate::commit::write_next;
-use crate::image::{Unloaded, load_from};
+use crate::image::{ImageNotLoaded, load_from};
 use crate::memory::new_store;
 use crate::migration::make_second;
 use lrs_image::{Batches, Change, CommitFault, Holder, LoadFault};
@@ -206,7 +206,7 @@ impl<S: Alter, R: ReadImage> Batches for Tables<S, R> {
                 self.is_loaded = true;
                 Ok(image)
             }
-            Err(Unloaded { fault, must_reopen }) => {
+            Err(ImageNotLoaded { fault, must_reopen }) => {
                 self.is_loaded = false;
                 self.is_broken = must_reopen;
                 self.failures = failures_after(self.failures, &fault);

@@ -29,19 +29,19 @@ pub fn drop_marks<S: Alter>(tx: &mut Transaction<'_, S>, route: &RouteName) -> R
     Ok(())
 }
 
-/// The route of which some rows go.
+/// The route some of whose rows are removed.
 #[derive(Clone, Copy)]
-pub struct Going {
+pub struct RemovedFrom {
     pub route: RouteName,
 }
 
-impl Written<Going> for Span {
+impl Written<RemovedFrom> for Span {
     ghost all = { λ of n spans. less_spans of.route spans };
 
     fn write<S: Alter>(
         &self,
         tx: &mut Transaction<'_, S>,
-        of: &Going,
+        of: &RemovedFrom,
         _n: u64,
     ) -> Result<(), Error> {
         let asset = number(self.asset)?;
@@ -59,13 +59,13 @@ impl Written<Going> for Span {
     ghost more = { λ of n k xs x t u at same. less_spans_more of.route xs x t u same };
 }
 
-impl Written<Going> for RefName {
+impl Written<RemovedFrom> for RefName {
     ghost all = { λ of n names. less_refs names };
 
     fn write<S: Alter>(
         &self,
         tx: &mut Transaction<'_, S>,
-        _of: &Going,
+        _of: &RemovedFrom,
         _n: u64,
     ) -> Result<(), Error> {
         let name = ValueRef::Text(self.bytes());

@@ -12,9 +12,9 @@ use lrs_store_tables::number::{direction_number, number};
 use sqlite::types::ValueRef;
 use sqlite::{Alter, Error, Transaction};
 
-/// The route whose rows come.
+/// The route into whose lists rows are inserted.
 #[derive(Clone, Copy)]
-pub struct Coming {
+pub struct InsertedInto {
     pub route: RouteName,
 }
 
@@ -22,13 +22,13 @@ pub struct Coming {
 #[derive(Clone, Copy)]
 pub struct Ledger;
 
-impl Written<Coming> for Piece {
+impl Written<InsertedInto> for Piece {
     ghost all = { λ of n pieces. with_pieces of.route n pieces };
 
     fn write<S: Alter>(
         &self,
         tx: &mut Transaction<'_, S>,
-        of: &Coming,
+        of: &InsertedInto,
         n: u64,
     ) -> Result<(), Error> {
         let (link, from, to) = (self.link as u64, self.from as u64, self.to as u64);
@@ -44,13 +44,13 @@ impl Written<Coming> for Piece {
     ghost more = { λ of n k xs x t u at same. pieces_more of.route n k xs x t u at same };
 }
 
-impl Written<Coming> for Mark {
+impl Written<InsertedInto> for Mark {
     ghost all = { λ of n marks. with_marks of.route n marks };
 
     fn write<S: Alter>(
         &self,
         tx: &mut Transaction<'_, S>,
-        of: &Coming,
+        of: &InsertedInto,
         n: u64,
     ) -> Result<(), Error> {
         let mut cells = [ValueRef::Text(of.route.bytes()); 4];
@@ -64,13 +64,13 @@ impl Written<Coming> for Mark {
     ghost more = { λ of n k xs x t u at same. marks_more of.route n k xs x t u at same };
 }
 
-impl Written<Coming> for Referent {
+impl Written<InsertedInto> for Referent {
     ghost all = { λ of n refs. with_refs of.route refs };
 
     fn write<S: Alter>(
         &self,
         tx: &mut Transaction<'_, S>,
-        of: &Coming,
+        of: &InsertedInto,
         _n: u64,
     ) -> Result<(), Error> {
         let at = number(self.at)?;
@@ -85,13 +85,13 @@ impl Written<Coming> for Referent {
     ghost more = { λ of n k xs x t u at same. refs_more of.route xs x t u same };
 }
 
-impl Written<Coming> for Span {
+impl Written<InsertedInto> for Span {
     ghost all = { λ of n spans. with_spans of.route spans };
 
     fn write<S: Alter>(
         &self,
         tx: &mut Transaction<'_, S>,
-        of: &Coming,
+        of: &InsertedInto,
         _n: u64,
     ) -> Result<(), Error> {
         let mut cells = [ValueRef::Null; 5];

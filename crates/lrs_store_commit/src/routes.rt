@@ -5,8 +5,8 @@ ghost use Rattle.lrs_store_tables.specs.StoredRows.{Makes, Changes};
 ghost use Rattle.lrs_store_tables.specs.RowChanges.{without_route, renamed_route};
 ghost use Rattle.lrs_store_tables.specs.Writes.{MakesOf, with_some, new_pieces, new_marks, changed_refs, changed_spans, changed_line, changed_route, new_route};
 
-use crate::delete::{Going, drop_marks, drop_pieces};
-use crate::insert_lists::Coming;
+use crate::delete::{RemovedFrom, drop_marks, drop_pieces};
+use crate::insert_lists::InsertedInto;
 use crate::lists::write_all;
 use crate::update::{Renaming, rename_marks, rename_pieces};
 use lrs_element::{Course, Marks};
@@ -25,7 +25,7 @@ fn put_new_pieces<S: Alter>(
         tx.old tx.new result }
 {
     drop_pieces(tx, route)?;
-    let coming = Coming { route: *route };
+    let coming = InsertedInto { route: *route };
     write_all(tx, &coming, course.pieces())
 }
 
@@ -52,7 +52,7 @@ fn put_new_marks<S: Alter>(
     ensures { Changes S.Store (Makes (new_marks route.now marks.now)) tx.old tx.new result }
 {
     drop_marks(tx, route)?;
-    let coming = Coming { route: *route };
+    let coming = InsertedInto { route: *route };
     write_all(tx, &coming, marks.list())
 }
 
@@ -78,9 +78,9 @@ fn change_refs<S: Alter>(
 ) -> Result<(), Error>
     ensures { Changes S.Store (Makes (changed_refs route.now refs.now)) tx.old tx.new result }
 {
-    let going = Going { route: *route };
+    let going = RemovedFrom { route: *route };
     write_all(tx, &going, refs.gone.as_slice())?;
-    let coming = Coming { route: *route };
+    let coming = InsertedInto { route: *route };
     write_all(tx, &coming, refs.come.as_slice())
 }
 
@@ -88,11 +88,11 @@ fn change_refs<S: Alter>(
 fn change_spans<S: Alter>(tx: &mut Transaction<'_, S>, change: &RouteChange) -> Result<(), Error>
     ensures { Changes S.Store (Makes (changed_spans change.now)) tx.old tx.new result }
 {
-    let going = Going {
+    let going = RemovedFrom {
         route: change.route,
     };
     write_all(tx, &going, change.spans_gone.as_slice())?;
-    let coming = Coming {
+    let coming = InsertedInto {
         route: change.route,
     };
     write_all(tx, &coming, change.spans_come.as_slice())
@@ -163,7 +163,7 @@ pub fn drop_route<S: Alter>(
 {
     drop_pieces(tx, route)?;
     drop_marks(tx, route)?;
-    let going = Going { route: *route };
+    let going = RemovedFrom { route: *route };
     write_all(tx, &going, keys.refs.as_slice())?;
     write_all(tx, &going, keys.spans.as_slice())
 }
@@ -174,7 +174,7 @@ pub fn put_route<S: Alter>(tx: &mut Transaction<'_, S>, route_row: &RouteRow) ->
         tx.old tx.new result }
 {
     let route = &route_row.route;
-    let coming = Coming { route: route.name };
+    let coming = InsertedInto { route: route.name };
     write_all(tx, &coming, route.course.pieces())?;
     write_all(tx, &coming, route.marks.list())?;
     write_all(tx, &coming, route.refs.as_slice())?;

@@ -34,7 +34,7 @@ pub enum Untaken<D: Disk> {
 }
 
 impl<D: Disk + Drop> Untaken<D> {
-    /// Lets go what is left.
+    /// Drops what is left.
     pub fn discard(self) {
         drop(self);
     }
@@ -42,7 +42,7 @@ impl<D: Disk + Drop> Untaken<D> {
 
 /// Why the store in files is not opened, and what is left of them: nothing where the system did not open them.
 #[derive(Drop)]
-pub struct Refusal<D: Disk> {
+pub struct TablesNotOpened<D: Disk> {
     pub fault: StoreFault,
     pub left: Option<Untaken<D>>,
 }
@@ -82,7 +82,7 @@ pub fn open_tables<D: Disk + Drop>(
     alloc: Global,
     files: Files<D>,
     options: Options,
-) -> Result<TableStore<FileStore<D>>, Refusal<D>>
+) -> Result<TableStore<FileStore<D>>, TablesNotOpened<D>>
     requires log { IsTrue (D.Disk.is_usable files.log) }
     requires db { IsTrue (D.Disk.is_usable files.db) }
     ensures autocommit { IfOk result (λ t. t.conn.in_transaction ≡ false) }
@@ -100,12 +100,12 @@ pub fn open_tables<D: Disk + Drop>(
     match Connection::open_files(alloc, files, options) {
         Ok(conn) => match taken(alloc, conn) {
             Ok(tables) => Ok(tables),
-            Err((fault, conn)) => Err(Refusal {
+            Err((fault, conn)) => Err(TablesNotOpened {
                 fault,
                 left: Some(Untaken::Connected(conn)),
             }),
         },
-        Err((error, left)) => Err(Refusal {
+        Err((error, left)) => Err(TablesNotOpened {
             fault: fault_of(error),
             left: Some(Untaken::Refused(left)),
         }),
@@ -129,7 +129,7 @@ fn connect_at<S: Start>(
     path: &str,
     new_has_sums: bool,
     start: S,
-) -> Result<Connection<FileStore<FileFrom<S>>>, Refusal<FileFrom<S>>>
+) -> Result<Connection<FileStore<FileFrom<S>>>, TablesNotOpened<FileFrom<S>>>
     ensures fresh { IfOk result IsNew }
     ensures opened { IfOk result (λ c. HasCleanDisk (file_state c) → IsOpened c) }
     ensures found { IfOk result (λ c. HasCleanDisk (file_state c)
@@ -144,7 +144,7 @@ fn connect_at<S: Start>(
 {
     match Connection::open_from(rt, path, new_has_sums, start) {
         Ok(conn) => Ok(conn),
-        Err((error, left)) => Err(Refusal {
+        Err((error, left)) => Err(TablesNotOpened {
             fault: fault_of(error),
             left: refused(left),
         }),
@@ -163,7 +163,7 @@ pub fn open_tables_at<S: Start>(
     path: &str,
     new_has_sums: bool,
     start: S,
-) -> Result<TableStore<FileStore<FileFrom<S>>>, Refusal<FileFrom<S>>>
+) -> Result<TableStore<FileStore<FileFrom<S>>>, TablesNotOpened<FileFrom<S>>>
     ensures autocommit { IfOk result (λ t. t.conn.in_transaction ≡ false) }
     ensures ready { IfOk result (λ t. IsReady (file_state t.conn)) }
     ensures open { IfOk result (λ t. HasCleanDisk (file_state t.conn)
@@ -177,12 +177,12 @@ pub fn open_tables_at<S: Start>(
         (IsLeftOf (image_at S.Start) (λ files. IsFresh true files.log × IsFresh false files.db))) }
 {
     if let Err(fault) = refuse_lost(rt, path) {
-        return Err(Refusal { fault, left: None });
+        return Err(TablesNotOpened { fault, left: None });
     }
     let conn = connect_at(rt, path, new_has_sums, start)?;
     match taken(rt.alloc(), conn) {
         Ok(tables) => Ok(tables),
-        Err((fault, conn)) => Err(Refusal {
+        Err((fault, conn)) => Err(TablesNotOpened {
             fault,
             left: Some(Untaken::Connected(conn)),
         }),

@@ -10,5 +10,5 @@ pub mod table_rows;
 pub mod trees;
 pub mod values;
 
-pub use files::{CloseFault, Refusal, Untaken, close_tables, open_tables, open_tables_at};
+pub use files::{CloseFault, TablesNotOpened, Untaken, close_tables, open_tables, open_tables_at};
 pub use table_list::{Known, wanted, which};

@@ -23,24 +23,24 @@ use std::rt::HostRuntime;
 
 /// Why files are not opened for questions, and what is left of them, if the system opened them.
 #[derive(Drop)]
-pub struct NotOpened<D: Disk> {
+pub struct QuestionsNotOpened<D: Disk> {
     pub fault: StoreFault,
     pub left: Option<Leftover<D>>,
 }
 
-impl<D: Disk + Drop> NotOpened<D> {
+impl<D: Disk + Drop> QuestionsNotOpened<D> {
     /// Why they are not opened. What is left of them is dropped.
     pub fn into_fault(self) -> StoreFault
         ensures { result ≡ self.fault }
     {
-        let NotOpened { fault, left } = self;
+        let QuestionsNotOpened { fault, left } = self;
         drop(left);
         fault
     }
 }
 
 impl<D: Disk + Drop> Questions<FileStore<D>> {
-    /// Lets it go.
+    /// Drops it.
     pub fn discard(self) {
         let Questions { store, .. } = self;
         drop(store);
@@ -64,7 +64,7 @@ pub fn files_for_questions<D: Disk + Drop>(
     alloc: Global,
     files: Files<D>,
     options: Options,
-) -> Result<Questions<FileStore<D>>, NotOpened<D>>
+) -> Result<Questions<FileStore<D>>, QuestionsNotOpened<D>>
     requires log { IsTrue (D.Disk.is_usable files.log) }
     requires db { IsTrue (D.Disk.is_usable files.db) }
     ensures unloaded { IfOk result (λ k. k.is_loaded ≡ false) }
@@ -84,7 +84,7 @@ pub fn files_for_questions<D: Disk + Drop>(
             is_loaded: false,
             failures: 0,
         }),
-        Err((error, left)) => Err(NotOpened {
+        Err((error, left)) => Err(QuestionsNotOpened {
             fault: fault_of(error),
             left: Some(left),
         }),
@@ -128,7 +128,7 @@ pub fn open_for_questions<S: Start>(
     rt: &HostRuntime,
     path: &str,
     start: S,
-) -> Result<Questions<FileStore<FileFrom<S>>>, NotOpened<FileFrom<S>>>
+) -> Result<Questions<FileStore<FileFrom<S>>>, QuestionsNotOpened<FileFrom<S>>>
     ensures unloaded { IfOk result (λ k. k.is_loaded ≡ false) }
     ensures open { IfOk result (λ k. IsTrue (view k.store).is_clean
         → IsTrue (view k.store).is_open) }
@@ -141,11 +141,11 @@ pub fn open_for_questions<S: Start>(
 {
     let files = match pair_at(rt, path, start) {
         Ok(files) => files,
-        Err(fault) => return Err(NotOpened { fault, left: None }),
+        Err(fault) => return Err(QuestionsNotOpened { fault, left: None }),
     };
     let options = match options(rt) {
         Ok(options) => options,
-        Err(fault) => return Err(NotOpened { fault, left: None }),
+        Err(fault) => return Err(QuestionsNotOpened { fault, left: None }),
     };
     files_for_questions(rt.alloc(), files, options)
 }

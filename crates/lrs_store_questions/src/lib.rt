@@ -12,6 +12,6 @@ mod laws;
 mod look;
 mod plain;
 
-pub use access::{NotOpened, files_for_questions, open_for_questions};
+pub use access::{QuestionsNotOpened, files_for_questions, open_for_questions};
 pub use keeper::Questions;
 pub use laws::same_answer;

@@ -40,7 +40,7 @@ edit_cells r = Int r.number ∷ Text r.token ∷ Text r.line ∷ []
 abbrev pub origin_cells : OriginRow → Row
 origin_cells r = Int r.asset ∷ Int r.edit ∷ []
 
--- those of what comes one after the other, of which the first has this number
+-- those of what stands one after the other, of which the first has this number
 abbrev pub all_cells : {X : Type 0} → (ℕ → X → Row) → ℕ → List X → Row
 all_cells cells n [] = []
 all_cells cells n (x ∷ xs) = cells n x ++ all_cells cells (n + 1) xs

@@ -4,13 +4,13 @@ use Rattle.std.proofs.lemmas.Bool.{leb-true, leb-false, ne_eqb, cases_Bool}
 use Rattle.std.proofs.lemmas.List.{length-take, length-drop}
 use Rattle.std.specs.Prelude.{◌||◌, ◌&&◌, nat_eq, nat_le}
 use Rattle.std.specs.Option.{ok_or}
-use Rattle.lrs_inventory.specs.Prelude.{Ground, Alignment, Kind, places_on, is_among, Cause, NewAsset, contains_key, ◌>>=◌, ◌>>◌, refuse_at, Extent, extent_of, part_of, attempt, State, Retired}
+use Rattle.lrs_inventory.specs.Prelude.{Ground, Alignment, Kind, places_on, is_among, Cause, NewAsset, contains_key, ◌>>=◌, ◌>>◌, refuse_at, EventStretch, located_stretch, part_of, attempt, State, Retired}
 use Rattle.lrs_measure.specs.Lists.{is_nothing}
 use Rattle.lrs_machine.specs.Segments.{is_exclusive}
 use Rattle.lrs_machine.specs.declared.answer.Cause.TheVariants as cause
 use Rattle.lrs_machine.specs.declared.command.Command.TheVariants as verb
 use Rattle.lrs_machine.specs.Register.{get}
-use Rattle.lrs_machine.specs.Machine.{refuse_if, route_named, is_wrong_kind, is_empty_extent, first_holder, Wanted, wanted_of, enter_asset, take_away, is_of_class}
+use Rattle.lrs_machine.specs.Machine.{refuse_if, route_named, is_wrong_kind, is_empty_stretch, first_holder, Wanted, wanted_of, enter_asset, take_away, is_of_class}
 use Rattle.lrs_verbs.specs.EntryRequests.{is_left_out}
 
 -- ---- a part of a course without millimetres
@@ -19,7 +19,7 @@ no_length : (c : List Ground) → is_nothing c ≡ nat_eq (length c) 0
 no_length [] = refl
 no_length (g ∷ gs) = sym (ne_eqb (length (g ∷ gs)) 0 (λ h. omega (arith, h)))
 
-pub nothing_there : (c : List Ground) (x : Extent) → x.to ≤ length c → is_nothing (part_of c x) ≡ is_empty_extent x
+pub nothing_there : (c : List Ground) (x : EventStretch) → x.to ≤ length c → is_nothing (part_of c x) ≡ is_empty_stretch x
 nothing_there c x within = no_length (part_of c x) ∙ ap (λ n. nat_eq n 0) size ∙ by (cases_Bool (nat_le x.to x.from))
   where
     size : length (part_of c x) ≡ x.to - x.from
@@ -36,11 +36,11 @@ module _ (e : NewAsset) (s : State) (is_not_taken : Kind → Bool) where
   abbrev wanted : Result Wanted Cause
   wanted = wanted_of is_not_taken e s
 
-  abbrev on_extent : Kind → Alignment → Extent → Result Wanted Cause
-  on_extent kind a x = refuse_if (is_nothing (part_of a.course x)) cause.Empty >> Ok (record { kind = kind; places = places_on e.side (part_of a.course x) })
+  abbrev on_stretch : Kind → Alignment → EventStretch → Result Wanted Cause
+  on_stretch kind a x = refuse_if (is_nothing (part_of a.course x)) cause.Empty >> Ok (record { kind = kind; places = places_on e.side (part_of a.course x) })
 
   abbrev on_route : Kind → Alignment → Result Wanted Cause
-  on_route kind a = refuse_if (is_wrong_kind kind e.location.to || is_not_taken kind) cause.WrongKind >> (extent_of s a e.location >>= on_extent kind a)
+  on_route kind a = refuse_if (is_wrong_kind kind e.location.to || is_not_taken kind) cause.WrongKind >> (located_stretch s a e.location >>= on_stretch kind a)
 
   abbrev of_kind : Kind → Result Wanted Cause
   of_kind kind = route_named s e.route >>= on_route kind
@@ -67,27 +67,27 @@ module _ (e : NewAsset) (s : State) (is_not_taken : Kind → Bool) where
       refuses_route none = at_route None none
 
       module _ (a : Alignment) (route : get s.routes e.route ≡ Some a) where
-        at_kind : (b : Bool) → (is_wrong_kind kind e.location.to || is_not_taken kind) ≡ b → wanted ≡ (refuse_if b cause.WrongKind >> (extent_of s a e.location >>= on_extent kind a))
-        at_kind b is = at_route (Some a) route ∙ ap (λ b. refuse_if b cause.WrongKind >> (extent_of s a e.location >>= on_extent kind a)) is
+        at_kind : (b : Bool) → (is_wrong_kind kind e.location.to || is_not_taken kind) ≡ b → wanted ≡ (refuse_if b cause.WrongKind >> (located_stretch s a e.location >>= on_stretch kind a))
+        at_kind b is = at_route (Some a) route ∙ ap (λ b. refuse_if b cause.WrongKind >> (located_stretch s a e.location >>= on_stretch kind a)) is
 
         pub refuses_kind : (is_wrong_kind kind e.location.to || is_not_taken kind) ≡ true → wanted ≡ Err cause.WrongKind
         refuses_kind wrong = at_kind true wrong
 
         module _ (right : (is_wrong_kind kind e.location.to || is_not_taken kind) ≡ false) where
-          at_extent : (r : Result Extent Cause) → extent_of s a e.location ≡ r → wanted ≡ (r >>= on_extent kind a)
-          at_extent r is = at_kind false right ∙ ap (λ r. r >>= on_extent kind a) is
+          at_stretch : (r : Result EventStretch Cause) → located_stretch s a e.location ≡ r → wanted ≡ (r >>= on_stretch kind a)
+          at_stretch r is = at_kind false right ∙ ap (λ r. r >>= on_stretch kind a) is
 
-          pub refuses_extent : (c : Cause) → extent_of s a e.location ≡ Err c → wanted ≡ Err c
-          refuses_extent c is = at_extent (Err c) is
+          pub refuses_stretch : (c : Cause) → located_stretch s a e.location ≡ Err c → wanted ≡ Err c
+          refuses_stretch c is = at_stretch (Err c) is
 
-          module _ (x : Extent) (extent : extent_of s a e.location ≡ Ok x) (within : x.to ≤ length a.course) where
-            at_part : (b : Bool) → is_empty_extent x ≡ b → wanted ≡ (refuse_if b cause.Empty >> Ok (record { kind = kind; places = places_on e.side (part_of a.course x) }))
-            at_part b is = at_extent (Ok x) extent ∙ ap (λ b. refuse_if b cause.Empty >> Ok (record { kind = kind; places = places_on e.side (part_of a.course x) })) (nothing_there a.course x within ∙ is)
+          module _ (x : EventStretch) (stretch : located_stretch s a e.location ≡ Ok x) (within : x.to ≤ length a.course) where
+            at_part : (b : Bool) → is_empty_stretch x ≡ b → wanted ≡ (refuse_if b cause.Empty >> Ok (record { kind = kind; places = places_on e.side (part_of a.course x) }))
+            at_part b is = at_stretch (Ok x) stretch ∙ ap (λ b. refuse_if b cause.Empty >> Ok (record { kind = kind; places = places_on e.side (part_of a.course x) })) (nothing_there a.course x within ∙ is)
 
-            pub refuses_empty : is_empty_extent x ≡ true → wanted ≡ Err cause.Empty
+            pub refuses_empty : is_empty_stretch x ≡ true → wanted ≡ Err cause.Empty
             refuses_empty none = at_part true none
 
-            pub wants : is_empty_extent x ≡ false → wanted ≡ Ok (record { kind = kind; places = places_on e.side (part_of a.course x) })
+            pub wants : is_empty_stretch x ≡ false → wanted ≡ Ok (record { kind = kind; places = places_on e.side (part_of a.course x) })
             wants some = at_part false some
 
 -- ---- what the verbs do with it

@@ -11,7 +11,7 @@ use Rattle.std.specs.Prelude.{is_some, ◌||◌, ◌&&◌, not, nat_eq, nat_lt, 
 use Rattle.std.specs.List.{list_any, list_all}
 use Rattle.std.specs.Ordering.{nat_cmp, eq_by_cmp}
 use Rattle.std.specs.Cmp.Lexicographic.{bytes_decides}
-use Rattle.lrs_inventory.specs.Prelude.{each_two, insert_by, name_cmp, same_name, longest_route, is_too_long, is_route_course, have_marks, are_referents, Asset, Kind, Part, Span, Place, is_among, places_on, span_before, are_rows, NewAsset, RouteRow, Image, Edit, state_of, holds_on, route_entry, referents_on, asset_entry, Extent, part_of, refuse_at, attempt, contains_key, route_before, asset_before, is_span, are_spans_of, is_on_a_link, are_courses, IsSound, RouteCourse, is_named, without, with_difference, IsOrderly}
+use Rattle.lrs_inventory.specs.Prelude.{each_two, insert_by, name_cmp, same_name, longest_route, is_too_long, is_route_course, have_marks, are_referents, Asset, Kind, Part, Span, Place, is_among, places_on, span_before, are_rows, NewAsset, RouteRow, Image, Edit, state_of, holds_on, route_entry, referents_on, asset_entry, EventStretch, part_of, refuse_at, attempt, contains_key, route_before, asset_before, is_span, are_spans_of, is_on_a_link, are_courses, IsSound, RouteCourse, is_named, without, with_difference, IsOrderly}
 use Rattle.lrs_measure.specs.Lists.{In, is_nothing}
 use Rattle.lrs_measure.specs.Limits.{most_pieces, most_pairs, most_assets, most_edits}
 use Rattle.lrs_element.specs.Course.{piece_count}
@@ -36,7 +36,7 @@ use Rattle.lrs_image_laws.specs.Orderly.{is_filled, share_nothing_in_an_edit}
 use Rattle.lrs_image_laws.proofs.Ordering.{sound_is_orderly}
 use Rattle.lrs_verbs.specs.Entries.{asset_of, row_of, with_row, entering, AreInLimits, AreEntered, IsEntering}
 use Rattle.lrs_verbs.specs.EntryRequests.{IsWanted}
-use Rattle.lrs_inventory.specs.Extents.{IsRouteIn}
+use Rattle.lrs_inventory.specs.RouteStretches.{IsRouteIn}
 use Rattle.lrs_inventory.specs.declared.plan.Plan.{Plan}
 use Rattle.lrs_inventory.specs.Plans.{plan_of, IsPlanOf}
 use Rattle.lrs_verbs.proofs.EntryChecks.{then_held}
@@ -89,7 +89,7 @@ others a (b ∷ bs) fresh =
     either m n h = grind (arith, nat_tests)
 
 -- what the checks of an entry have found
-pub record IsEntry (e : NewAsset) (i : Image) (r : RouteRow) (x : Extent) : Type 0 where
+pub record IsEntry (e : NewAsset) (i : Image) (r : RouteRow) (x : EventStretch) : Type 0 where
   pub fresh : list_any (λ (a : Asset). nat_eq e.asset a.number) i.assets ≡ false
   pub asset : is_asset i.classes (asset_of (length i.edits + 1) e) ≡ true
   pub route : IsRouteIn i r
@@ -124,7 +124,7 @@ is_open i r s m =
 
 -- ---- the asset, its row and its ledger come
 
-module _ (e : NewAsset) (i : Image) (r : RouteRow) (x : Extent) (parts : List Part) (ready : IsOpen i r) (is : IsEntry e i r x) (led : AreEntered (length i.edits + 1) r.route.course (row_of e x) parts) where
+module _ (e : NewAsset) (i : Image) (r : RouteRow) (x : EventStretch) (parts : List Part) (ready : IsOpen i r) (is : IsEntry e i r x) (led : AreEntered (length i.edits + 1) r.route.course (row_of e x) parts) where
   abbrev n : ℕ
   n = length i.edits + 1
 
@@ -330,7 +330,7 @@ module _ (e : NewAsset) (i : Image) (r : RouteRow) (x : Extent) (parts : List Pa
 
 -- ---- the plan
 
-module _ (e : NewAsset) (i : Image) (r : RouteRow) (x : Extent) (parts : List Part) (s : IsSound i) (is : IsEntry e i r x) (led : AreEntered (length i.edits + 1) r.route.course (row_of e x) parts) where
+module _ (e : NewAsset) (i : Image) (r : RouteRow) (x : EventStretch) (parts : List Part) (s : IsSound i) (is : IsEntry e i r x) (led : AreEntered (length i.edits + 1) r.route.course (row_of e x) parts) where
   abbrev edit : ℕ
   edit = length i.edits + 1
 
@@ -355,7 +355,7 @@ module _ (e : NewAsset) (i : Image) (r : RouteRow) (x : Extent) (parts : List Pa
   }
 
 -- what the checks of an entry have found
-pub is_entry : (e : NewAsset) (i : Image) (only_exclusive : Bool) (kind : Kind) (r : RouteRow) (x : Extent) → IsWanted i only_exclusive e kind r x → AreInLimits e → IsEntry e i r x
+pub is_entry : (e : NewAsset) (i : Image) (only_exclusive : Bool) (kind : Kind) (r : RouteRow) (x : EventStretch) → IsWanted i only_exclusive e kind r x → AreInLimits e → IsEntry e i r x
 is_entry e i only_exclusive kind r x w limits =
     let known : list_any (λ c. same_name c.name e.class) i.classes ≡ true = sym (new_class.knows e.class i) ∙ ap is_some w.begun.class in
     record {
@@ -368,7 +368,7 @@ is_entry e i only_exclusive kind r x w limits =
     }
 
 -- The verb enters the asset, where its checks have passed.
-pub enters : (e : NewAsset) (i : Image) (kind : Kind) (r : RouteRow) (x : Extent) (p : Plan) → IsSound i → IsWanted i false e kind r x → AreInLimits e
+pub enters : (e : NewAsset) (i : Image) (kind : Kind) (r : RouteRow) (x : EventStretch) (p : Plan) → IsSound i → IsWanted i false e kind r x → AreInLimits e
     → refuse_at (cond (is_exclusive kind) (first_holder (state_of i) e.class (places_on e.side (part_of r.route.course x))) None) cause.Overlap ≡ Ok tt
     → IsEntering (length i.edits + 1) e x r.route.course p → IsPlanOf (verb.Enter e) i p
 enters e i kind r x p s w limits free entered =

@@ -24,7 +24,7 @@ use Rattle.lrs_machine.specs.Machine.{refuse_if, route_named, located_chainage, 
 use Rattle.lrs_machine.specs.Register.{get}
 use Rattle.lrs_machine.proofs.SoundImages.{and_three}
 use Rattle.lrs_machine.proofs.Finding.{find_known}
-use Rattle.lrs_inventory.specs.Extents.{located_cell}
+use Rattle.lrs_inventory.specs.RouteStretches.{located_cell}
 use Rattle.lrs_inventory.specs.Plans.{IsPlanOf}
 use Rattle.lrs_verbs.specs.RouteReferents.{plan_of_referents, with_one, standing_at}
 use Rattle.lrs_image_laws.proofs.FromReferents.{ground_there, other_names, refs_of, names_once}

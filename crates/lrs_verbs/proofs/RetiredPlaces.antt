@@ -6,7 +6,7 @@ use Rattle.std.proofs.lemmas.Bool.{false≢true, and_parts, and_from, cases_Bool
 use Rattle.std.specs.Prelude.{◌&&◌, not, nat_eq, nat_le, nat_lt, slice_get}
 use Rattle.std.specs.List.{list_any}
 use Rattle.std.specs.Cmp.Lexicographic.{bytes_decides}
-use Rattle.lrs_inventory.specs.Prelude.{same_name, Ground, Asset, B, Span, Place, places_on, holds_by_spans, Removal, is_within, IsRemoval, Image, RouteRow, state_of, asset_entry, holds_on, Extent, part_of, IsSound}
+use Rattle.lrs_inventory.specs.Prelude.{same_name, Ground, Asset, B, Span, Place, places_on, holds_by_spans, Removal, is_within, IsRemoval, Image, RouteRow, state_of, asset_entry, holds_on, EventStretch, part_of, IsSound}
 use Rattle.lrs_measure.specs.Lists.{In, is_nothing}
 use Rattle.lrs_measure.proofs.Members.{any_found, any_of, flat_map_found}
 use Rattle.lrs_element.specs.Course.{is_at}
@@ -29,7 +29,7 @@ use Rattle.lrs_image_laws.proofs.FromReferents.{ground_there}
 use Rattle.lrs_image_laws.proofs.Holding.{alone, rows_held_at}
 use Rattle.lrs_verbs.proofs.TakenInPlace.{IsTakenSo, among_at, on_both_sides, on_stretch, handed_back}
 
-module _ (i : Image) (r : RouteRow) (asset : Asset) (x : Extent) (s : IsSound i) (m : In r i.routes) (known : get (state_of i).assets asset.number ≡ Some (asset_entry asset).1) where
+module _ (i : Image) (r : RouteRow) (asset : Asset) (x : EventStretch) (s : IsSound i) (m : In r i.routes) (known : get (state_of i).assets asset.number ≡ Some (asset_entry asset).1) where
   abbrev c : List Ground
   c = r.route.course
 
@@ -64,7 +64,7 @@ module _ (i : Image) (r : RouteRow) (asset : Asset) (x : Extent) (s : IsSound i)
       by (inl e) = e ∙ sym (and_from (same_name y.class asset.class) (nat_eq y.number asset.number) ((bytes_decides y.class asset.class).1 (of_its_class y k (eqb-true y.number asset.number e))) e)
       by (inr e) = e ∙ sym (ap (λ b. same_name y.class asset.class && b) e ∙ and_false (same_name y.class asset.class))
 
-  -- an entry is on the part where its chainage is within the extent
+  -- an entry is on the part where its chainage is within the stretch
   pub on_part : (j : ℕ) (g : Ground) (t : LinkSide) → slice_get c j ≡ Some g → lies_on part (beside g t) ≡ is_within x.from x.to j
   on_part j g t at = sym (on_both_sides part (beside g t)) ∙ among_at c x.from x.to B j g t (alone i r s m).once at ∙ and-true (is_within x.from x.to j)
 

@@ -3,13 +3,13 @@ use Rattle.std.proofs.Common.{◌≡◌, ℕ, ◌+◌, ◌≤◌, Bool, true, fa
 use Rattle.std.specs.List.{find, list_any}
 use Rattle.std.specs.Option.{option_and_then, option_map}
 use Rattle.std.specs.Prelude.{◌||◌, not}
-use Rattle.lrs_inventory.specs.Prelude.{Name, alignment_of, Asset, Kind, B, places_on, Removal, IsRemoval, IsPlan, Cause, Image, RouteRow, state_of, asset_entry, route_entry, ◌>>◌, Extent, part_of, extent_of, attempt, IsSound, Retired, is_named}
+use Rattle.lrs_inventory.specs.Prelude.{Name, alignment_of, Asset, Kind, B, places_on, Removal, IsRemoval, IsPlan, Cause, Image, RouteRow, state_of, asset_entry, route_entry, ◌>>◌, EventStretch, part_of, located_stretch, attempt, IsSound, Retired, is_named}
 use Rattle.lrs_measure.specs.Lists.{In, is_nothing}
 use Rattle.lrs_position.specs.Expressions.{Ends}
 use Rattle.lrs_machine.specs.declared.answer.Cause.TheVariants as cause
 use Rattle.lrs_machine.specs.declared.command.Command.TheVariants as verb
 use Rattle.lrs_machine.specs.Register.{get}
-use Rattle.lrs_machine.specs.Machine.{refuse_if, belongs_to, is_empty_extent, is_wrong_kind, kind_of_asset}
+use Rattle.lrs_machine.specs.Machine.{refuse_if, belongs_to, is_empty_stretch, is_wrong_kind, kind_of_asset}
 use Rattle.lrs_machine.specs.State as state
 use Rattle.lrs_inventory.specs.declared.plan.Plan.{Plan}
 use Rattle.lrs_inventory.specs.Plans.{IsPlanOf}
@@ -71,26 +71,26 @@ module _ (i : Image) (r : RouteRow) (asset : Asset) (kind : Kind) (ends : Ends) 
   refuses_kind = checks.refuses_kind asset.number r.route.name ends n (state_of i) kind kind_is (alignment_of r.route) there
 
   module _ (right : is_wrong_kind kind ends.to ≡ false) where
-    pub refuses_extent : (c : Cause) → extent_of (state_of i) (alignment_of r.route) ends ≡ Err c → attempt n (verb.Retire asset.number r.route.name ends) (state_of i) ≡ Err c
-    refuses_extent = checks.refuses_extent asset.number r.route.name ends n (state_of i) kind kind_is (alignment_of r.route) there right
+    pub refuses_stretch : (c : Cause) → located_stretch (state_of i) (alignment_of r.route) ends ≡ Err c → attempt n (verb.Retire asset.number r.route.name ends) (state_of i) ≡ Err c
+    refuses_stretch = checks.refuses_stretch asset.number r.route.name ends n (state_of i) kind kind_is (alignment_of r.route) there right
 
-    module _ (x : Extent) (extent : extent_of (state_of i) (alignment_of r.route) ends ≡ Ok x) where
+    module _ (x : EventStretch) (stretch : located_stretch (state_of i) (alignment_of r.route) ends ≡ Ok x) where
       abbrev holds_there : Bool
       holds_there = list_any ((state_of i).holds asset.number) (places_on B (part_of r.route.course x))
 
-      at_part : (b : Bool) → (is_empty_extent x || not holds_there) ≡ b
+      at_part : (b : Bool) → (is_empty_stretch x || not holds_there) ≡ b
           → attempt n (verb.Retire asset.number r.route.name ends) (state_of i) ≡ (refuse_if b cause.Empty >> Ok (checks.retired asset.number r.route.name ends n (state_of i) (alignment_of r.route) x))
-      at_part = checks.at_part asset.number r.route.name ends n (state_of i) kind kind_is (alignment_of r.route) there right x extent
+      at_part = checks.at_part asset.number r.route.name ends n (state_of i) kind kind_is (alignment_of r.route) there right x stretch
 
-      pub refuses_empty : is_empty_extent x ≡ true → attempt n (verb.Retire asset.number r.route.name ends) (state_of i) ≡ Err cause.Empty
+      pub refuses_empty : is_empty_stretch x ≡ true → attempt n (verb.Retire asset.number r.route.name ends) (state_of i) ≡ Err cause.Empty
       refuses_empty none = at_part true (ap (λ b. b || not holds_there) none)
 
-      module _ (removal : Removal) (some : is_empty_extent x ≡ false) (within : x.to ≤ length r.route.course) (is : IsRemoval (of_asset_within asset x) r.spans removal) where
+      module _ (removal : Removal) (some : is_empty_stretch x ≡ false) (within : x.to ≤ length r.route.course) (is : IsRemoval (of_asset_within asset x) r.spans removal) where
         in_routes : In r i.routes
         in_routes = route_in i r has.route
 
         -- there is nothing to retire where nothing is handed back
-        bare : (is_empty_extent x || not holds_there) ≡ is_nothing removal.left.items
+        bare : (is_empty_stretch x || not holds_there) ≡ is_nothing removal.left.items
         bare = (λ j. some j || not (some_is_left i r asset x s in_routes has.known removal within is j)) ∙ twice (is_nothing removal.left.items)
           where
             twice : (b : Bool) → not (not b) ≡ b

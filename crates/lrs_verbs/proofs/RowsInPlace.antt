@@ -23,7 +23,7 @@ keep_all xs = filter_all (λ x. true) xs (λ x m. refl)
 abbrev pub exchanging : Name → List Span → List Span → RouteChange
 exchanging name gone come = record (no_change name) { spans_gone = gone; spans_come = come }
 
--- ... and an asset and rows of the ledgers that come with it
+-- ... and an asset and the rows of the ledgers inserted with it
 abbrev pub with_ledgers : Option Asset → RouteChange → List Part → List Gone → Difference
 with_ledgers asset change entered gone = record no_difference { asset = asset; changed = Some change; entered = entered; gone = gone }
 

@@ -6,7 +6,7 @@ use Rattle.std.proofs.lemmas.Bool.{and_parts, or_left}
 use Rattle.std.proofs.lemmas.List.{append-nil}
 use Rattle.std.specs.Prelude.{◌&&◌, not, slice_range}
 use Rattle.std.specs.Cmp.Lexicographic.{bytes_decides}
-use Rattle.lrs_inventory.specs.Prelude.{insert_by, Name, same_name, Ground, Asset, Kind, Part, Gone, Span, Place, is_among, places_on, span_before, holds_by_spans, Removal, is_within, IsRemoval, IsPlan, NewAsset, RouteRow, Image, Retired, state_of, asset_entry, Extent, attempt, route_before, asset_before, IsSound, Difference, is_named, without, with_difference, AreGone, IsOrderly}
+use Rattle.lrs_inventory.specs.Prelude.{insert_by, Name, same_name, Ground, Asset, Kind, Part, Gone, Span, Place, is_among, places_on, span_before, holds_by_spans, Removal, is_within, IsRemoval, IsPlan, NewAsset, RouteRow, Image, Retired, state_of, asset_entry, EventStretch, attempt, route_before, asset_before, IsSound, Difference, is_named, without, with_difference, AreGone, IsOrderly}
 use Rattle.lrs_measure.specs.OrderedLists.{insert_all}
 use Rattle.lrs_measure.specs.Lists.{In}
 use Rattle.lrs_measure.proofs.Members.{In-append_right}
@@ -64,7 +64,7 @@ put_out : (name : Name) (r : RouteRow) (routes : List RouteRow) → r.route.name
 put_out name r routes named =
     passed_by route_before (λ e. not (is_named name e)) r (without name routes) (ap not ((bytes_decides r.route.name name).1 named)) ∙ passes_twice (λ e. not (is_named name e)) routes
 
-module _ (e : NewAsset) (i : Image) (kind : Kind) (r : RouteRow) (x : Extent) (removal : Removal) (parts : List Part) (gone : List Gone) (s : IsSound i) (w : IsWanted i true e kind r x) (limits : AreInLimits e)
+module _ (e : NewAsset) (i : Image) (kind : Kind) (r : RouteRow) (x : EventStretch) (removal : Removal) (parts : List Part) (gone : List Gone) (s : IsSound i) (w : IsWanted i true e kind r x) (limits : AreInLimits e)
     (plan : IsPlan r.spans removal.change) (is : IsRemoval (of_class_there e x) r.spans removal)
     (led : AreEntered (length i.edits + 1) r.route.course (row_of e x) parts)
     (lost : AreGone (length i.edits + 1) Retired (holds_by_spans r.route.course removal.left.items) gone) where
@@ -185,12 +185,12 @@ module _ (e : NewAsset) (i : Image) (kind : Kind) (r : RouteRow) (x : Extent) (r
   }
 
 -- what is removed between the ends of the stretch
-pub removed_there : (e : NewAsset) (x : Extent) (low high : ℕ) (rows : List Span) (removal : Removal) → low ≡ x.from → high ≡ x.to
+pub removed_there : (e : NewAsset) (x : EventStretch) (low high : ℕ) (rows : List Span) (removal : Removal) → low ≡ x.from → high ≡ x.to
     → IsRemoval (λ class asset j t. same_name class e.class && (is_within low high j && has_side e.side t)) rows removal → IsRemoval (of_class_there e x) rows removal
 removed_there e x low high rows removal from to h = coe 0 1 (k. IsRemoval (λ class asset j t. same_name class e.class && (is_within (from k) (to k) j && has_side e.side t)) rows removal) h
 
 -- The verb enters the asset in the place of others, where its checks have passed.
-pub supersedes : (e : NewAsset) (i : Image) (kind : Kind) (r : RouteRow) (x : Extent) (removal : Removal) (p : Plan) → IsSound i → IsWanted i true e kind r x → AreInLimits e
+pub supersedes : (e : NewAsset) (i : Image) (kind : Kind) (r : RouteRow) (x : EventStretch) (removal : Removal) (p : Plan) → IsSound i → IsWanted i true e kind r x → AreInLimits e
     → IsPlan r.spans removal.change → IsRemoval (of_class_there e x) r.spans removal → IsSuperseding (length i.edits + 1) e x r.route.course removal p → IsPlanOf (verb.Supersede e) i p
 supersedes e i kind r x removal p s w limits plan is by =
     subst (IsPlanOf (verb.Supersede e) i) (sym by.plan_is) (makes e i kind r x removal by.parts by.gone s w limits plan is by.entered by.are_gone)

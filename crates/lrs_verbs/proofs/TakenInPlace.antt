@@ -35,7 +35,7 @@ use Rattle.lrs_image_laws.proofs.Apart.{nat_eq-comm}
 use Rattle.lrs_image_laws.proofs.Halved.{fewer_have_rows}
 use Rattle.lrs_image_laws.proofs.InOrder.{is_false}
 use Rattle.lrs_image_laws.proofs.Parted.{held_alike}
-use Rattle.lrs_inventory.specs.Extents.{IsRouteIn}
+use Rattle.lrs_inventory.specs.RouteStretches.{IsRouteIn}
 use Rattle.lrs_inventory.specs.Plans.{plan_of, IsPlanOf}
 use Rattle.lrs_verbs.specs.Removals.{taking}
 use Rattle.lrs_inventory.proofs.FirstHolder.{spans_entry, row_tests, asset_of}

@@ -1,11 +1,11 @@
 -- What an entry asks for: a stretch of a route, for an asset of a class of a kind.
 use Rattle.std.specs.Prelude.{Bool, ◌≡◌, ◌<◌, ◌&&◌, not, length, Ok, Err}
-use Rattle.lrs_inventory.specs.Prelude.{Kind, places_on, NewAsset, Image, RouteRow, state_of, Extent, part_of}
+use Rattle.lrs_inventory.specs.Prelude.{Kind, places_on, NewAsset, Image, RouteRow, state_of, EventStretch, part_of}
 use Rattle.lrs_machine.specs.Segments.{is_exclusive}
 use Rattle.lrs_machine.specs.Machine.{wanted_of}
 use Rattle.lrs_inventory.specs.declared.plan.Stop.{Stop}
 use Rattle.lrs_verbs.specs.Entries.{HasBegun}
-use Rattle.lrs_inventory.specs.Extents.{EndsBy}
+use Rattle.lrs_inventory.specs.RouteStretches.{EndsBy}
 use Rattle.lrs_inventory.specs.Plans.{Answers}
 
 -- whether a kind is left out where only exclusive classes are taken
@@ -13,7 +13,7 @@ abbrev pub is_left_out : Bool → Kind → Bool
 is_left_out only_exclusive kind = only_exclusive && not (is_exclusive kind)
 
 -- The checks of an entry have passed: it wants the places of a stretch of a route, for an asset of a class of this kind.
-pub record IsWanted (i : Image) (only_exclusive : Bool) (e : NewAsset) (kind : Kind) (r : RouteRow) (x : Extent) : Type 0 where
+pub record IsWanted (i : Image) (only_exclusive : Bool) (e : NewAsset) (kind : Kind) (r : RouteRow) (x : EventStretch) : Type 0 where
   pub begun : HasBegun i e kind r
   pub filled : x.from < x.to
   pub within : EndsBy (length r.route.course) x

@@ -1,13 +1,13 @@
 -- What an edit takes away on a route: rows removed and inserted there, and the rows of a ledger for what is handed back.
 use Rattle.std.specs.Prelude.{◌≡◌, ℕ, ◌&&◌, nat_eq, List, Some}
-use Rattle.lrs_inventory.specs.Prelude.{Name, same_name, Asset, Kind, Gone, holds_by_spans, Removal, is_within, Image, RouteRow, state_of, asset_entry, Extent, RouteChange, Difference, no_difference, AreGone}
+use Rattle.lrs_inventory.specs.Prelude.{Name, same_name, Asset, Kind, Gone, holds_by_spans, Removal, is_within, Image, RouteRow, state_of, asset_entry, EventStretch, RouteChange, Difference, no_difference, AreGone}
 use Rattle.lrs_events.specs.declared.change.SpanChange.{SpanChange}
 use Rattle.lrs_events.specs.Row.Removals.{Taken}
 use Rattle.lrs_machine.specs.Register.{get}
 use Rattle.lrs_machine.specs.State.{Reason}
 use Rattle.lrs_image_laws.specs.Differences.{no_change}
 use Rattle.lrs_inventory.specs.declared.plan.Plan.{Plan}
-use Rattle.lrs_inventory.specs.Extents.{IsRouteIn}
+use Rattle.lrs_inventory.specs.RouteStretches.{IsRouteIn}
 use Rattle.lrs_inventory.specs.Plans.{plan_of}
 
 -- a route of which these rows go and come
@@ -24,8 +24,8 @@ pub record IsTaking (edit : ℕ) (why : Reason) (r : RouteRow) (removal : Remova
   pub are_gone : AreGone edit why (holds_by_spans r.route.course removal.left.items) gone
   pub plan_is : p ≡ plan_of (taking r.route.name removal.change gone)
 
--- what of an asset lies within an extent, by class, asset, chainage and side
-abbrev pub of_asset_within : Asset → Extent → Taken
+-- what of an asset lies within a stretch, by class, asset, chainage and side
+abbrev pub of_asset_within : Asset → EventStretch → Taken
 of_asset_within asset x class a j s = same_name class asset.class && nat_eq a asset.number && is_within x.from x.to j
 
 -- The asset is known, its class is of this kind, and the route is one of the inventory's.

@@ -9,7 +9,7 @@ use Rattle.lrs_sheet_records.specs.declared.sheet.Sheet.{Sheet}
 use Rattle.lrs_sheet_records.specs.declared.sheet.Sheet.TheVariants.{Edits, Survey}
 use Rattle.lrs_web_requests.specs.declared.paths.Resource.{Resource}
 use Rattle.lrs_web_requests.specs.declared.paths.Resource.TheVariants as path
-use Rattle.lrs_web_requests.specs.declared.response.Verb.{Verb}
+use Rattle.lrs_web_requests.specs.declared.response.RequestMethod.{RequestMethod}
 use Rattle.lrs_web_requests.specs.Request.{Asked, Asks, refused, not_allowed, query, sheet}
 use Rattle.lrs_web_requests.specs.Text.{Answer, answer_text, empty_answer}
 use Rattle.lrs_web.specs.QueryAnswers.{AnswersAsked}
@@ -23,7 +23,7 @@ sheet_at path.Surveys = Some Survey
 sheet_at _ = Some Edits
 
 -- another method is wanted
-abbrev pub allowed_answer : Verb → Answer
+abbrev pub allowed_answer : RequestMethod → Answer
 allowed_answer verb = record { status = 405; content_type = None; allow = Some verb; body = [] }
 
 -- What is asked for is done at the desk, and answered: a sheet is done, or its questions are answered. A query leaves the desk as it is. It has an empty 503 where memory runs out, and once a commit of several commands has failed: the image may be ahead of what is kept then. The health has an empty 503 once any commit has failed: no command is done then.

@@ -5,7 +5,7 @@ ghost use Rattle.lrs_web_requests.specs.Request.{Asked, IsServed, asked_by};
 ghost use Rattle.lrs_web_requests.specs.Text.{Answer, answer_of, empty_answer};
 ghost use Rattle.lrs_web_requests.specs.declared.paths.Resource.TheVariants as path;
 ghost use Rattle.lrs_web_requests.specs.Request.{verb_of};
-ghost use Rattle.lrs_web_requests.specs.declared.response.Verb.TheVariants.{Get};
+ghost use Rattle.lrs_web_requests.specs.declared.response.RequestMethod.TheVariants.{Get};
 ghost use Rattle.lrs_web.specs.QueryAnswers.{AnswersAsked};
 ghost use Rattle.lrs_web.specs.Questions.{AnswersQuestions};
 ghost use Rattle.lrs_web.specs.Sheets.{DoesSheet};
@@ -17,7 +17,8 @@ use http::StatusCode;
 use lrs_sheet::{Desk, Keeper, Sheet};
 use lrs_web_replies::{question_of, reply_to, unasked};
 use lrs_web_requests::{
-    BodyFault, Request, Resource, Response, Verb, receive, routes, write_reply, write_unavailable,
+    BodyFault, Request, RequestMethod, Resource, Response, receive, routes, write_reply,
+    write_unavailable,
 };
 use std::alloc::{AllocError, Global};
 use std::io::{Read, Write};
@@ -59,7 +60,7 @@ fn sheet_of(resource: Resource) -> Option<Sheet>
     }
 }
 
-fn allowed_reply(verb: Verb) -> Response
+fn allowed_reply(verb: RequestMethod) -> Response
     ensures { answer_of result ≡ allowed_answer verb }
 {
     Response {

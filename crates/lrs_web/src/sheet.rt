@@ -5,7 +5,9 @@ ghost use Rattle.lrs_web_requests.specs.Text.{answer_of, empty_answer};
 ghost use Rattle.lrs_web.specs.Sheets.{DoesSheet, IsAnswerAfter, IsRunSo, fault_answer, lines_answer};
 
 use http::StatusCode;
-use lrs_sheet::{Desk, Keeper, RECORDS_TOGETHER, Sheet, SheetFault, Tally, resume_sheet, run_sheet};
+use lrs_sheet::{
+    Desk, Keeper, RECORDS_TOGETHER, Sheet, SheetFault, Tally, resume_sheet, run_sheet,
+};
 use lrs_web_requests::{Content, ContentType, Response};
 use std::alloc::Global;
 

@@ -12,8 +12,8 @@ use Rattle.lrs_position.specs.Readings.{IsNamed, States, method_text, target_tex
 use Rattle.lrs_events.specs.declared.side.Side.{Side}
 use Rattle.lrs_events.specs.Names.{is_class_name, side_text}
 use Rattle.lrs_machine.specs.declared.question.RowsWanted.{RowsWanted}
-use Rattle.lrs_machine.specs.declared.question.Spot.{Spot}
-use Rattle.lrs_machine.specs.declared.question.Spot.TheVariants as spot
+use Rattle.lrs_machine.specs.declared.question.AskedPlace.{AskedPlace}
+use Rattle.lrs_machine.specs.declared.question.AskedPlace.TheVariants as spot
 use Rattle.lrs_web_requests.specs.Query.{parameter, parameters}
 use Rattle.lrs_web_requests.specs.declared.paths.Resource.{Resource}
 use Rattle.lrs_web_requests.specs.declared.paths.Resource.TheVariants as path
@@ -173,7 +173,7 @@ GivesMillimetre query = Said SaysMillimetre (parameter (codes "mm") query)
 abbrev pub is_on_link : Text → Bool
 is_on_link query = option_map_or (λ text. true) (parameter (codes "link") query) false
 
-abbrev pub GivesSpot : Text → Spot → Type 0
+abbrev pub GivesSpot : Text → AskedPlace → Type 0
 GivesSpot query (spot.OnLink link mm) = (is_on_link query ≡ true) × GivesLink query link × GivesMillimetre query mm
 GivesSpot query (spot.OnRoute route chainage) = (is_on_link query ≡ false) × GivesRoute query route × GivesPlaceOnRoute query chainage
 
@@ -194,7 +194,7 @@ AsksOf path.Diagram query q =
     (route : Name) × (classes : List Name) × (from : Option ℕ) × (to : Option ℕ) × GivesRoute query route × GivesClassesOrAll query classes
     × GivesFrom query from × GivesUpTo query to × (q ≡ question.Diagram route classes from to)
 AsksOf path.Find query q = (asset : ℕ) × GivesAsset query asset × (q ≡ question.Find asset)
-AsksOf path.Where query q = (s : Spot) × GivesSpot query s × (q ≡ question.Where s)
+AsksOf path.Where query q = (s : AskedPlace) × GivesSpot query s × (q ≡ question.Where s)
 AsksOf path.Lengths query q = (route : Option Name) × GivesRouteOrAll query route × (q ≡ question.Lengths route)
 AsksOf path.Routes query q = q ≡ question.List listing.Routes
 AsksOf path.Links query q = q ≡ question.List listing.Links

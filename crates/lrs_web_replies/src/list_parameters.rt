@@ -9,7 +9,7 @@ use crate::parameters::{
     is_on_link, link_in, millimetre_in, route_in, route_or_all_in, to_in,
 };
 use crate::question::QueryFault;
-use lrs_machine::{Listing, Question, RowsWanted, Spot};
+use lrs_machine::{AskedPlace, Listing, Question, RowsWanted};
 use std::alloc::Global;
 
 #[tactic(auto, using(crate::proofs::FirstFaults::rows_route, crate::proofs::FirstFaults::rows_from, crate::proofs::FirstFaults::rows_to, crate::proofs::FirstFaults::rows_class, crate::proofs::FirstFaults::rows_asset))]
@@ -58,29 +58,29 @@ pub(crate) fn lengths_question(alloc: Global, query: &[u8]) -> Result<Question, 
 }
 
 #[tactic(auto, using(crate::proofs::FirstFaults::where_link, crate::proofs::FirstFaults::where_mm))]
-fn spot_on_link(alloc: Global, query: &[u8]) -> Result<Spot, QueryFault>
+fn spot_on_link(alloc: Global, query: &[u8]) -> Result<AskedPlace, QueryFault>
     requires on_link { is_on_link query.now ≡ true }
     ensures asked { IfOk result (GivesSpot query.now) }
     ensures unasked { IfErr result (CannotAsk path.Where query.now) }
 {
     let link = link_in(alloc, query)?;
     let mm = millimetre_in(alloc, query)?;
-    Ok(Spot::OnLink { link, mm })
+    Ok(AskedPlace::OnLink { link, mm })
 }
 
 #[tactic(auto, using(crate::proofs::FirstFaults::where_route, crate::proofs::FirstFaults::where_chainage))]
-fn spot_on_route(alloc: Global, query: &[u8]) -> Result<Spot, QueryFault>
+fn spot_on_route(alloc: Global, query: &[u8]) -> Result<AskedPlace, QueryFault>
     requires on_route { is_on_link query.now ≡ false }
     ensures asked { IfOk result (GivesSpot query.now) }
     ensures unasked { IfErr result (CannotAsk path.Where query.now) }
 {
     let route = route_in(alloc, query)?;
     let chainage = chainage_of_place_in(alloc, query)?;
-    Ok(Spot::OnRoute { route, chainage })
+    Ok(AskedPlace::OnRoute { route, chainage })
 }
 
 /// The place that is asked for: on a link where one is named, and else on a route.
-fn spot_in(alloc: Global, query: &[u8]) -> Result<Spot, QueryFault>
+fn spot_in(alloc: Global, query: &[u8]) -> Result<AskedPlace, QueryFault>
     ensures asked { IfOk result (GivesSpot query.now) }
     ensures unasked { IfErr result (CannotAsk path.Where query.now) }
 {

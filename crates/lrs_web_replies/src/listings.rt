@@ -19,7 +19,7 @@ use crate::list_text::{add_each, add_item, begin, end};
 use crate::reply::{found_reply, sheet_reply};
 use lrs_element::Mark;
 use lrs_events::{Asset, Gone, Span};
-use lrs_image::KeptImage;
+use lrs_image::ImageLists;
 use lrs_inventory::Inventory;
 use lrs_machine::{Listing, RouteRow, RowsWanted};
 use lrs_ordered::Chunked;
@@ -29,7 +29,7 @@ use lrs_sheet_log::write_log;
 use lrs_web_requests::Response;
 use std::alloc::{AllocError, Global};
 
-fn routes_json(alloc: Global, kept: &KeptImage) -> Result<Vec<u8>, AllocError>
+fn routes_json(alloc: Global, kept: &ImageLists) -> Result<Vec<u8>, AllocError>
     ensures { IfOk result (λ bytes. bytes.items ≡ compact_text (routes_data (image_of kept.now))) }
 {
     let mut bytes = begin(alloc, "routes")?;
@@ -38,7 +38,7 @@ fn routes_json(alloc: Global, kept: &KeptImage) -> Result<Vec<u8>, AllocError>
     end(bytes, start)
 }
 
-fn links_json(alloc: Global, kept: &KeptImage) -> Result<Vec<u8>, AllocError>
+fn links_json(alloc: Global, kept: &ImageLists) -> Result<Vec<u8>, AllocError>
     ensures { IfOk result (λ bytes. bytes.items ≡ compact_text (links_data (image_of kept.now))) }
 {
     let mut bytes = begin(alloc, "links")?;
@@ -47,7 +47,7 @@ fn links_json(alloc: Global, kept: &KeptImage) -> Result<Vec<u8>, AllocError>
     end(bytes, start)
 }
 
-fn classes_json(alloc: Global, kept: &KeptImage) -> Result<Vec<u8>, AllocError>
+fn classes_json(alloc: Global, kept: &ImageLists) -> Result<Vec<u8>, AllocError>
     ensures { IfOk result (λ bytes. bytes.items ≡ compact_text (classes_data (image_of kept.now))) }
 {
     let mut bytes = begin(alloc, "classes")?;
@@ -117,7 +117,7 @@ fn add_all<T: OnRoute>(
 }
 
 /// The list of all that the routes have, under its name.
-fn all_json<T: OnRoute>(alloc: Global, kept: &KeptImage, name: &str) -> Result<Vec<u8>, AllocError>
+fn all_json<T: OnRoute>(alloc: Global, kept: &ImageLists, name: &str) -> Result<Vec<u8>, AllocError>
     requires whole { (route : _) (one : T) → has_float (T.shown route one) ≡ false }
     ensures { IfOk result (λ bytes. bytes.items ≡ compact_text
         (named_list name.now (flat_map (all_of T.on T.shown) (image_of kept.now).routes))) }
@@ -128,13 +128,13 @@ fn all_json<T: OnRoute>(alloc: Global, kept: &KeptImage, name: &str) -> Result<V
     end(bytes, start)
 }
 
-fn refs_json(alloc: Global, kept: &KeptImage) -> Result<Vec<u8>, AllocError>
+fn refs_json(alloc: Global, kept: &ImageLists) -> Result<Vec<u8>, AllocError>
     ensures { IfOk result (λ bytes. bytes.items ≡ compact_text (refs_data (image_of kept.now))) }
 {
     all_json::<Referent>(alloc, kept, "refs")
 }
 
-fn marks_json(alloc: Global, kept: &KeptImage) -> Result<Vec<u8>, AllocError>
+fn marks_json(alloc: Global, kept: &ImageLists) -> Result<Vec<u8>, AllocError>
     ensures { IfOk result (λ bytes. bytes.items ≡ compact_text (marks_data (image_of kept.now))) }
 {
     all_json::<Mark>(alloc, kept, "marks")
@@ -266,7 +266,7 @@ fn add_asked_rows(
     }
 }
 
-fn rows_json(alloc: Global, kept: &KeptImage, wanted: &RowsWanted) -> Result<Vec<u8>, AllocError>
+fn rows_json(alloc: Global, kept: &ImageLists, wanted: &RowsWanted) -> Result<Vec<u8>, AllocError>
     requires sound { IsSound (image_of kept.now) }
     ensures { IfOk result (λ bytes. bytes.items
         ≡ compact_text (rows_data wanted.now (image_of kept.now))) }
@@ -328,7 +328,7 @@ fn add_parts(
     Ok(())
 }
 
-fn gone_json(alloc: Global, kept: &KeptImage, edit: Option<u64>) -> Result<Vec<u8>, AllocError>
+fn gone_json(alloc: Global, kept: &ImageLists, edit: Option<u64>) -> Result<Vec<u8>, AllocError>
     requires sound { IsSound (image_of kept.now) }
     ensures { IfOk result (λ bytes. bytes.items
         ≡ compact_text (all_gone_data edit (image_of kept.now))) }
@@ -342,7 +342,7 @@ fn gone_json(alloc: Global, kept: &KeptImage, edit: Option<u64>) -> Result<Vec<u
 // ---- the log
 
 // A vector takes every byte that it is given, unless memory runs out.
-fn log_bytes(alloc: Global, kept: &KeptImage, from: u64) -> Result<Vec<u8>, AllocError>
+fn log_bytes(alloc: Global, kept: &ImageLists, from: u64) -> Result<Vec<u8>, AllocError>
     ensures { IfOk result (λ bytes. bytes.items
         ≡ log_text (edits_from from (state_of (image_of kept.now)).done)) }
 {

@@ -1,7 +1,7 @@
 //! How questions are asked by the parameters of a query.
 
 ghost use Rattle.std.specs.Prelude.{◌≡◌, IfOk, IfErr};
-ghost use Rattle.lrs_web_requests.specs.declared.response.Verb.TheVariants as verb;
+ghost use Rattle.lrs_web_requests.specs.declared.response.RequestMethod.TheVariants as verb;
 ghost use Rattle.lrs_web_requests.specs.Request.{verb_of};
 ghost use Rattle.lrs_web_replies.specs.Questions.{AsksOf, CannotAsk, parameter_text};
 

@@ -7,8 +7,8 @@ use Rattle.lrs_web_requests.specs.HeadReadings.{IsTooLarge, IsUnreadable}
 use Rattle.lrs_web_requests.specs.Body.{body_at}
 use Rattle.lrs_web_requests.specs.BodyLengths.{Field, body_length}
 use Rattle.lrs_web_requests.specs.Query.{parameter}
-use Rattle.lrs_web_requests.specs.declared.response.Verb.{Verb}
-use Rattle.lrs_web_requests.specs.declared.response.Verb.TheVariants.{Get, Post}
+use Rattle.lrs_web_requests.specs.declared.response.RequestMethod.{RequestMethod}
+use Rattle.lrs_web_requests.specs.declared.response.RequestMethod.TheVariants.{Get, Post}
 use Rattle.lrs_web_requests.specs.Text.{method_name}
 use Rattle.lrs_web_requests.specs.declared.paths.Resource.{Resource}
 use Rattle.lrs_web_requests.specs.declared.paths.Resource.TheVariants.{At, Route, Segments, Totals, Translate, Diagram, Routes, Find, Log, Health, Links, Classes, Refs, Marks, Rows, Lengths, Gone, Where, Edits, Surveys, Questions}
@@ -19,7 +19,7 @@ use Rattle.lrs_web_requests.specs.declared.request.Request.TheVariants as task
 -- what is asked for: nothing that is served, an answer to a question, with what it is asked by, or that a sheet is done, gone on with or, of questions, answered
 pub data Asked : Type 0 where
   refused : ℕ → Asked
-  not_allowed : Verb → Asked
+  not_allowed : RequestMethod → Asked
   query : Resource → List ℕ → Asked
   sheet : Resource → Bool → List ℕ → Asked
 
@@ -50,7 +50,7 @@ argument_of Route target = name_in (path_of target)
 argument_of _ target = query_of target
 
 -- the method that serves a resource
-abbrev pub verb_of : Resource → Verb
+abbrev pub verb_of : Resource → RequestMethod
 verb_of At = Get
 verb_of Route = Get
 verb_of Segments = Get
@@ -91,7 +91,7 @@ with_length resource resumes (Err status) rest = refused status
 with_length resource resumes (Ok length) rest = with_body resource resumes (body_at length rest)
 
 -- by the verb of the resource; rest is what follows the head
-abbrev pub by_verb : Verb → Resource → List ℕ → List Field → List ℕ → Asked
+abbrev pub by_verb : RequestMethod → Resource → List ℕ → List Field → List ℕ → Asked
 by_verb Get resource target fields rest = query resource (argument_of resource target)
 by_verb Post resource target fields rest = with_length resource (resumes target) (body_length fields) rest
 

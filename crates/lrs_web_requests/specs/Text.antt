@@ -3,8 +3,8 @@ use Rattle.std.specs.Prelude.{ℕ, List, [], ◌∷◌, ◌++◌, length, Option
 use Rattle.http.specs.StatusCode.{code_digits, reason_phrase}
 use Rattle.lrs_web_requests.specs.declared.response.ContentType.{ContentType}
 use Rattle.lrs_web_requests.specs.declared.response.ContentType.TheVariants.{Json, Csv, Svg}
-use Rattle.lrs_web_requests.specs.declared.response.Verb.{Verb}
-use Rattle.lrs_web_requests.specs.declared.response.Verb.TheVariants.{Get, Post}
+use Rattle.lrs_web_requests.specs.declared.response.RequestMethod.{RequestMethod}
+use Rattle.lrs_web_requests.specs.declared.response.RequestMethod.TheVariants.{Get, Post}
 use Rattle.lrs_web_requests.specs.declared.response.Content.{Content}
 use Rattle.lrs_web_requests.specs.declared.response.Response.{Response}
 
@@ -12,7 +12,7 @@ use Rattle.lrs_web_requests.specs.declared.response.Response.{Response}
 pub record Answer : Type 0 where
   pub status : ℕ
   pub content_type : Option ContentType
-  pub allow : Option Verb
+  pub allow : Option RequestMethod
   pub body : List ℕ
 
 -- a status and nothing else
@@ -27,7 +27,7 @@ media_type Json = codes "application/json"
 media_type Csv = codes "text/csv"
 media_type Svg = codes "image/svg+xml"
 
-abbrev pub method_name : Verb → List ℕ
+abbrev pub method_name : RequestMethod → List ℕ
 method_name Get = codes "GET"
 method_name Post = codes "POST"
 
@@ -38,7 +38,7 @@ abbrev pub content_type_line : Option ContentType → List ℕ
 content_type_line None = []
 content_type_line (Some kind) = codes "Content-Type: " ++ media_type kind ++ crlf
 
-abbrev pub allow_line : Option Verb → List ℕ
+abbrev pub allow_line : Option RequestMethod → List ℕ
 allow_line None = []
 allow_line (Some verb) = codes "Allow: " ++ method_name verb ++ crlf
 

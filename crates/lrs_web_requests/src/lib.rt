@@ -16,4 +16,4 @@ pub use body::BodyFault;
 pub use paths::{Resource, routes};
 pub use query::{value_of, values_of};
 pub use request::{Request, receive};
-pub use response::{Content, ContentType, Response, Verb, write_reply, write_unavailable};
+pub use response::{Content, ContentType, RequestMethod, Response, write_reply, write_unavailable};

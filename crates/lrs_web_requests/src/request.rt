@@ -5,7 +5,7 @@ ghost use Rattle.httparse.specs.Grammar.{RequestHead};
 ghost use Rattle.httparse.specs.Spans.{header_bytes, IsHeaderWithin, IsRequestOf, IsRequestWithin};
 ghost use Rattle.lrs_web_requests.specs.Routes.{rows};
 ghost use Rattle.lrs_web_requests.specs.BodyLengths.{body_length};
-ghost use Rattle.lrs_web_requests.specs.declared.response.Verb.TheVariants.{Post};
+ghost use Rattle.lrs_web_requests.specs.declared.response.RequestMethod.TheVariants.{Post};
 ghost use Rattle.lrs_web_requests.specs.Request.{asked_by, asked_at, Asks, AsksByHead, most_head, most_fields, path_of, query_of, argument_of, name_in, resumes, verb_of, with_length, by_verb, IsServed};
 
 use crate::body::{BodyFault, read_body};
@@ -13,7 +13,7 @@ use crate::framing::length_of_body;
 use crate::head::{Outcome, read_head};
 use crate::paths::{Resource, find};
 use crate::query::value_of;
-use crate::response::Verb;
+use crate::response::RequestMethod;
 use http::StatusCode;
 use httparse::spans::{EMPTY_HEADER_SPAN, HeaderSpan, RequestSpans};
 use matchit::Router;
@@ -33,7 +33,7 @@ pub enum Request {
     /// Nothing that is served: the status that says so.
     Refused(StatusCode),
     /// The path has only this method.
-    NotAllowed(Verb),
+    NotAllowed(RequestMethod),
     /// An answer: to a query, or of a route to the name in its path.
     Query(Resource, Vec<u8>),
     /// That the sheet in the body is done, or that it goes on behind its last record that is an edit; or that the questions
@@ -41,7 +41,7 @@ pub enum Request {
     Sheet(Resource, bool, Vec<u8>),
 }
 
-fn verb_for(resource: Resource) -> Verb
+fn verb_for(resource: Resource) -> RequestMethod
     ensures { result ≡ verb_of resource }
 {
     match resource {
@@ -62,8 +62,8 @@ fn verb_for(resource: Resource) -> Verb
         | Resource::Rows
         | Resource::Lengths
         | Resource::Gone
-        | Resource::Where => Verb::Get,
-        Resource::Edits | Resource::Surveys | Resource::Questions => Verb::Post,
+        | Resource::Where => RequestMethod::Get,
+        Resource::Edits | Resource::Surveys | Resource::Questions => RequestMethod::Post,
     }
 }
 
@@ -186,11 +186,11 @@ fn read_task<R: Read>(
         return Ok(Request::NotAllowed(verb));
     }
     match verb {
-        Verb::Get => {
+        RequestMethod::Get => {
             let asked_by = argument(resource, head.target);
             Ok(Request::Query(resource, Vec::from_slice(alloc, asked_by)?))
         }
-        Verb::Post => read_sheet(alloc, reader, resource, head),
+        RequestMethod::Post => read_sheet(alloc, reader, resource, head),
     }
 }
 

@@ -32,18 +32,18 @@ impl ContentType {
 
 /// A method that some path serves.
 #[derive(Clone, Copy, PartialEq, Eq)]
-pub enum Verb {
+pub enum RequestMethod {
     Get,
     Post,
 }
 
-impl Verb {
+impl RequestMethod {
     pub fn name(self) -> &'static str
         ensures { result.now ≡ method_name self }
     {
         match self {
-            Verb::Get => "GET",
-            Verb::Post => "POST",
+            RequestMethod::Get => "GET",
+            RequestMethod::Post => "POST",
         }
     }
 }
@@ -59,7 +59,7 @@ pub struct Content {
 #[derive(Drop)]
 pub struct Response {
     pub status: StatusCode,
-    pub allow: Option<Verb>,
+    pub allow: Option<RequestMethod>,
     pub content: Option<Content>,
 }
 
@@ -138,7 +138,7 @@ fn content_type_field(alloc: Global, content: &Option<Content>) -> Result<String
     }
 }
 
-fn allow_field(alloc: Global, allow: Option<Verb>) -> Result<String, AllocError>
+fn allow_field(alloc: Global, allow: Option<RequestMethod>) -> Result<String, AllocError>
     ensures { IfOk result (λ text. string_bytes text ≡ allow_line allow) }
 {
     match allow {

@@ -37,19 +37,19 @@ pub(crate) enum Behind {
 
 /// All that is to come has come, since this instant.
 #[derive(Clone, Copy)]
-pub(crate) struct Whole {
+pub(crate) struct WholeRequest {
     pub(crate) behind: Behind,
     pub(crate) since: Instant,
 }
 
-/// A connection whose request is still coming. At most a request's bytes are kept.
+/// A connection whose request has not arrived whole. At most a request's bytes are kept.
 #[derive(Drop)]
-pub(crate) struct Arrival {
+pub(crate) struct IncomingRequest {
     pub(crate) stream: TcpStream,
     pub(crate) token: Token,
     pub(crate) bytes: Vec<u8>,
     pub(crate) until: Instant,
-    pub(crate) whole: Option<Whole>,
+    pub(crate) whole: Option<WholeRequest>,
     pub(crate) is_stirred: bool,
     // The length at which the bytes are judged again, and whether they are at each end of a line.
     next: usize,
@@ -57,10 +57,15 @@ pub(crate) struct Arrival {
     ghost within: { vec_len bytes ≤ most_held },
 }
 
-impl Arrival {
+impl IncomingRequest {
     /// A connection that has just been accepted.
-    pub(crate) fn new(alloc: Global, stream: TcpStream, token: Token, now: Instant) -> Arrival {
-        Arrival {
+    pub(crate) fn new(
+        alloc: Global,
+        stream: TcpStream,
+        token: Token,
+        now: Instant,
+    ) -> IncomingRequest {
+        IncomingRequest {
             stream,
             token,
             bytes: Vec::new(alloc),
@@ -83,7 +88,7 @@ impl Arrival {
     /// Nothing more is waited for.
     pub(crate) fn settle(&mut self, behind: Behind, now: Instant) {
         if self.whole.is_none() {
-            self.whole = Some(Whole { behind, since: now });
+            self.whole = Some(WholeRequest { behind, since: now });
         }
     }
 
@@ -143,7 +148,7 @@ impl Arrival {
             return None;
         }
         match judged(alloc, self.bytes.as_slice()) {
-            Finding::Whole => return Some(Behind::Nothing),
+            Finding::WholeRequest => return Some(Behind::Nothing),
             // a head that comes byte by byte is not parsed at each byte
             Finding::InHead => self.next = self.bytes.len().saturating_mul(2),
             Finding::InBody(missing) => {

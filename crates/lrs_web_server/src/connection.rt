@@ -3,8 +3,8 @@
 ghost use Rattle.std.specs.Prelude.{◌≤◌, length, IfOk};
 
 use crate::arrival::Behind;
-use crate::departure::{Departure, Returns, Stage, give_back};
-use crate::journal::Entry;
+use crate::departure::{OutgoingReply, Returns, Stage, give_back};
+use crate::journal::JournalEntry;
 use crate::judge::copy_from;
 use mio::Token;
 use std::alloc::Global;
@@ -59,7 +59,7 @@ pub struct ReplyWriter<'a> {
     since: Instant,
     rest: Vec<u8>,
     has_waited: bool,
-    entry: Option<Entry>,
+    entry: Option<JournalEntry>,
     returns: &'a Returns,
 }
 
@@ -70,7 +70,7 @@ impl<'a> ReplyWriter<'a> {
         stream: TcpStream,
         token: Token,
         since: Instant,
-        entry: Option<Entry>,
+        entry: Option<JournalEntry>,
         returns: &'a Returns,
     ) -> ReplyWriter<'a> {
         ReplyWriter {
@@ -156,7 +156,7 @@ impl<'a> Drop for ReplyWriter<'a> {
             entry,
             returns,
         } = self;
-        let departure = Departure {
+        let departure = OutgoingReply {
             stream,
             token,
             rest,

@@ -1,7 +1,7 @@
 //! A connection whose reply is still going.
 
 use crate::deadlines::later;
-use crate::journal::Entry;
+use crate::journal::JournalEntry;
 use mio::Token;
 use std::cell::RefCell;
 use std::io::{ErrorKind, Read, Write};
@@ -31,9 +31,9 @@ pub(crate) enum Stage {
     Over,
 }
 
-/// A connection whose reply is still going.
+/// A connection whose reply is not sent whole.
 #[derive(Drop)]
-pub(crate) struct Departure {
+pub(crate) struct OutgoingReply {
     pub(crate) stream: TcpStream,
     pub(crate) token: Token,
     pub(crate) rest: Vec<u8>,
@@ -42,14 +42,14 @@ pub(crate) struct Departure {
     pub(crate) until: Instant,
     pub(crate) is_stirred: bool,
     pub(crate) pieces: u32,
-    pub(crate) entry: Option<Entry>,
+    pub(crate) entry: Option<JournalEntry>,
 }
 
 /// Connections that were served, until the door has them back.
-pub(crate) type Returns = RefCell<Vec<Departure>>;
+pub(crate) type Returns = RefCell<Vec<OutgoingReply>>;
 
 /// Gives back one that was served.
-pub(crate) fn give_back(returns: &Returns, departure: Departure) {
+pub(crate) fn give_back(returns: &Returns, departure: OutgoingReply) {
     match returns.try_borrow_mut() {
         Ok(mut departures) => {
             let _ = departures.push(departure);
@@ -59,7 +59,7 @@ pub(crate) fn give_back(returns: &Returns, departure: Departure) {
 }
 
 /// The next one that was served.
-pub(crate) fn returned(returns: &Returns) -> Option<Departure> {
+pub(crate) fn returned(returns: &Returns) -> Option<OutgoingReply> {
     match returns.try_borrow_mut() {
         Ok(mut departures) => departures.pop(),
         Err(_) => None,
@@ -112,7 +112,7 @@ fn linger(stream: &mut TcpStream, pieces: &mut u32) -> Turn {
     Turn::Failed
 }
 
-impl Departure {
+impl OutgoingReply {
     /// Its reply goes from now on.
     pub(crate) fn begin(&mut self, now: Instant) {
         self.until = later(now, TAKING_MILLIS);
@@ -164,7 +164,7 @@ impl Departure {
     }
 
     /// What is told of it, once its reply is no longer being sent.
-    pub(crate) fn take_entry(&mut self) -> Option<Entry> {
+    pub(crate) fn take_entry(&mut self) -> Option<JournalEntry> {
         if self.stage == Stage::Sending {
             return None;
         }

@@ -1,13 +1,13 @@
-//! Where clients wait: those whose requests are still coming, and those whose replies are still going.
+//! Where clients wait: those whose requests have not arrived whole, and those whose replies are not sent whole.
 
 ghost use Rattle.std.specs.Prelude.{◌<◌, ◌≤◌, length, vec_len, IfSome, IsTrue};
 ghost use Rattle.lrs_web_server.specs.Room.{most_arrivals};
 
-use crate::arrival::{Arrival, Behind, Whole};
+use crate::arrival::{Behind, IncomingRequest, WholeRequest};
 use crate::connection::{ReplyWriter, RequestReader};
 use crate::deadlines::later;
-use crate::departure::{Departure, Returns, Stage, returned};
-use crate::journal::Entry;
+use crate::departure::{OutgoingReply, Returns, Stage, returned};
+use crate::journal::JournalEntry;
 use mio::net::TcpListener;
 use mio::{Events, Interest, Poll, Token};
 use std::alloc::Global;
@@ -61,13 +61,13 @@ struct Pause {
 
 /// Where clients wait.
 #[derive(Drop)]
-pub(crate) struct Hall<'a> {
+pub(crate) struct WaitingRoom<'a> {
     alloc: Global,
     listener: TcpListener,
     poll: Poll,
     events: Events,
-    arrivals: Vec<Arrival>,
-    departures: Vec<Departure>,
+    arrivals: Vec<IncomingRequest>,
+    departures: Vec<OutgoingReply>,
     returns: &'a Returns,
     // How many connections may still be accepted, whether one may wait for it, and what it waits for.
     left: u32,
@@ -106,7 +106,7 @@ fn accept_present(listener: &TcpListener) -> io::Result<mio::net::TcpStream> {
     Err(io::Error::from(ErrorKind::ConnectionAborted))
 }
 
-fn stir(token: Token, arrivals: &mut [Arrival], departures: &mut [Departure]) {
+fn stir(token: Token, arrivals: &mut [IncomingRequest], departures: &mut [OutgoingReply]) {
     for arrival in arrivals.iter_mut() {
         if arrival.token == token {
             arrival.is_stirred = true;
@@ -120,7 +120,11 @@ fn stir(token: Token, arrivals: &mut [Arrival], departures: &mut [Departure]) {
 }
 
 // Notes which connections are reported, and answers whether the listener is.
-fn note(events: &Events, arrivals: &mut [Arrival], departures: &mut [Departure]) -> bool {
+fn note(
+    events: &Events,
+    arrivals: &mut [IncomingRequest],
+    departures: &mut [OutgoingReply],
+) -> bool {
     let mut comes = false;
     for event in events {
         let token = event.token();
@@ -134,7 +138,7 @@ fn note(events: &Events, arrivals: &mut [Arrival], departures: &mut [Departure])
 }
 
 // The one whose request has been whole, or has been late, for longest.
-fn first_since(arrivals: &[Arrival], is_late: bool) -> Option<usize>
+fn first_since(arrivals: &[IncomingRequest], is_late: bool) -> Option<usize>
     ensures { IfSome result (λ index. index < length arrivals.now) }
 {
     let since = arrivals
@@ -147,7 +151,7 @@ fn first_since(arrivals: &[Arrival], is_late: bool) -> Option<usize>
 }
 
 // The one whose request has been whole for longest. Those that are late come behind, so that nobody waits for them.
-fn first_whole(arrivals: &[Arrival]) -> Option<usize>
+fn first_whole(arrivals: &[IncomingRequest]) -> Option<usize>
     ensures { IfSome result (λ index. index < length arrivals.now) }
 {
     match first_since(arrivals, false) {
@@ -157,7 +161,7 @@ fn first_whole(arrivals: &[Arrival]) -> Option<usize>
 }
 
 // How many bytes of replies are kept.
-fn kept(departures: &[Departure]) -> usize {
+fn kept(departures: &[OutgoingReply]) -> usize {
     let mut bytes = 0usize;
     for departure in departures {
         bytes = bytes.saturating_add(departure.rest.len());
@@ -166,7 +170,7 @@ fn kept(departures: &[Departure]) -> usize {
 }
 
 // The oldest of too many, and of those that keep too much, give way; the newest does not.
-fn trim(departures: &mut [Departure]) {
+fn trim(departures: &mut [OutgoingReply]) {
     let mut excess = departures.len().saturating_sub(MOST_DEPARTURES);
     let mut bytes = kept(departures);
     if let Some((_newest, older)) = departures.split_last_mut() {
@@ -182,7 +186,7 @@ fn trim(departures: &mut [Departure]) {
 }
 
 // Writes the lines of those whose replies have been sent or cut.
-fn tell<R: Clock + Eprint>(rt: &R, departures: &mut [Departure], now: Instant) {
+fn tell<R: Clock + Eprint>(rt: &R, departures: &mut [OutgoingReply], now: Instant) {
     for departure in departures.iter_mut() {
         if let Some(entry) = departure.take_entry() {
             entry.say(rt, now);
@@ -190,20 +194,20 @@ fn tell<R: Clock + Eprint>(rt: &R, departures: &mut [Departure], now: Instant) {
     }
 }
 
-fn advance_arrivals(arrivals: &mut [Arrival], alloc: Global, now: Instant) {
+fn advance_arrivals(arrivals: &mut [IncomingRequest], alloc: Global, now: Instant) {
     for arrival in arrivals.iter_mut() {
         arrival.advance(alloc, now);
     }
 }
 
-fn advance_departures(departures: &mut [Departure], now: Instant) {
+fn advance_departures(departures: &mut [OutgoingReply], now: Instant) {
     for departure in departures.iter_mut() {
         departure.advance(now);
     }
 }
 
 // Where one more has come than may wait, and none can be served, the oldest gives way.
-fn give_way(arrivals: &mut [Arrival], now: Instant) {
+fn give_way(arrivals: &mut [IncomingRequest], now: Instant) {
     if arrivals.len() > MOST_ARRIVALS
         && first_whole(arrivals).is_none()
         && let Some(oldest) = arrivals.first_mut()
@@ -213,7 +217,7 @@ fn give_way(arrivals: &mut [Arrival], now: Instant) {
 }
 
 // How long nothing is due.
-fn leisure(arrivals: &[Arrival], departures: &[Departure], now: Instant) -> Duration {
+fn leisure(arrivals: &[IncomingRequest], departures: &[OutgoingReply], now: Instant) -> Duration {
     let longest = later(now, LONGEST_MILLIS);
     let mut until = longest;
     for arrival in arrivals {
@@ -231,7 +235,7 @@ fn leisure(arrivals: &[Arrival], departures: &[Departure], now: Instant) -> Dura
     until.duration_since(now)
 }
 
-impl<'a> Hall<'a> {
+impl<'a> WaitingRoom<'a> {
     /// Listens at an address, to so many connections, which it has back through `returns`.
     pub(crate) fn open<R: Net>(
         rt: &R,
@@ -240,12 +244,12 @@ impl<'a> Hall<'a> {
         max: u32,
         logs: bool,
         returns: &'a Returns,
-    ) -> io::Result<Hall<'a>> {
+    ) -> io::Result<WaitingRoom<'a>> {
         let poll = Poll::new(rt)?;
         let mut listener = TcpListener::bind(rt, address)?;
         poll.registry()
             .register(&mut listener, LISTENER, Interest::READABLE)?;
-        Ok(Hall {
+        Ok(WaitingRoom {
             alloc,
             listener,
             poll,
@@ -269,7 +273,7 @@ impl<'a> Hall<'a> {
         self.next = self.next.wrapping_add(1);
         let interests = Interest::READABLE.add(Interest::WRITABLE);
         let watched = self.poll.registry().register(&mut stream, token, interests);
-        let mut arrival = Arrival::new(self.alloc, TcpStream::from(stream), token, now);
+        let mut arrival = IncomingRequest::new(self.alloc, TcpStream::from(stream), token, now);
         if watched.is_err() {
             arrival.settle(Behind::Failure, now);
         }
@@ -380,12 +384,12 @@ impl<'a> Hall<'a> {
     fn hand_on(&mut self) -> Option<(RequestReader, ReplyWriter<'a>)> {
         let index = first_whole(self.arrivals.as_slice())?;
         let arrival = self.arrivals.remove(index);
-        let whole = arrival.whole.unwrap_or(Whole {
+        let whole = arrival.whole.unwrap_or(WholeRequest {
             behind: Behind::Failure,
             since: arrival.until,
         });
         let entry = if self.logs {
-            Entry::new(self.alloc, arrival.bytes.as_slice(), whole.since)
+            JournalEntry::new(self.alloc, arrival.bytes.as_slice(), whole.since)
         } else {
             None
         };

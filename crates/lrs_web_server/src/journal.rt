@@ -46,7 +46,7 @@ impl<'a> fmt::Display for Word<'a> {
 /// What is told of a request: the front of its first line, the status and the length of its reply, and since when it was
 /// whole.
 #[derive(Drop)]
-pub(crate) struct Entry {
+pub(crate) struct JournalEntry {
     asked: Vec<u8>,
     status: Option<[u8; 3]>,
     bytes: u64,
@@ -79,11 +79,11 @@ fn split_word(line: &[u8]) -> (&[u8], &[u8]) {
     (word, rest)
 }
 
-impl Entry {
+impl JournalEntry {
     /// Of a request that has just become whole; nothing where memory is missing.
-    pub(crate) fn new(alloc: Global, request: &[u8], since: Instant) -> Option<Entry> {
+    pub(crate) fn new(alloc: Global, request: &[u8], since: Instant) -> Option<JournalEntry> {
         match Vec::from_slice(alloc, first_line(request)) {
-            Ok(asked) => Some(Entry {
+            Ok(asked) => Some(JournalEntry {
                 asked,
                 status: None,
                 bytes: 0,

@@ -46,7 +46,7 @@ impl<'a> Read for Front<'a> {
 #[derive(Clone, Copy)]
 pub(crate) enum Finding {
     /// It asks for nothing more: the request is whole, or is refused.
-    Whole,
+    WholeRequest,
     /// The head has not ended.
     InHead,
     /// The body ends so many bytes on.
@@ -62,10 +62,10 @@ pub(crate) fn judged(alloc: Global, bytes: &[u8]) -> Finding {
         missing: 0,
     };
     let Ok(router) = routes(alloc) else {
-        return Finding::Whole;
+        return Finding::WholeRequest;
     };
     match receive(alloc, &router, &mut front) {
-        Ok(_) | Err(BodyFault::Memory) => Finding::Whole,
+        Ok(_) | Err(BodyFault::Memory) => Finding::WholeRequest,
         Err(BodyFault::Read(_)) => found_at(bytes.len(), front.missing),
     }
 }

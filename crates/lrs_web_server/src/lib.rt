@@ -14,4 +14,4 @@ mod service;
 pub use connection::{ReplyWriter, RequestReader};
 pub use listener::Listening;
 pub use lrs_web::Served;
-pub use service::{Manner, ServiceFault, serve};
+pub use service::{ServiceFault, ServiceOptions, serve};

@@ -1,7 +1,7 @@
 //! A door over a port.
 
 use crate::connection::{ReplyWriter, RequestReader};
-use crate::hall::Hall;
+use crate::hall::WaitingRoom;
 use lrs_web::{Door, DoorFault};
 use std::io::Eprint;
 use std::time::Clock;
@@ -9,14 +9,14 @@ use std::time::Clock;
 /// The door to a hall in which clients wait: it gives the connections whose requests have come.
 #[derive(Drop)]
 pub struct Listening<'a, R: Clock + Eprint> {
-    hall: Hall<'a>,
+    hall: WaitingRoom<'a>,
     rt: &'a R,
     failures: u64,
 }
 
 impl<'a, R: Clock + Eprint> Listening<'a, R> {
     /// The door to this hall.
-    pub(crate) fn new(hall: Hall<'a>, rt: &'a R) -> Listening<'a, R> {
+    pub(crate) fn new(hall: WaitingRoom<'a>, rt: &'a R) -> Listening<'a, R> {
         Listening {
             hall,
             rt,

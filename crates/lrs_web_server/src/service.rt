@@ -3,7 +3,7 @@
 ghost use Rattle.std.specs.Prelude.{ℕ, ◌≡◌, ◌+◌, IfOk, OnErr, IsTrue, true, false, Err, Result};
 ghost use Rattle.lrs_web.specs.Visits.{HasVisited};
 
-use crate::hall::Hall;
+use crate::hall::WaitingRoom;
 use crate::listener::Listening;
 use lrs_web::{Desk, Door, DoorFault, Keeper, Served, serve_all};
 use std::alloc::Global;
@@ -15,7 +15,7 @@ use std::rt::Runtime;
 
 /// How a desk is served.
 #[derive(Clone, Copy, PartialEq, Eq)]
-pub struct Manner {
+pub struct ServiceOptions {
     /// A line on standard error tells of each request.
     pub logs: bool,
     /// The service ends once a commit has failed, so that the desk is opened anew.
@@ -102,7 +102,7 @@ pub fn serve<R: Runtime<A = Global> + Net, K: Keeper>(
     rt: &R,
     port: u16,
     max: u32,
-    manner: Manner,
+    manner: ServiceOptions,
     desk: &mut Desk<K>,
 ) -> Result<Served, ServiceFault>
     ensures count { IfOk result (λ served. served.full + served.cut ≡ max) }
@@ -119,7 +119,7 @@ pub fn serve<R: Runtime<A = Global> + Net, K: Keeper>(
         return Err(ServiceFault::Door);
     };
     let returns = RefCell::new(room);
-    let Ok(hall) = Hall::open(rt, rt.alloc(), address, max, manner.logs, &returns) else {
+    let Ok(hall) = WaitingRoom::open(rt, rt.alloc(), address, max, manner.logs, &returns) else {
         return Err(ServiceFault::Door);
     };
     if say(rt, port).is_err() {

@@ -65,7 +65,7 @@ module _ {X : Type 0} (before : X → X → Bool) where
       (IsPermutation-append_right xs (x ∷ ys) (insert_by before x ys) (IsPermutation-insert_by x ys))
       (IsPermutation-insert_all xs (insert_by before x ys)))
 
-  -- ---- what comes into order
+  -- ---- what is inserted in order
 
   -- each stands in an order with the other
   abbrev pub differs : X → X → Bool

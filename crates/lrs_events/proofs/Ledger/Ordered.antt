@@ -45,7 +45,7 @@ starts_later r s (by_class n) c e = let k = subst (λ z. name_before r.class z �
 starts_later r s (by_asset d l) c e = absurd (omega (arith, l, e))
 starts_later r s (by_start d f l) c e = l
 
--- what comes between two rows of an asset is of it
+-- what stands between two rows of an asset is of it
 pub record IsBetween (r f : Span) : Type 0 where
   pub asset : r.asset ≡ f.asset
   pub class : r.class ≡ f.class

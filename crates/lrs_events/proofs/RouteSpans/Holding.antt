@@ -146,7 +146,7 @@ one_first rows x y h m n f = by (cases_lt x.from y.from) (cases_lt y.from x.from
     by (inr l) (inr b) (inl e) = let w : x.from ≡ y.from = omega (arith, l, b) in absurd (meet w (off (two_at are_apart x y rows k.apart m n) e))
     by (inr l) (inr b) (inr e) = number (omega (arith, l, b)) (cases_lt x.asset y.asset) e
 
--- what comes into a lane leaves it in order
+-- what is inserted into a lane leaves it in order
 pub lane_in_order : (on : Span → Bool) (gone come rows lane : List Span) → are_rows (changed span_before gone come rows) ≡ true → ((r : Span) → has_row lane r ≡ (has_row rows r && on r))
     → each_two place_before lane ≡ true → each_two place_before (changed place_before gone (filter on come) lane) ≡ true
 lane_in_order on gone come rows lane h t s =

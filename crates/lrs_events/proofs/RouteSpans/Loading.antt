@@ -1,4 +1,4 @@
--- Canonical rows that come where there were none.
+-- Canonical rows inserted where there were none.
 use Rattle.std.proofs.Common.{◌≡◌, true, List, [], inl, inr, ◌⊎◌, refl, ◌∙◌}
 use Rattle.lrs_measure.specs.OrderedLists.{insert_all}
 use Rattle.lrs_measure.specs.Lists.{In}

@@ -30,7 +30,7 @@ spans_strict = record {
 pub rows_sorted : (rows : List Span) → are_rows rows ≡ true → each_two span_before rows ≡ true
 rows_sorted rows h = (and_parts (list_all is_row rows) (each_two span_before rows) (and_parts (list_all is_row rows && each_two span_before rows) (each_two are_apart rows) h).0).1
 
--- where rows differ by what goes and what comes, the change makes the ones of the others
+-- where rows differ by the removed and the inserted ones, the change makes the ones of the others
 pub changed_is : (old gone come new : List Span) → are_rows old ≡ true → are_rows new ≡ true → each_two span_before come ≡ true → IsChange old gone come new → changed span_before gone come old ≡ new
 changed_is old gone come new h k s c =
     let put = put_all span_before spans_strict new come (without_rows gone old) (rows_sorted new k) s (each_two-filter span_before _ old (rows_sorted old h))
@@ -116,7 +116,7 @@ changed_has before gone come rows r = any_insert_all (λ s. same_row s r) before
         ∙ (λ i. one s (same_row s r) refl i || without_has ss i)
         ∙ with_head (same_row s r) (has_row ss r) (not (has_row gone r))
 
--- what goes was there, and what comes was not
+-- what is removed was there, and what is inserted was not
 pub gone_were : (old gone come new : List Span) → IsChange old gone come new → (r : Span) → has_row gone r ≡ true → has_row old r ≡ true
 gone_were old gone come new c r h = has_in old r (c.were r (has_found gone r h))
 

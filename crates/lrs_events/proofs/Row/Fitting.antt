@@ -1,4 +1,4 @@
--- What a change makes of rows, where what comes fits what stays.
+-- What a change makes of rows, where the inserted rows fit those that stay.
 use Rattle.std.proofs.Common.{◌≡◌, ◌<◌, Bool, true, false, cond, ◌⊎◌, inl, inr, List, [], ◌∷◌, ◌++◌, refl, sym, subst, arith}
 use Rattle.std.specs.Prelude.{not}
 use Rattle.std.specs.List.{list_all}
@@ -140,7 +140,7 @@ inserted_all (x ∷ xs) ys f p a fit =
     by z y m (inl e) = subst (Fits z) (sym e) (inr (p.0 z m))
     by z y m (inr n) = fit z y (inr m) n
 
--- what comes is in order, apart and merged, and so is each of it with each row that stays
+-- the inserted rows are in order, apart and merged, and so is each of them with each row that stays
 pub changed_rows_are : (gone come rows : List Span) → AreRows rows → AreRows come → ((x y : Span) → In x come → In y rows → (In y gone → ⊥) → Fits x y) → AreRows (changed span_before gone come rows)
 changed_rows_are gone come rows a c fit =
     inserted_all come (without_rows gone rows) c.full c.pairs (rows_from (without_rows gone rows) (found_rows (λ r. not (has_row gone r)) rows (rows_are rows a)))

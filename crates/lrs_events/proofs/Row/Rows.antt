@@ -137,7 +137,7 @@ touch r s = (nat_eq r.to s.from || nat_eq s.to r.from) && not (same_side r.side 
 abbrev rest : Span → Span → Bool
 rest r s = nat_lt r.to s.from || nat_lt s.to r.from || touch r s
 
--- what comes first begins first
+-- what stands first begins first
 pub data BeginsFirst (r s : Span) : Type 0 where
   begins_class : name_before r.class s.class ≡ true → BeginsFirst r s
   begins_asset : r.class ≡ s.class → r.asset < s.asset → BeginsFirst r s

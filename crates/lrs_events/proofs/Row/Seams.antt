@@ -86,7 +86,7 @@ pub record Goes (shift : ℕ) (first rows come : List Span) (l : Span) : Type 0 
   pub joins : Joins l (moved shift row)
   pub came : In (grown (moved shift row) l.from (row.to + shift)) come
 
--- what went and what came for some of the second
+-- what was removed and inserted for some of the second
 pub record AreJoined (shift : ℕ) (first rows gone come : List Span) : Type 0 where
   pub each : (x : Span) → In x come → (r : Span) × In r rows × Comes shift first gone r x
   pub every : (r : Span) → In r rows → (x : Span) × In x come × Comes shift first gone r x
@@ -102,7 +102,7 @@ module _ (shift : ℕ) (first second : List Span) (t : AreTwo shift first second
   at_start : (l r : Span) → In l first → Joins l (moved shift r) → (r.from ≡ 0) × (l.to ≡ shift)
   at_start l r m j = let a = j.at in let b = t.low l m in (omega (arith, a, b), omega (arith, a, b))
 
-  -- rows that come are in the order of those for which they come
+  -- inserted rows are in the order of those for which they are inserted
   in_turn : (gone : List Span) (q r x y : Span) → IsFull q → IsAhead q r → Comes shift first gone q x → Comes shift first gone r y → IsAhead x y
   in_turn gone q r x y f a cx cy = record { left = left cx cy a.left; one_class = λ e. class cx ∙ a.one_class (sym (asset cx) ∙ e ∙ asset cy) ∙ sym (class cy); not_joined = λ j. apart_too cx cy j }
     where
@@ -145,7 +145,7 @@ module _ (shift : ℕ) (first second : List Span) (t : AreTwo shift first second
 
   -- one row more
   module _ (rows gone come : List Span) (row : Span) (h : AreJoined shift first rows gone come) (fr : (q : Span) → In q rows → IsFull q) (ahead : (q : Span) → In q rows → IsAhead q row) where
-    -- what goes for it comes behind what went
+    -- what is removed for it stands behind what was removed
     goes_behind : (g l : Span) → In g gone → In l first → Joins l (moved shift row) → span_before g l ≡ true
     goes_behind g l m n j = let k = h.went g m in first_begins g l (by k.row k.joins (fr k.row k.of_rows) (ahead k.row k.of_rows).left)
       where

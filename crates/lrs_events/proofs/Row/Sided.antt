@@ -476,6 +476,6 @@ removed found rest parts rests d_parts d_rests d_rest low high up side removal u
     up_to : (j : ℕ) → is_within low up j ≡ is_within low high j
     up_to j = (λ i. is_within low (u i) j) ∙ within_up low high j
 
--- what goes was in order
+-- what is removed was in order
 pub goes_in_order : (found went others : List Span) → are_rows found ≡ true → went ≡ missing others found → each_two span_before went ≡ true
 goes_in_order found went others h g = (λ i. each_two span_before (g i)) ∙ each_two-filter span_before (λ r. not (has_row others r)) found (rows_sorted found h)

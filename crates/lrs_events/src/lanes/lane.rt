@@ -269,7 +269,7 @@ impl Lane {
         Ok(())
     }
 
-    /// Takes out the removed rows, which are sorted by class, asset and start, and puts those that come in
+    /// Takes out the removed rows, which are sorted by class, asset and start, and puts the inserted ones in
     /// their places. There is room for them, so that it takes no memory and cannot fail.
     pub fn change(&mut self, gone: &[Span], come: &[Span])
         requires room { length come.now ≤ self.old.room }

@@ -17,7 +17,7 @@ use std::marker::Model;
 pub struct OpenSpans {
     rows: Vec<Span>,
     lanes: Vec<ClassLanes>,
-    // What comes into one lane, while the lanes change.
+    // The rows that are inserted into one lane, while the lanes change.
     picked: Vec<Span>,
 }
 
@@ -104,7 +104,7 @@ impl OpenSpans {
         make_lanes_room(&mut self.lanes, come)
     }
 
-    /// Takes out the removed rows, which are sorted by class, asset and start, and puts those that come in their
+    /// Takes out the removed rows, which are sorted by class, asset and start, and puts the inserted ones in their
     /// places. There is room for them, so that it takes no memory and cannot fail.
     pub fn change(&mut self, gone: &[Span], come: &[Span])
         requires room { HasRoom come.now self.old }

@@ -25,7 +25,7 @@ use Rattle.lrs_machine.specs.declared.command.Command.TheVariants as verb
 use Rattle.lrs_machine.specs.Lines.{line_of}
 use Rattle.lrs_machine.specs.Register.{contains_key}
 use Rattle.lrs_machine.specs.State.{State, Edit}
-use Rattle.lrs_machine.specs.Machine.{attempt, route_named, is_wrong_kind, check_pieces, check_free, check_marks, located_chainage, kind_of_asset, part_of, extent_of, is_empty_extent, wanted_of, first_holder, do_join_of}
+use Rattle.lrs_machine.specs.Machine.{attempt, route_named, is_wrong_kind, check_pieces, check_free, check_marks, located_chainage, kind_of_asset, part_of, located_stretch, is_empty_stretch, wanted_of, first_holder, do_join_of}
 use Rattle.lrs_machine.specs.Machine.{next, check_room, accept, Outcome, outcome_of, step_by_key, answer_known, line_at, place_of_key, step, step_record, Record}
 use Rattle.lrs_machine.proofs.Checks.{behind, bind, unless, unless_at}
 use Rattle.lrs_machine.specs.Stop.KnownEdits.{edit_of}
@@ -49,7 +49,7 @@ leaves n (verb.Enter e) s =
     bind _ (wanted_of (λ kind. false) e s) _ (λ w _. unless_at _ (cond (is_exclusive w.kind) (first_holder s e.class w.places) None) _ _ (λ _. refl))
 leaves n (verb.Retire asset route location) s =
     bind _ (ok_or (kind_of_asset s asset) cause.NoAsset) _ (λ kind _. bind _ (route_named s route) _ (λ a _. unless _ (is_wrong_kind kind location.to) _ _ (λ _.
-    bind _ (extent_of s a location) _ (λ extent _. unless _ (is_empty_extent extent || not (list_any (s.holds asset) (places_on B (part_of a.course extent)))) _ _ (λ _. refl)))))
+    bind _ (located_stretch s a location) _ (λ stretch _. unless _ (is_empty_stretch stretch || not (list_any (s.holds asset) (places_on B (part_of a.course stretch)))) _ _ (λ _. refl)))))
 leaves n (verb.Split route at name) s =
     bind _ (route_named s route) _ (λ a _. unless _ (contains_key s.routes name) _ _ (λ _. unless _ (not (is_inner_mark a.marks at)) _ _ (λ _. refl)))
 leaves n (verb.Join first second) s = bind _ (route_named s first) _ (λ a _. bind _ (route_named s second) _ (λ b _. joined a b))
@@ -119,7 +119,7 @@ module _ {X : Type 0} (p : X → Bool) where
       by true t e l = absurd (cc e)
       by false t e l = grind (arith, nat_tests)
 
-  -- so what comes is found at the end
+  -- so what is inserted is found at the end
   pub found_at_end : (xs : List X) (y : X) → position p xs ≡ None → p y ≡ true → position p (xs ++ y ∷ []) ≡ Some (length xs)
   found_at_end xs y none passes =
       let before = none_before xs none in

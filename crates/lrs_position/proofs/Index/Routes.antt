@@ -66,7 +66,7 @@ module _ {X : Type 0} (name : X → Name) (course : X → List Ground) (m : Mill
       (λ (f : runs r ≡ false). ap (λ (o : Option Name). is_some o) (over_next r rs f) ∙ over_some rs ∙ sym (list_any-append (is_at m) (course r) (flat_map course rs) ∙ ap (λ (b : Bool). b || runs_over (flat_map course rs) m) f))
       (cases_Bool (runs r))
 
-  -- ---- routes that come, where none runs
+  -- ---- routes that are inserted, where none runs
 
   pub over_inserted : (before : X → X → Bool) (r : X) (rs : List X) → (runs r ≡ true → over rs ≡ None) → over (insert_by before r rs) ≡ (if runs r then Some (name r) else over rs)
   over_inserted before r [] free = over_first r []
@@ -104,7 +104,7 @@ module _ {X : Type 0} (name : X → Name) (course : X → List Ground) (m : Mill
       ∙ ap (λ (o : Option Name). option_or o (over rs)) (sym (over_next w ws f)))
       (cases_Bool (runs w))
 
-  -- ---- routes that go
+  -- ---- routes that are removed
 
   pub over_kept : (test : Name → Bool) (rs : List X) → are_apart course rs ≡ true → over (filter (λ r. test (name r)) rs) ≡ if_passes test (over rs)
   over_kept test [] a = refl

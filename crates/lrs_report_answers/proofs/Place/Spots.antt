@@ -15,8 +15,8 @@ use Rattle.lrs_image.specs.Change.{is_named}
 use Rattle.lrs_report_answers.specs.Answers.{IsRouteIn}
 use Rattle.lrs_machine.specs.declared.absence.Missing.{Missing}
 use Rattle.lrs_machine.specs.declared.absence.Missing.TheVariants as missing
-use Rattle.lrs_machine.specs.declared.question.Spot.{Spot}
-use Rattle.lrs_machine.specs.declared.question.Spot.TheVariants.{OnRoute, OnLink}
+use Rattle.lrs_machine.specs.declared.question.AskedPlace.{AskedPlace}
+use Rattle.lrs_machine.specs.declared.question.AskedPlace.TheVariants.{OnRoute, OnLink}
 use Rattle.lrs_report_answers.specs.Place.Places.{Place, place_at, place_on_route, place_within, place_over, place_along, place_on_link, place_of}
 use Rattle.lrs_report_answers.proofs.Place.Names.{is_route_in}
 
@@ -77,6 +77,6 @@ module _ (i : Image) (sound : IsSound i) (p : Place) where
       by None k = absurd (cc k)
       by (Some link) k = along link mm k
 
-  pub is_place_in : (spot : Spot) → place_of i spot ≡ Ok p → IsPlaceIn i p
+  pub is_place_in : (spot : AskedPlace) → place_of i spot ≡ Ok p → IsPlaceIn i p
   is_place_in (OnRoute route chainage) h = on_route route chainage h
   is_place_in (OnLink link mm) h = on_link link mm h

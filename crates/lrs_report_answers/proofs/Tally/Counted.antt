@@ -14,8 +14,8 @@ use Rattle.lrs_machine.specs.Sound.{class_before}
 use Rattle.lrs_machine.proofs.Pairs.{each_two-map}
 use Rattle.lrs_image_sound.proofs.Keyed.{found}
 use Rattle.lrs_report_answers.specs.declared.tallies.tally.Count.{Count}
-use Rattle.lrs_report_answers.specs.declared.tallies.tally.Column.{Column}
-use Rattle.lrs_report_answers.specs.declared.tallies.tally.Column.TheVariants.{Entered, Retired, Abandoned}
+use Rattle.lrs_report_answers.specs.declared.tallies.tally.CountedSum.{CountedSum}
+use Rattle.lrs_report_answers.specs.declared.tallies.tally.CountedSum.TheVariants.{Entered, Retired, Abandoned}
 use Rattle.lrs_report_answers.specs.Tally.Counts.{names_of, is_count_of, no_count, raised, raised_of}
 use Rattle.lrs_report_answers.proofs.Joined.{is_false}
 
@@ -89,13 +89,13 @@ module _ (xs : List Count) (n : Name) (order : each_two name_before (names_of xs
 
 -- ---- the classes stay
 
-pub class_stays : (column : Column) (b : Bool) (n : ℕ) (c : Count) → (cond b (raised column n c) c).class ≡ c.class
+pub class_stays : (column : CountedSum) (b : Bool) (n : ℕ) (c : Count) → (cond b (raised column n c) c).class ≡ c.class
 class_stays (Entered) true n c = refl
 class_stays (Retired) true n c = refl
 class_stays (Abandoned) true n c = refl
 class_stays column false n c = refl
 
-pub names_stay : (class : Name) (column : Column) (n : ℕ) (xs : List Count) → names_of (raised_of class column n xs) ≡ names_of xs
+pub names_stay : (class : Name) (column : CountedSum) (n : ℕ) (xs : List Count) → names_of (raised_of class column n xs) ≡ names_of xs
 names_stay class column n [] = refl
 names_stay class column n (x ∷ xs) = λ i. class_stays column (same_name class x.class) n x i ∷ names_stay class column n xs i
 

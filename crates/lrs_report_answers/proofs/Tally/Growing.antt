@@ -25,8 +25,8 @@ use Rattle.lrs_image.proofs.Tables.{assets_in_order, classes_in_order}
 use Rattle.lrs_image_laws.proofs.InOrder.{map-insert_by}
 use Rattle.lrs_report_answers.proofs.Ledgers.{entered_parts, gone_parts}
 use Rattle.lrs_report_answers.specs.declared.tallies.tally.Count.{Count}
-use Rattle.lrs_report_answers.specs.declared.tallies.tally.Column.{Column}
-use Rattle.lrs_report_answers.specs.declared.tallies.tally.Column.TheVariants.{Entered}
+use Rattle.lrs_report_answers.specs.declared.tallies.tally.CountedSum.{CountedSum}
+use Rattle.lrs_report_answers.specs.declared.tallies.tally.CountedSum.TheVariants.{Entered}
 use Rattle.lrs_report_answers.specs.declared.tallies.counts.Counts.{Counts}
 use Rattle.lrs_report_answers.specs.Tally.Counts.{names_of, no_count, count_before, with_class, raised, raised_of, column_of, with_part, with_rows, with_entered, with_gone}
 use Rattle.lrs_report_answers.specs.Tally.RunningCounts.{counts_in, IsBehind}
@@ -36,7 +36,7 @@ use Rattle.lrs_report_answers.proofs.Tally.Standing.{asset_of, is_known, still_f
 
 -- ---- rows counted after others
 
-module _ {Row : Type 0} (assets : List Asset) (column : Row → Column) (part : Row → Part) where
+module _ {Row : Type 0} (assets : List Asset) (column : Row → CountedSum) (part : Row → Part) where
   with_more : (xs ys : List Row) (cs : List Count) → with_rows assets column part (xs ++ ys) cs ≡ with_rows assets column part ys (with_rows assets column part xs cs)
   with_more [] ys cs = refl
   with_more (x ∷ xs) ys cs = with_more xs ys (with_part assets (column x) (part x) cs)
@@ -51,25 +51,25 @@ module _ {Row : Type 0} (assets : List Asset) (column : Row → Column) (part : 
       by (Some a) = names_stay a.class (column r) ((part r).to - (part r).from) cs
 
   -- what the rows add to each class, and sums with it
-  abbrev added : List Class → List Row → Column → Name → ℕ
+  abbrev added : List Class → List Row → CountedSum → Name → ℕ
   added classes rows k name = sum_by (row_adds assets (λ name n. class_is (asset_of n assets) name) (λ n name. refl) classes column part k name) rows
 
-  abbrev with_sums : List Class → List Row → (Column → Name → ℕ) → Column → Name → ℕ
+  abbrev with_sums : List Class → List Row → (CountedSum → Name → ℕ) → CountedSum → Name → ℕ
   with_sums classes rows f k name = f k name + added classes rows k name
 
-  summed : (classes : List Class) (rows : List Row) (f : Column → Name → ℕ) → with_rows assets column part rows (counts classes f) ≡ counts classes (with_sums classes rows f)
+  summed : (classes : List Class) (rows : List Row) (f : CountedSum → Name → ℕ) → with_rows assets column part rows (counts classes f) ≡ counts classes (with_sums classes rows f)
   summed classes rows f = rows_are assets (λ name n. class_is (asset_of n assets) name) (λ n name. refl) classes column part rows f
 
 turned : (f a b : ℕ) → (f + a) + b ≡ (f + b) + a
 turned f a b = omega arith
 
 -- rows of two ledgers are counted in either order
-module _ {R S : Type 0} (assets : List Asset) (classes : List Class) (column : R → Column) (part : R → Part) (other : S → Column) (piece : S → Part) where
-  either_order : (rs : List R) (ss : List S) (f : Column → Name → ℕ)
+module _ {R S : Type 0} (assets : List Asset) (classes : List Class) (column : R → CountedSum) (part : R → Part) (other : S → CountedSum) (piece : S → Part) where
+  either_order : (rs : List R) (ss : List S) (f : CountedSum → Name → ℕ)
       → with_rows assets other piece ss (with_rows assets column part rs (counts classes f)) ≡ with_rows assets column part rs (with_rows assets other piece ss (counts classes f))
   either_order rs ss f =
-      let first : Column → Name → ℕ = added assets column part classes rs in
-      let then : Column → Name → ℕ = added assets other piece classes ss in
+      let first : CountedSum → Name → ℕ = added assets column part classes rs in
+      let then : CountedSum → Name → ℕ = added assets other piece classes ss in
       ap (with_rows assets other piece ss) (summed assets column part classes rs f)
       ∙ summed assets other piece classes ss (with_sums assets column part classes rs f)
       ∙ (λ j. counts classes (λ k name. turned (f k name) (first k name) (then k name) j))
@@ -79,7 +79,7 @@ module _ {R S : Type 0} (assets : List Asset) (classes : List Class) (column : R
 -- ---- a class that comes
 
 module _ (x : Count) where
-  raise_beside : (class : Name) (c : Column) (n : ℕ) (cs : List Count) → same_name class x.class ≡ false → raised_of class c n (insert_by count_before x cs) ≡ insert_by count_before x (raised_of class c n cs)
+  raise_beside : (class : Name) (c : CountedSum) (n : ℕ) (cs : List Count) → same_name class x.class ≡ false → raised_of class c n (insert_by count_before x cs) ≡ insert_by count_before x (raised_of class c n cs)
   raise_beside class c n cs other =
       let raise : Count → Count = λ y. cond (same_name class y.class) (raised c n y) y in
       let stays : (y : Count) → (raise y).class ≡ y.class = λ y. class_stays c (same_name class y.class) n y in
@@ -88,7 +88,7 @@ module _ (x : Count) where
       ∙ ap (λ b. insert_by count_before (cond b (raised c n x) x) (map raise cs)) other
 
   module _ (assets : List Asset) (none : (n : ℕ) → class_is (asset_of n assets) x.class ≡ false) where
-    part_beside : (c : Column) (p : Part) (cs : List Count) → with_part assets c p (insert_by count_before x cs) ≡ insert_by count_before x (with_part assets c p cs)
+    part_beside : (c : CountedSum) (p : Part) (cs : List Count) → with_part assets c p (insert_by count_before x cs) ≡ insert_by count_before x (with_part assets c p cs)
     part_beside c p cs = by (asset_of p.asset assets) (none p.asset)
       where
         by : (o : Option Asset) → class_is o x.class ≡ false
@@ -97,14 +97,14 @@ module _ (x : Count) where
         by (Some a) h = raise_beside a.class c (p.to - p.from) cs h
 
     -- no row is counted for a class without assets
-    rows_beside : {Row : Type 0} (column : Row → Column) (part : Row → Part) (rows : List Row) (cs : List Count) → with_rows assets column part rows (insert_by count_before x cs) ≡ insert_by count_before x (with_rows assets column part rows cs)
+    rows_beside : {Row : Type 0} (column : Row → CountedSum) (part : Row → Part) (rows : List Row) (cs : List Count) → with_rows assets column part rows (insert_by count_before x cs) ≡ insert_by count_before x (with_rows assets column part rows cs)
     rows_beside column part [] cs = refl
     rows_beside column part (r ∷ rows) cs =
         ap (with_rows assets column part rows) (part_beside (column r) (part r) cs) ∙ rows_beside column part rows (with_part assets (column r) (part r) cs)
 
 -- ---- an asset that comes
 
-module _ (links : List Link) (old new : List Asset) (same : (n : ℕ) → is_known n old ≡ true → asset_of n old ≡ asset_of n new) {Row : Type 0} (column : Row → Column) (part : Row → Part) where
+module _ (links : List Link) (old new : List Asset) (same : (n : ℕ) → is_known n old ≡ true → asset_of n old ≡ asset_of n new) {Row : Type 0} (column : Row → CountedSum) (part : Row → Part) where
   -- rows of known assets are counted as before
   still_counted : (rows : List Row) → list_all (λ r. is_part links old (part r)) rows ≡ true → (cs : List Count) → with_rows old column part rows cs ≡ with_rows new column part rows cs
   still_counted [] h cs = refl
@@ -159,8 +159,8 @@ module _ (i : Image) (change : Change) (sound : IsSound i) (still : IsSound (app
   swapped =
       let d = change.difference in
       let cs = next.classes in
-      let none : Column → Name → ℕ = λ k name. 0 in
-      let entered : Part → Column = λ p. Entered in
+      let none : CountedSum → Name → ℕ = λ k name. 0 in
+      let entered : Part → CountedSum = λ p. Entered in
       let itself : Part → Part = λ p. p in
       let first = ap (with_entered next.assets i.entered) (first_counts cs) ∙ summed next.assets entered itself cs i.entered none in
       ap (λ xs. with_entered next.assets d.entered (with_gone next.assets i.gone xs)) first

@@ -26,8 +26,8 @@ use Rattle.lrs_measure.specs.Lists.{In, each_two}
 use Rattle.lrs_measure.proofs.Members.{all_at}
 use Rattle.lrs_image.proofs.Tables.{passes}
 use Rattle.lrs_report_answers.specs.declared.tallies.tally.Count.{Count}
-use Rattle.lrs_report_answers.specs.declared.tallies.tally.Column.{Column}
-use Rattle.lrs_report_answers.specs.declared.tallies.tally.Column.TheVariants as column
+use Rattle.lrs_report_answers.specs.declared.tallies.tally.CountedSum.{CountedSum}
+use Rattle.lrs_report_answers.specs.declared.tallies.tally.CountedSum.TheVariants as column
 use Rattle.lrs_report_answers.specs.Tally.Counts.{no_count, raised, raised_of, with_part, with_rows, with_entered, with_gone, column_of, total_counted}
 use Rattle.lrs_report.specs.ListTally.{kept_sum}
 use Rattle.lrs_report_answers.specs.Tally.RunningCounts.{count_in, counts_in}
@@ -37,7 +37,7 @@ use Rattle.lrs_report_answers.proofs.Ledgers.{AreParts, sum-all, sum-none, excha
 
 -- ---- one count
 
-abbrev same_column : Column → Column → Bool
+abbrev same_column : CountedSum → CountedSum → Bool
 same_column (column.Entered) (column.Entered) = true
 same_column (column.Entered) (column.Retired) = false
 same_column (column.Entered) (column.Abandoned) = false
@@ -49,10 +49,10 @@ same_column (column.Abandoned) (column.Retired) = false
 same_column (column.Abandoned) (column.Abandoned) = true
 
 -- what a row of n adds to a column
-abbrev adds : Column → Bool → ℕ → Column → ℕ
+abbrev adds : CountedSum → Bool → ℕ → CountedSum → ℕ
 adds c b n k = cond (same_column c k) (cond b n 0) 0
 
-abbrev shown : Name → (Column → ℕ) → Count
+abbrev shown : Name → (CountedSum → ℕ) → Count
 shown class f = record { class = class; entered = kept_sum (f column.Entered); retired = kept_sum (f column.Retired); abandoned = kept_sum (f column.Abandoned) }
 
 more : (m n : ℕ) → kept_sum (kept_sum m + n) ≡ kept_sum (m + n)
@@ -61,7 +61,7 @@ more m n = omega arith
 still : (m : ℕ) → kept_sum m ≡ kept_sum (m + 0)
 still m = ap kept_sum (omega arith)
 
-one_more : (c : Column) (b : Bool) (class : Name) (n : ℕ) (f : Column → ℕ) → cond b (raised c n (shown class f)) (shown class f) ≡ shown class (λ k. f k + adds c b n k)
+one_more : (c : CountedSum) (b : Bool) (class : Name) (n : ℕ) (f : CountedSum → ℕ) → cond b (raised c n (shown class f)) (shown class f) ≡ shown class (λ k. f k + adds c b n k)
 one_more (column.Entered) true class n f = λ i. record { class = class; entered = more (f column.Entered) n i; retired = still (f column.Retired) i; abandoned = still (f column.Abandoned) i }
 one_more (column.Retired) true class n f = λ i. record { class = class; entered = still (f column.Entered) i; retired = more (f column.Retired) n i; abandoned = still (f column.Abandoned) i }
 one_more (column.Abandoned) true class n f = λ i. record { class = class; entered = still (f column.Entered) i; retired = still (f column.Retired) i; abandoned = more (f column.Abandoned) n i }
@@ -71,39 +71,39 @@ one_more (column.Abandoned) false class n f = λ i. record { class = class; ente
 
 -- ---- the counts of all classes
 
-abbrev pub counts : List Class → (Column → Name → ℕ) → List Count
+abbrev pub counts : List Class → (CountedSum → Name → ℕ) → List Count
 counts classes f = map (λ c. shown c.name (λ k. f k c.name)) classes
 
-raised_is : (class : Name) (c : Column) (n : ℕ) (classes : List Class) (f : Column → Name → ℕ) → raised_of class c n (counts classes f) ≡ counts classes (λ k name. f k name + adds c (same_name class name) n k)
+raised_is : (class : Name) (c : CountedSum) (n : ℕ) (classes : List Class) (f : CountedSum → Name → ℕ) → raised_of class c n (counts classes f) ≡ counts classes (λ k name. f k name + adds c (same_name class name) n k)
 raised_is class c n [] f = refl
 raised_is class c n (x ∷ xs) f = λ i. one_more c (same_name class x.name) x.name n (λ k. f k x.name) i ∷ raised_is class c n xs f i
 
-unraised_is : (c : Column) (n : ℕ) (classes : List Class) (f : Column → Name → ℕ) → counts classes f ≡ counts classes (λ k name. f k name + adds c false n k)
+unraised_is : (c : CountedSum) (n : ℕ) (classes : List Class) (f : CountedSum → Name → ℕ) → counts classes f ≡ counts classes (λ k name. f k name + adds c false n k)
 unraised_is c n [] f = refl
 unraised_is c n (x ∷ xs) f = λ i. one_more c false x.name n (λ k. f k x.name) i ∷ unraised_is c n xs f i
 
 abbrev pub class_is : Option Asset → Name → Bool
 class_is o class = option_map_or (λ (a : Asset). same_name a.class class) o false
 
-found_is : (o : Option Asset) (c : Column) (n : ℕ) (classes : List Class) (f : Column → Name → ℕ)
+found_is : (o : Option Asset) (c : CountedSum) (n : ℕ) (classes : List Class) (f : CountedSum → Name → ℕ)
     → option_map_or (λ (a : Asset). raised_of a.class c n (counts classes f)) o (counts classes f) ≡ counts classes (λ k name. f k name + adds c (class_is o name) n k)
 found_is None c n classes f = unraised_is c n classes f
 found_is (Some a) c n classes f = raised_is a.class c n classes f
 
 module _ (assets : List Asset) (of_class : Name → ℕ → Bool) (is : (n : ℕ) (name : Name) → class_is (list.find (λ (a : Asset). is_eq (nat_cmp a.number n)) assets) name ≡ of_class name n) (classes : List Class) where
-  part_is : (c : Column) (p : Part) (f : Column → Name → ℕ) → with_part assets c p (counts classes f) ≡ counts classes (λ k name. f k name + adds c (of_class name p.asset) (p.to - p.from) k)
+  part_is : (c : CountedSum) (p : Part) (f : CountedSum → Name → ℕ) → with_part assets c p (counts classes f) ≡ counts classes (λ k name. f k name + adds c (of_class name p.asset) (p.to - p.from) k)
   part_is c p f =
       found_is (list.find (λ (a : Asset). is_eq (nat_cmp a.number p.asset)) assets) c (p.to - p.from) classes f
       ∙ (λ i. counts classes (λ k name. f k name + adds c (is p.asset name i) (p.to - p.from) k))
 
-  module _ {Row : Type 0} (col : Row → Column) (part : Row → Part) where
-    abbrev pub row_adds : Column → Name → Row → ℕ
+  module _ {Row : Type 0} (col : Row → CountedSum) (part : Row → Part) where
+    abbrev pub row_adds : CountedSum → Name → Row → ℕ
     row_adds k name r = adds (col r) (of_class name (part r).asset) ((part r).to - (part r).from) k
 
-    row_more : (f : ℕ) (k : Column) (name : Name) (r : Row) (rows : List Row) → (f + row_adds k name r) + sum_by (row_adds k name) rows ≡ f + sum_by (row_adds k name) (r ∷ rows)
+    row_more : (f : ℕ) (k : CountedSum) (name : Name) (r : Row) (rows : List Row) → (f + row_adds k name r) + sum_by (row_adds k name) rows ≡ f + sum_by (row_adds k name) (r ∷ rows)
     row_more f k name r rows = let e = sum_by-cons (row_adds k name) r rows in omega (arith, e)
 
-    pub rows_are : (rows : List Row) (f : Column → Name → ℕ) → with_rows assets col part rows (counts classes f) ≡ counts classes (λ k name. f k name + sum_by (row_adds k name) rows)
+    pub rows_are : (rows : List Row) (f : CountedSum → Name → ℕ) → with_rows assets col part rows (counts classes f) ≡ counts classes (λ k name. f k name + sum_by (row_adds k name) rows)
     rows_are [] f = λ i. counts classes (λ k name. (let e : f k name ≡ f k name + 0 = omega arith in e) i)
     rows_are (r ∷ rows) f =
         ap (with_rows assets col part rows) (part_is (col r) (part r) f)
@@ -127,7 +127,7 @@ never_entered : (b : Bool) (n : ℕ) → cond (same_column (cond b column.Abando
 never_entered true n = refl
 never_entered false n = refl
 
-abbrev column_of_reason : Reason → Column
+abbrev column_of_reason : Reason → CountedSum
 column_of_reason Retired = column.Retired
 column_of_reason Abandoned = column.Abandoned
 
@@ -241,13 +241,13 @@ module _ (i : Image) (sound : IsSound i) where
       let few = leb-true (length i.assets) most_assets (and_parts (each_two asset_before i.assets && list_all (is_asset i.classes) i.assets) (nat_le (length i.assets) most_assets) (passes i sound).assets).1 in
       fits (sum_by reach i.entered) (total_entered class s) (length i.assets) most few (at_most (total_entered class s) (ledger_total class s i.entered) (sum_by reach i.entered) e less)
 
-  abbrev entered_adds : Column → Name → Part → ℕ
+  abbrev entered_adds : CountedSum → Name → Part → ℕ
   entered_adds k name p = adds column.Entered (is_of_class s name p.asset) (reach p) k
 
-  abbrev gone_adds : Column → Name → Gone → ℕ
+  abbrev gone_adds : CountedSum → Name → Gone → ℕ
   gone_adds k name g = adds (column_of g) (is_of_class s name g.part.asset) (reach g.part) k
 
-  abbrev sums : Column → Name → ℕ
+  abbrev sums : CountedSum → Name → ℕ
   sums k name = (0 + sum_by (entered_adds k name) i.entered) + sum_by (gone_adds k name) i.gone
 
   counted_are : with_gone i.assets i.gone (with_entered i.assets i.entered (map no_count i.classes)) ≡ counts i.classes sums

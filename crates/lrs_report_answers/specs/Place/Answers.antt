@@ -15,7 +15,7 @@ use Rattle.lrs_report_answers.specs.Answers.{StandsAt, UnlessMemory}
 use Rattle.lrs_report_answers.specs.declared.places.answer.Whereabouts.{Whereabouts}
 use Rattle.lrs_report_answers.specs.declared.fault.AskFault.{AskFault}
 use Rattle.lrs_report_answers.specs.declared.fault.AskFault.TheVariants.{Missing}
-use Rattle.lrs_machine.specs.declared.question.Spot.{Spot}
+use Rattle.lrs_machine.specs.declared.question.AskedPlace.{AskedPlace}
 use Rattle.lrs_report_answers.specs.Place.Places.{place_of}
 
 -- what a place is expressed by: each method, the relative one from each referent of the route in their order
@@ -33,5 +33,5 @@ pub record IsThere (i : Image) (e : RouteRow) (chainage : ℕ) (w : Whereabouts)
   pub by_targets : AllZip (IsPosition e.route chainage) (targets_of e.route.refs) w.positions
 
 -- The answer is what is at the place of a spot, or why the spot has no place.
-abbrev pub IsWhereabouts : Image → Spot → Result Whereabouts AskFault → Type 0
+abbrev pub IsWhereabouts : Image → AskedPlace → Result Whereabouts AskFault → Type 0
 IsWhereabouts i spot result = MatchResult (place_of i spot) (λ place. UnlessMemory (IsThere i place.0 place.1) result) (λ what. result ≡ Err (Missing what))

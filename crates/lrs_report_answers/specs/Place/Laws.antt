@@ -5,7 +5,7 @@ use Rattle.lrs_machine.specs.declared.image.Image.{Image}
 use Rattle.lrs_machine.specs.declared.image.RouteRow.{RouteRow}
 use Rattle.lrs_machine.specs.Sound.{IsSound}
 use Rattle.lrs_report_answers.specs.Answers.{IsRouteIn}
-use Rattle.lrs_machine.specs.declared.question.Spot.TheVariants.{OnLink}
+use Rattle.lrs_machine.specs.declared.question.AskedPlace.TheVariants.{OnLink}
 use Rattle.lrs_report_answers.specs.Place.Places.{place_of}
 
 -- Whatever millimetre of a link a route has at a chainage: asked for on the link, it is at that chainage of that route.

@@ -10,8 +10,8 @@ use Rattle.lrs_machine.specs.declared.image.RouteRow.{RouteRow}
 use Rattle.lrs_image.specs.Change.{is_named}
 use Rattle.lrs_machine.specs.declared.absence.Missing.{Missing}
 use Rattle.lrs_machine.specs.declared.absence.Missing.TheVariants as missing
-use Rattle.lrs_machine.specs.declared.question.Spot.{Spot}
-use Rattle.lrs_machine.specs.declared.question.Spot.TheVariants.{OnRoute, OnLink}
+use Rattle.lrs_machine.specs.declared.question.AskedPlace.{AskedPlace}
+use Rattle.lrs_machine.specs.declared.question.AskedPlace.TheVariants.{OnRoute, OnLink}
 
 -- a route, and a chainage of it
 abbrev pub Place : Type 0
@@ -42,6 +42,6 @@ abbrev pub place_on_link : Image → ℕ → ℕ → Result Place Missing
 place_on_link i number mm = option_map_or (λ link. place_along i link mm) (find (λ link. nat_eq link.number number) i.links) (Err missing.Link)
 
 -- The route of a spot and the chainage that is meant, or why there is none.
-abbrev pub place_of : Image → Spot → Result Place Missing
+abbrev pub place_of : Image → AskedPlace → Result Place Missing
 place_of i (OnRoute route chainage) = place_on_route i route chainage
 place_of i (OnLink link mm) = place_on_link i link mm

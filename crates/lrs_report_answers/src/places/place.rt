@@ -7,7 +7,7 @@ ghost use Rattle.lrs_report_answers.specs.Place.Places.{place_along, place_of, p
 use crate::places::ground::place_over;
 use lrs_element::Link;
 use lrs_inventory::Inventory;
-use lrs_machine::{Missing, RouteRow, Spot};
+use lrs_machine::{AskedPlace, Missing, RouteRow};
 use lrs_position::RouteName;
 
 /// A chainage of the route of a name, which is found by search.
@@ -73,12 +73,12 @@ fn place_on_link(inventory: &Inventory, number: u32, mm: u64) -> Result<(&RouteR
 ///
 /// # Errors
 /// The first of the route, the link and the place that is missing.
-pub(crate) fn place_of(inventory: &Inventory, spot: Spot) -> Result<(&RouteRow, u64), Missing>
+pub(crate) fn place_of(inventory: &Inventory, spot: AskedPlace) -> Result<(&RouteRow, u64), Missing>
     ensures ok { IfOk result (λ place. place_of inventory.now spot ≡ Ok (place.0.now, place.1)) }
     ensures err { IfErr result (λ missing. place_of inventory.now spot ≡ Err missing) }
 {
     match spot {
-        Spot::OnRoute { route, chainage } => place_on_route(inventory, &route, chainage),
-        Spot::OnLink { link, mm } => place_on_link(inventory, link, mm),
+        AskedPlace::OnRoute { route, chainage } => place_on_route(inventory, &route, chainage),
+        AskedPlace::OnLink { link, mm } => place_on_link(inventory, link, mm),
     }
 }

@@ -7,7 +7,7 @@ use crate::AskFault;
 use crate::places::answer::{Whereabouts, answer_at};
 use crate::places::place::place_of;
 use lrs_inventory::Inventory;
-use lrs_machine::Spot;
+use lrs_machine::AskedPlace;
 use std::alloc::{AllocError, Global};
 
 /// What is at a chainage of a route, or at a millimetre of a link, where it is asked for as the route that runs over it: the
@@ -21,7 +21,7 @@ use std::alloc::{AllocError, Global};
 pub fn whereabouts(
     alloc: Global,
     inventory: &Inventory,
-    spot: Spot,
+    spot: AskedPlace,
 ) -> Result<Whereabouts, AskFault>
     ensures answer { IsWhereabouts inventory.now spot result }
     ensures never { result ≡ Err AskFault.MustReopen → ⊥ }

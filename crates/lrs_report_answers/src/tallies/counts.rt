@@ -15,7 +15,7 @@ ghost use Rattle.lrs_report_answers.specs.Tally.Counts.{names_of, with_entered, 
 use crate::AskFault;
 use crate::tallies::tally::{Count, add_entered, add_gone, no_counts, put_some_class, totals_of};
 use lrs_events::Class;
-use lrs_image::KeptImage;
+use lrs_image::ImageLists;
 use lrs_machine::Total;
 use lrs_measure::Rows;
 use std::alloc::{AllocError, Global};
@@ -35,7 +35,7 @@ impl Counts {
     ///
     /// # Errors
     /// When memory runs out.
-    pub fn of_image(alloc: Global, kept: &KeptImage) -> Result<Counts, AllocError>
+    pub fn of_image(alloc: Global, kept: &ImageLists) -> Result<Counts, AllocError>
         requires sound { IsSound (image_of kept.now) }
         ensures { IfOk result (IsCounted (image_of kept.now)) }
     {
@@ -48,7 +48,7 @@ impl Counts {
         Ok(counts)
     }
 
-    /// Lets them go. As a call of this crate it is one step to prove for a caller.
+    /// Drops them. As a call of this crate it is one step to prove for a caller.
     pub fn discard(self) {
         drop(self);
     }
@@ -66,7 +66,7 @@ impl Counts {
 
     /// Counts what the last change of the image brought: its new class, and the rows behind those that are
     /// counted. It takes no memory and cannot fail.
-    pub fn catch_up(&mut self, kept: &KeptImage, class: Option<Class>)
+    pub fn catch_up(&mut self, kept: &ImageLists, class: Option<Class>)
         requires room { HasRoom self.old }
         requires behind { IsBehind (image_of kept.now) class self.old }
         ensures { IsCounted (image_of kept.now) self.new }
@@ -76,7 +76,7 @@ impl Counts {
     }
 
     // Counts the rows of both ledgers behind those that are counted.
-    fn count_rows(&mut self, kept: &KeptImage)
+    fn count_rows(&mut self, kept: &ImageLists)
         requires order { each_two name_before (names_of self.old.classes.items) ≡ true }
         requires assets { each_two asset_before (image_of kept.now).assets ≡ true }
         requires entered { self.old.entered ≤ length (image_of kept.now).entered }

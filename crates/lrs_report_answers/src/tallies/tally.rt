@@ -24,7 +24,7 @@ pub(crate) struct Count {
 
 /// Which sum of a class a row of a ledger is a part of.
 #[derive(Clone, Copy)]
-enum Column {
+enum CountedSum {
     Entered,
     Retired,
     Abandoned,
@@ -43,20 +43,20 @@ fn place_of(counts: &[Count], class: ClassName) -> Option<usize>
 }
 
 /// The count with so much more in a column. No sum grows beyond the greatest number, which none reaches.
-fn raised(count: Count, column: Column, length: u64) -> Count
+fn raised(count: Count, column: CountedSum, length: u64) -> Count
     ensures { result ≡ raised column length count }
 {
     let mut count = count;
     match column {
-        Column::Entered => count.entered = count.entered.saturating_add(length),
-        Column::Retired => count.retired = count.retired.saturating_add(length),
-        Column::Abandoned => count.abandoned = count.abandoned.saturating_add(length),
+        CountedSum::Entered => count.entered = count.entered.saturating_add(length),
+        CountedSum::Retired => count.retired = count.retired.saturating_add(length),
+        CountedSum::Abandoned => count.abandoned = count.abandoned.saturating_add(length),
     }
     count
 }
 
 /// Adds so much to a column of a class.
-fn raise(counts: &mut Vec<Count>, class: ClassName, column: Column, length: u64)
+fn raise(counts: &mut Vec<Count>, class: ClassName, column: CountedSum, length: u64)
     requires order { each_two name_before (names_of counts.old.items) ≡ true }
     ensures names { names_of counts.new.items ≡ names_of counts.old.items }
     ensures sums { counts.new.items ≡ raised_of class column length counts.old.items }
@@ -68,7 +68,7 @@ fn raise(counts: &mut Vec<Count>, class: ClassName, column: Column, length: u64)
 }
 
 /// Adds a row of a ledger to the class of its asset.
-fn add_part(counts: &mut Vec<Count>, assets: &Chunked<Asset>, column: Column, part: &Part)
+fn add_part(counts: &mut Vec<Count>, assets: &Chunked<Asset>, column: CountedSum, part: &Part)
     requires order { each_two name_before (names_of counts.old.items) ≡ true }
     requires assets { each_two asset_before assets.now.rows ≡ true }
     ensures names { names_of counts.new.items ≡ names_of counts.old.items }
@@ -91,18 +91,18 @@ pub(crate) fn add_entered(counts: &mut Vec<Count>, assets: &Chunked<Asset>, ente
     ensures sums { counts.new.items ≡ with_entered assets.now.rows entered.now counts.old.items }
 {
     for part in entered {
-        add_part(counts, assets, Column::Entered, part);
+        add_part(counts, assets, CountedSum::Entered, part);
     }
 }
 
 /// What a row of what is gone is a part of.
-fn column_of(gone: &Gone) -> Column
+fn column_of(gone: &Gone) -> CountedSum
     ensures { result ≡ column_of gone.now }
 {
     if gone.abandoned {
-        Column::Abandoned
+        CountedSum::Abandoned
     } else {
-        Column::Retired
+        CountedSum::Retired
     }
 }
 

@@ -13,7 +13,7 @@ use Rattle.lrs_events.specs.declared.side.Side.{Side}
 use Rattle.lrs_events.specs.declared.span.Span.{Span}
 use Rattle.lrs_machine.specs.declared.image.RouteRow.{RouteRow}
 use Rattle.lrs_report_lists.specs.Lines.{asset_numbered}
-use Rattle.lrs_report_lists.specs.declared.length_lists.entries.Entry.{Entry}
+use Rattle.lrs_report_lists.specs.declared.length_lists.entries.LengthEntry.{LengthEntry}
 use Rattle.lrs_report_lists.specs.Length.Lengths.{holds_at, is_told, length_of, length_on, tells}
 use Rattle.lrs_report_lists.specs.Length.Parts.{FitsFrom, ends_by, entries_of, entries_on, entry_of, has_rows_on, held_by, is_entry_of, is_over, known_entry, lies_on, route_length, row_entry}
 use Rattle.lrs_report_lists.proofs.Length.Counts.{count, count-agree, count-append, count-same, count-shift}
@@ -22,7 +22,7 @@ use Rattle.lrs_report_lists.proofs.Length.Tests.{all-flat, and_nothing, any-agre
 module _ (assets : List Asset) where
   -- ---- where stretches lie
 
-  abbrev pub begins_from : ℕ → Entry → Bool
+  abbrev pub begins_from : ℕ → LengthEntry → Bool
   begins_from start e = nat_le start e.from
 
   known_from : (low start : ℕ) (r : Span) (a : Option Asset) → low ≤ start → list_all (begins_from low) (known_entry start r a) ≡ true
@@ -89,7 +89,7 @@ module _ (assets : List Asset) where
 
     module _ (counted : Side → Bool) where
       -- a stretch of the class and the value holds the millimetre of the axis
-      abbrev holds : ℕ → Entry → Bool
+      abbrev holds : ℕ → LengthEntry → Bool
       holds x e = is_entry_of class value e && is_over counted x e
 
       moved : (start j : ℕ) (from to : ℕ) → (nat_le (start + from) (start + j) && nat_lt (start + j) (start + to)) ≡ (nat_le from j && nat_lt j to)
@@ -118,7 +118,7 @@ module _ (assets : List Asset) where
           (λ r. known_held start j r (asset_numbered assets r.asset))
 
       -- stretches that begin behind the millimetre do not hold it, nor do those that end before it
-      begin_behind : (x : ℕ) (es : List Entry) → list_all (begins_from (x + 1)) es ≡ true → list_any (holds x) es ≡ false
+      begin_behind : (x : ℕ) (es : List LengthEntry) → list_all (begins_from (x + 1)) es ≡ true → list_any (holds x) es ≡ false
       begin_behind x [] h = refl
       begin_behind x (e ∷ es) h =
           let both = and_parts (begins_from (x + 1) e) (list_all (begins_from (x + 1)) es) h in
@@ -126,7 +126,7 @@ module _ (assets : List Asset) where
           (λ i. (is_entry_of class value e && ((lt-leb e.from x (omega (arith, low)) i && nat_lt x e.to) && counted e.side)) || begin_behind x es both.1 i)
           ∙ ap (λ b. b || false) (and_nothing (is_entry_of class value e))
 
-      end_before : (x : ℕ) (es : List Entry) → list_all (ends_by x) es ≡ true → list_any (holds x) es ≡ false
+      end_before : (x : ℕ) (es : List LengthEntry) → list_all (ends_by x) es ≡ true → list_any (holds x) es ≡ false
       end_before x [] h = refl
       end_before x (e ∷ es) h =
           let both = and_parts (ends_by x e) (list_all (ends_by x) es) h in
@@ -181,7 +181,7 @@ module _ (assets : List Asset) where
 
 -- ---- a loop over routes
 
-pub gathered : (assets : List Asset) (start end : ℕ) (e : RouteRow) (rest left : List RouteRow) (old new all : List Entry) → left ≡ e ∷ rest → new ≡ old ++ entries_on assets start e.spans → end ≡ start + route_length e
+pub gathered : (assets : List Asset) (start end : ℕ) (e : RouteRow) (rest left : List RouteRow) (old new all : List LengthEntry) → left ≡ e ∷ rest → new ≡ old ++ entries_on assets start e.spans → end ≡ start + route_length e
     → old ++ entries_of assets start left ≡ all → new ++ entries_of assets end rest ≡ all
 gathered assets start end e rest left old new all is one to before =
     (λ i. one i ++ entries_of assets (to i) rest) ∙ append_assoc old (entries_on assets start e.spans) (entries_of assets (start + route_length e) rest)

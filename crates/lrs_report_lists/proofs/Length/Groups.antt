@@ -10,7 +10,7 @@ use Rattle.lrs_measure.specs.Lists.{In, each_two}
 use Rattle.lrs_measure.specs.Texts.{Name, same_name}
 use Rattle.lrs_measure.proofs.Members.{any_found, any_of, all_at, all_of, all_weaker}
 use Rattle.lrs_events.specs.declared.side.Side.{Side}
-use Rattle.lrs_report_lists.specs.declared.length_lists.entries.Entry.{Entry}
+use Rattle.lrs_report_lists.specs.declared.length_lists.entries.LengthEntry.{LengthEntry}
 use Rattle.lrs_report_lists.specs.declared.length_lists.table.ValueLength.{ValueLength}
 use Rattle.lrs_report_lists.specs.Length.Lengths.{has_either, has_left, has_right, is_length_of, key_before, length_before}
 use Rattle.lrs_report_lists.specs.Length.Parts.{HasHeld, IsGroup, IsTable, begins_by, ends_by, held, held_by, is_entry_of, is_later, is_over, not_behind}
@@ -22,18 +22,18 @@ use Rattle.lrs_report_lists.proofs.Length.Tests.{any-all, any-none, front_passes
 own_name : (c : Name) → same_name c c ≡ true
 own_name c = (bytes_decides c c).1 refl
 
-own_key : (e : Entry) → is_entry_of e.class e.value e ≡ true
+own_key : (e : LengthEntry) → is_entry_of e.class e.value e ≡ true
 own_key e = and_from (same_name e.class e.class) (same_name e.value e.value) (own_name e.class) (own_name e.value)
 
-module _ (first : Entry) where
-  abbrev is_alike : Entry → Bool
+module _ (first : LengthEntry) where
+  abbrev is_alike : LengthEntry → Bool
   is_alike e = is_entry_of first.class first.value e
 
-  all_later : (y : Entry) (zs : List Entry) → is_later first y ≡ true → list_all (not_behind y) zs ≡ true → list_all (is_later first) zs ≡ true
+  all_later : (y : LengthEntry) (zs : List LengthEntry) → is_later first y ≡ true → list_all (not_behind y) zs ≡ true → list_all (is_later first) zs ≡ true
   all_later y zs later order = all_weaker (not_behind y) (is_later first) zs (λ z h. still_later first y z later h) order
 
   -- behind the front that is alike all come later
-  rest_later : (xs : List Entry) → list_all (not_behind first) xs ≡ true → each_two not_behind xs ≡ true → list_all (is_later first) (drop (prefix_len is_alike xs) xs) ≡ true
+  rest_later : (xs : List LengthEntry) → list_all (not_behind first) xs ≡ true → each_two not_behind xs ≡ true → list_all (is_later first) (drop (prefix_len is_alike xs) xs) ≡ true
   rest_later [] h order = refl
   rest_later (y ∷ ys) h order =
       let here = and_parts (not_behind first y) (list_all (not_behind first) ys) h in
@@ -47,10 +47,10 @@ module _ (first : Entry) where
           let later = is_behind first y h e in
           and_from (is_later first y) (list_all (is_later first) ys) later (all_later y ys later up)
 
-  front_is : (xs : List Entry) → prefix_len is_alike (first ∷ xs) ≡ suc (prefix_len is_alike xs)
+  front_is : (xs : List LengthEntry) → prefix_len is_alike (first ∷ xs) ≡ suc (prefix_len is_alike xs)
   front_is xs = ap (λ b. cond b (1 + prefix_len is_alike xs) 0) (own_key first) ∙ one_more (prefix_len is_alike xs)
 
-  group_of : (xs : List Entry) → each_two not_behind (first ∷ xs) ≡ true → IsGroup first (first ∷ xs) (prefix_len is_alike (first ∷ xs))
+  group_of : (xs : List LengthEntry) → each_two not_behind (first ∷ xs) ≡ true → IsGroup first (first ∷ xs) (prefix_len is_alike (first ∷ xs))
   group_of xs order =
       let all = first ∷ xs in
       let count = prefix_len is_alike all in
@@ -67,10 +67,10 @@ module _ (first : Entry) where
         order = two-drop not_behind count all order;
       }
 
-  pub group_is : (entries : List Entry) (count : ℕ) → 0 < length entries → first ≡ get_or entries 0 first → each_two not_behind entries ≡ true → count ≡ prefix_len is_alike entries → IsGroup first entries count
+  pub group_is : (entries : List LengthEntry) (count : ℕ) → 0 < length entries → first ≡ get_or entries 0 first → each_two not_behind entries ≡ true → count ≡ prefix_len is_alike entries → IsGroup first entries count
   group_is [] count some is order e = absurd (omega (arith, some))
   group_is (x ∷ xs) count some is order e =
-      subst (IsGroup first (x ∷ xs)) (sym e) (subst (λ (z : Entry). each_two not_behind (z ∷ xs) ≡ true → IsGroup first (z ∷ xs) (prefix_len is_alike (z ∷ xs))) is (group_of xs) order)
+      subst (IsGroup first (x ∷ xs)) (sym e) (subst (λ (z : LengthEntry). each_two not_behind (z ∷ xs) ≡ true → IsGroup first (z ∷ xs) (prefix_len is_alike (z ∷ xs))) is (group_of xs) order)
 
 -- ---- the table
 
@@ -91,14 +91,14 @@ not_alike : (a b : Key) → before_by one two a b ≡ true → same_by one two a
 not_alike a b h = false_from_ne_true (same_by one two a b) (λ s. both_ways (before_by one two a b) ((key_tie one two).not_first a b s) h)
 
 -- what has one class and value, and not another
-same_key : (c v d w : Name) (e : Entry) → is_entry_of c v e ≡ true → is_entry_of d w e ≡ (same_name c d && same_name v w)
+same_key : (c v d w : Name) (e : LengthEntry) → is_entry_of c v e ≡ true → is_entry_of d w e ≡ (same_name c d && same_name v w)
 same_key c v d w e h =
     let both = and_parts (same_name e.class c) (same_name e.value v) h in
     ap₂ (λ x y. same_name x d && same_name y w) ((bytes_decides e.class c).0 both.0) ((bytes_decides e.value v).0 both.1)
 
-module _ (group others : List Entry) (row : ValueLength) (some : list_any (is_entry_of row.class row.value) group ≡ true)
+module _ (group others : List LengthEntry) (row : ValueLength) (some : list_any (is_entry_of row.class row.value) group ≡ true)
     (alike : list_all (is_entry_of row.class row.value) group ≡ true) (later : list_all (λ e. key_before row.class row.value e.class e.value) others ≡ true) where
-  abbrev is_row : Entry → Bool
+  abbrev is_row : LengthEntry → Bool
   is_row e = is_entry_of row.class row.value e
 
   -- the group is found by the class and the value of its line
@@ -189,15 +189,15 @@ no_lines n = record { order = refl; exact = λ class value. refl; counts = tt }
 -- ---- the loop
 
 -- lines of what is left, behind those that are there, are lines of all
-pub record Leads (entries rest : List Entry) (lines : List ValueLength) : Type 0 where
+pub record Leads (entries rest : List LengthEntry) (lines : List ValueLength) : Type 0 where
   pub order : each_two not_behind rest ≡ true
   pub ends : (n : ℕ) → list_all (ends_by n) entries ≡ true → list_all (ends_by n) rest ≡ true
   pub table : (n : ℕ) → list_all (ends_by n) entries ≡ true → (more : List ValueLength) → IsTable n rest more → IsTable n entries (lines ++ more)
 
-pub leads_first : (entries : List Entry) → each_two not_behind entries ≡ true → Leads entries entries []
+pub leads_first : (entries : List LengthEntry) → each_two not_behind entries ≡ true → Leads entries entries []
 leads_first entries order = record { order = order; ends = λ n h. h; table = λ n h more t. t }
 
-pub leads_next : (entries rest : List Entry) (lines : List ValueLength) (first : Entry) (count : ℕ) (row : ValueLength) (group others : List Entry)
+pub leads_next : (entries rest : List LengthEntry) (lines : List ValueLength) (first : LengthEntry) (count : ℕ) (row : ValueLength) (group others : List LengthEntry)
     → Leads entries rest lines → IsGroup first rest count → group ≡ take count rest → others ≡ drop count rest
     → row.class ≡ first.class → row.value ≡ first.value
     → ((n : ℕ) → list_all (ends_by n) group ≡ true → row.left ≡ held has_left group n)
@@ -217,9 +217,9 @@ leads_next entries rest lines first count row group others leads is g o class va
       table = λ n h more t.
           let in_group = (ends n h).0 in
           let front = line_in_front group others row some alike later n more t (left n in_group) (right n in_group) (either n in_group) in
-          subst (IsTable n entries) (sym (append_assoc lines (row ∷ []) more)) (leads.table n h (row ∷ more) (subst (λ (z : List Entry). IsTable n z (row ∷ more)) (sym whole) front));
+          subst (IsTable n entries) (sym (append_assoc lines (row ∷ []) more)) (leads.table n h (row ∷ more) (subst (λ (z : List LengthEntry). IsTable n z (row ∷ more)) (sym whole) front));
     }
 
-pub leads_end : (entries rest : List Entry) (lines : List ValueLength) → Leads entries rest lines → rest ≡ [] → (n : ℕ) → list_all (ends_by n) entries ≡ true → IsTable n entries lines
+pub leads_end : (entries rest : List LengthEntry) (lines : List ValueLength) → Leads entries rest lines → rest ≡ [] → (n : ℕ) → list_all (ends_by n) entries ≡ true → IsTable n entries lines
 leads_end entries rest lines leads e n h =
-    subst (IsTable n entries) (append-nil lines) (leads.table n h [] (subst (λ (z : List Entry). IsTable n z []) (sym e) (no_lines n)))
+    subst (IsTable n entries) (append-nil lines) (leads.table n h [] (subst (λ (z : List LengthEntry). IsTable n z []) (sym e) (no_lines n)))

@@ -10,7 +10,7 @@ use Rattle.std.proofs.lemmas.Bool.{both_ways, and_parts, and_from, and_right, or
 use Rattle.std.proofs.lemmas.List.Sorted.{ranks_by, IsStrictWeakOrder-by_number}
 use Rattle.lrs_measure.specs.Texts.{Name, name_cmp, same_name, name_before}
 use Rattle.lrs_events.proofs.LaneLists.Ranks.{IsTie, itself, then_ranks}
-use Rattle.lrs_report_lists.specs.declared.length_lists.entries.Entry.{Entry}
+use Rattle.lrs_report_lists.specs.declared.length_lists.entries.LengthEntry.{LengthEntry}
 use Rattle.lrs_report_lists.specs.Length.Lengths.{key_before}
 use Rattle.lrs_report_lists.specs.Length.Parts.{begins_by, entry_before, is_entry_of, is_later, not_behind}
 
@@ -69,28 +69,28 @@ module _ {X : Type 0} (one two : X → Name) where
         ((name_tie two).tells x y (second _ _ p.1 ones) (second _ _ q.1 back));
   }
 
-abbrev class_of : Entry → Name
+abbrev class_of : LengthEntry → Name
 class_of e = e.class
 
-abbrev value_of : Entry → Name
+abbrev value_of : LengthEntry → Name
 value_of e = e.value
 
 -- stretches of one class and value
-abbrev pub is_same : Entry → Entry → Bool
+abbrev pub is_same : LengthEntry → LengthEntry → Bool
 is_same a b = is_entry_of b.class b.value a
 
 pub entry_ranks : IsStrictWeakOrder entry_before
 entry_ranks =
     then_ranks (before_by class_of value_of) is_same (λ a b. nat_lt a.from b.from) (key_ranks class_of value_of) (key_tie class_of value_of)
-    (IsStrictWeakOrder-by_number (λ (e : Entry). e.from))
+    (IsStrictWeakOrder-by_number (λ (e : LengthEntry). e.from))
 
 -- ---- what the order says of two stretches
 
-not_behind_parts : (a b : Entry) → not_behind a b ≡ true → (is_later b a ≡ false) × ((is_same b a && nat_lt b.from a.from) ≡ false)
+not_behind_parts : (a b : LengthEntry) → not_behind a b ≡ true → (is_later b a ≡ false) × ((is_same b a && nat_lt b.from a.from) ≡ false)
 not_behind_parts a b h = or_parts (is_later b a) (is_same b a && nat_lt b.from a.from) (not-true (entry_before b a) h)
 
 -- of one class and value, they begin in their order
-pub rise_together : (first a b : Entry) → is_entry_of first.class first.value a ≡ true → is_entry_of first.class first.value b ≡ true → not_behind a b ≡ true → begins_by a b ≡ true
+pub rise_together : (first a b : LengthEntry) → is_entry_of first.class first.value a ≡ true → is_entry_of first.class first.value b ≡ true → not_behind a b ≡ true → begins_by a b ≡ true
 rise_together first a b p q h =
     let x = and_parts (same_name a.class first.class) (same_name a.value first.value) p in
     let y = and_parts (same_name b.class first.class) (same_name b.value first.value) q in
@@ -100,11 +100,11 @@ rise_together first a b p q h =
     le-leb a.from b.from (ltb-false b.from a.from (second (is_same b a) (nat_lt b.from a.from) (not_behind_parts a b h).1 same))
 
 -- one of another class or value, that is not in front, comes later
-pub is_behind : (first y : Entry) → not_behind first y ≡ true → is_entry_of first.class first.value y ≡ false → is_later first y ≡ true
+pub is_behind : (first y : LengthEntry) → not_behind first y ≡ true → is_entry_of first.class first.value y ≡ false → is_later first y ≡ true
 is_behind first y h other =
     true_from_ne_false (is_later first y) (λ n. both_ways (is_same y first) other ((key_tie class_of value_of).tells y first (not_behind_parts first y h).0 n))
 
 -- what is not in front of a later one is later
-pub still_later : (first y z : Entry) → is_later first y ≡ true → not_behind y z ≡ true → is_later first z ≡ true
+pub still_later : (first y z : LengthEntry) → is_later first y ≡ true → not_behind y z ≡ true → is_later first z ≡ true
 still_later first y z later h =
     true_from_ne_false (is_later first z) (λ n. both_ways (is_later first y) ((key_ranks class_of value_of).chain first z y n (not_behind_parts y z h).0) later)

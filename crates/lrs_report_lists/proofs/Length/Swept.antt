@@ -6,8 +6,8 @@ use Rattle.std.proofs.lemmas.Bool.{and_parts, and_left, cases_lt, lt-ltb, le-ltb
 use Rattle.lrs_measure.specs.Lists.{each_two}
 use Rattle.lrs_measure.proofs.Members.{any_found, all_at}
 use Rattle.lrs_events.specs.declared.side.Side.{Side}
-use Rattle.lrs_report_lists.specs.declared.length_lists.entries.Entry.{Entry}
-use Rattle.lrs_report_lists.specs.declared.length_lists.extent.Extent.{Extent}
+use Rattle.lrs_report_lists.specs.declared.length_lists.entries.LengthEntry.{LengthEntry}
+use Rattle.lrs_report_lists.specs.declared.length_lists.held_lengths.HeldLength.{HeldLength}
 use Rattle.lrs_report_lists.specs.Length.Parts.{begins_by, ends_by, held, is_over, longer, nothing_held}
 use Rattle.lrs_report_lists.proofs.Length.Counts.{count, count-agree, count-between, count-none, count-or, is_between}
 use Rattle.lrs_report_lists.proofs.Length.Tests.{and_nothing}
@@ -50,25 +50,25 @@ new_or_later from to end x false h = by (cases_lt x end) (cases_lt x from) (case
         (λ i. le-leb end x e i && ((le-leb from x f i && le-ltb x to t i && true) || false)) ∙ sym (λ i. (le-leb (max from end) x one i && le-ltb x to t i) || (le-leb (max end to) x two i && false))
 
 module _ (counted : Side → Bool) (n : ℕ) where
-  abbrev longer_by : Extent → Entry → Extent
+  abbrev longer_by : HeldLength → LengthEntry → HeldLength
   longer_by t e = longer counted t e
 
   -- what the stretches hold behind a chainage
-  abbrev held_behind : ℕ → List Entry → ℕ
+  abbrev held_behind : ℕ → List LengthEntry → ℕ
   held_behind end es = count (λ x. nat_le end x && list_any (is_over counted x) es) 0 n
 
   none_behind : (end : ℕ) → held_behind end [] ≡ 0
   none_behind end = count-agree (λ x. nat_le end x && false) (λ x. false) 0 n (λ x. and_nothing (nat_le end x)) ∙ count-none 0 n
 
   -- a stretch on another side
-  passed_over : (end : ℕ) (e : Entry) (es : List Entry) → counted e.side ≡ false → held_behind end (e ∷ es) ≡ held_behind end es
+  passed_over : (end : ℕ) (e : LengthEntry) (es : List LengthEntry) → counted e.side ≡ false → held_behind end (e ∷ es) ≡ held_behind end es
   passed_over end e es off =
       count-agree (λ x. nat_le end x && list_any (is_over counted x) (e ∷ es)) (λ x. nat_le end x && list_any (is_over counted x) es) 0 n
       (λ x. (λ i. nat_le end x && ((nat_le e.from x && nat_lt x e.to && off i) || list_any (is_over counted x) es))
       ∙ ap (λ b. nat_le end x && (b || list_any (is_over counted x) es)) (and_nothing (nat_le e.from x && nat_lt x e.to)))
 
   -- the others begin no earlier
-  begins : (e : Entry) (es : List Entry) (x : ℕ) → list_all (begins_by e) es ≡ true → list_any (is_over counted x) es ≡ true → e.from ≤ x
+  begins : (e : LengthEntry) (es : List LengthEntry) (x : ℕ) → list_all (begins_by e) es ≡ true → list_any (is_over counted x) es ≡ true → e.from ≤ x
   begins e es x order some =
       let found = any_found (is_over counted x) es some in
       let a = found.0 in
@@ -77,7 +77,7 @@ module _ (counted : Side → Bool) (n : ℕ) where
       let low = leb-true a.from x (and_parts (nat_le a.from x) (nat_lt x a.to) over.0).0 in
       omega (arith, later, low)
 
-  one_more : (end : ℕ) (e : Entry) (es : List Entry) → counted e.side ≡ true → list_all (begins_by e) es ≡ true → e.to ≤ n
+  one_more : (end : ℕ) (e : LengthEntry) (es : List LengthEntry) → counted e.side ≡ true → list_all (begins_by e) es ≡ true → e.to ≤ n
       → held_behind end (e ∷ es) ≡ (e.to - max e.from end) + held_behind (max end e.to) es
   one_more end e es on order within =
       let new = is_between (max e.from end) e.to in
@@ -91,7 +91,7 @@ module _ (counted : Side → Bool) (n : ℕ) where
       let sizes : min e.to (0 + n) - max (max e.from end) 0 ≡ e.to - max e.from end = omega (arith, within) in
       split ∙ count-or new others 0 n apart ∙ ap (λ k. k + held_behind (max end e.to) es) (count-between (max e.from end) e.to 0 n ∙ sizes)
 
-  added_up : (t : Extent) (es : List Entry) → each_two begins_by es ≡ true → list_all (ends_by n) es ≡ true
+  added_up : (t : HeldLength) (es : List LengthEntry) → each_two begins_by es ≡ true → list_all (ends_by n) es ≡ true
       → (fold longer_by t es).total ≡ t.total + held_behind t.end es
   added_up t [] order ends = let none = none_behind t.end in omega (arith, none)
   added_up t (e ∷ es) order ends =
@@ -108,7 +108,7 @@ module _ (counted : Side → Bool) (n : ℕ) where
       by false on order within same more = let none = passed_over t.end e es on in omega (arith, same, none)
 
   -- From the start on it is what they hold.
-  pub swept : (es : List Entry) → each_two begins_by es ≡ true → list_all (ends_by n) es ≡ true → (fold longer_by nothing_held es).total ≡ held counted es n
+  pub swept : (es : List LengthEntry) → each_two begins_by es ≡ true → list_all (ends_by n) es ≡ true → (fold longer_by nothing_held es).total ≡ held counted es n
   swept es order ends =
       let all = added_up nothing_held es order ends in
       let from_start = count-agree (λ x. nat_le 0 x && list_any (is_over counted x) es) (λ x. list_any (is_over counted x) es) 0 n

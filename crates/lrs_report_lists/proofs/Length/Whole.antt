@@ -23,7 +23,7 @@ use Rattle.lrs_machine.specs.declared.image.RouteRow.{RouteRow}
 use Rattle.lrs_machine.specs.Sound.{IsSound, RouteCourse, RouteSpans, are_spans_of, course_before, courses_of, is_course, is_on_a_link, is_span, keeps_exclusive, spans_of}
 use Rattle.lrs_image.proofs.Tables.{passes}
 use Rattle.lrs_position.specs.Routes.{is_route_course}
-use Rattle.lrs_report_lists.specs.declared.length_lists.entries.Entry.{Entry}
+use Rattle.lrs_report_lists.specs.declared.length_lists.entries.LengthEntry.{LengthEntry}
 use Rattle.lrs_report_lists.specs.declared.length_lists.table.ValueLength.{ValueLength}
 use Rattle.lrs_report_lists.specs.Length.Lengths.{AreLengthsOn, HasLengths, has_either, has_left, has_right}
 use Rattle.lrs_report_lists.specs.Length.Parts.{HasHeld, IsTable, ends_by, entries_of, has_rows_on, held_by, is_entry_of, is_over, lies_on, route_length}
@@ -31,7 +31,7 @@ use Rattle.lrs_report_lists.proofs.Length.Axis.{all_end, all_held, routes_told}
 
 -- ---- the lengths
 
-module _ (assets : List Asset) (routes : List RouteRow) (sorted : List Entry) (on : list_all has_rows_on routes ≡ true) (same : IsPermutation (entries_of assets 0 routes) sorted) where
+module _ (assets : List Asset) (routes : List RouteRow) (sorted : List LengthEntry) (on : list_all has_rows_on routes ≡ true) (same : IsPermutation (entries_of assets 0 routes) sorted) where
   abbrev whole : ℕ
   whole = sum_by route_length routes
 

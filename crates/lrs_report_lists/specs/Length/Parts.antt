@@ -9,35 +9,35 @@ use Rattle.lrs_events.specs.declared.side.Side.{Side}
 use Rattle.lrs_events.specs.declared.span.Span.{Span}
 use Rattle.lrs_machine.specs.declared.image.RouteRow.{RouteRow}
 use Rattle.lrs_report_lists.specs.Lines.{asset_numbered}
-use Rattle.lrs_report_lists.specs.declared.length_lists.entries.Entry.{Entry}
-use Rattle.lrs_report_lists.specs.declared.length_lists.extent.Extent.{Extent}
-use Rattle.lrs_report_lists.specs.declared.length_lists.extent.Reach.{Reach}
-use Rattle.lrs_report_lists.specs.declared.length_lists.extent.Reach.TheVariants.{Left, Right, Either}
+use Rattle.lrs_report_lists.specs.declared.length_lists.entries.LengthEntry.{LengthEntry}
+use Rattle.lrs_report_lists.specs.declared.length_lists.held_lengths.HeldLength.{HeldLength}
+use Rattle.lrs_report_lists.specs.declared.length_lists.held_lengths.Reach.{Reach}
+use Rattle.lrs_report_lists.specs.declared.length_lists.held_lengths.Reach.TheVariants.{Left, Right, Either}
 use Rattle.lrs_report_lists.specs.declared.length_lists.table.ValueLength.{ValueLength}
 use Rattle.lrs_report_lists.specs.Length.Lengths.{has_either, has_left, has_right, is_length_of, key_before, length_before}
 
 -- ---- stretches
 
 -- what an asset holds by a row of the route that begins there
-abbrev pub entry_of : ℕ → Span → Asset → Entry
+abbrev pub entry_of : ℕ → Span → Asset → LengthEntry
 entry_of start r a = record { class = r.class; value = a.value; from = start + r.from; to = start + r.to; side = r.side }
 
-abbrev pub known_entry : ℕ → Span → Option Asset → List Entry
+abbrev pub known_entry : ℕ → Span → Option Asset → List LengthEntry
 known_entry start r None = []
 known_entry start r (Some a) = entry_of start r a ∷ []
 
-abbrev pub row_entry : List Asset → ℕ → Span → List Entry
+abbrev pub row_entry : List Asset → ℕ → Span → List LengthEntry
 row_entry assets start r = known_entry start r (asset_numbered assets r.asset)
 
 -- what the rows of a route hold
-abbrev pub entries_on : List Asset → ℕ → List Span → List Entry
+abbrev pub entries_on : List Asset → ℕ → List Span → List LengthEntry
 entries_on assets start rows = flat_map (row_entry assets start) rows
 
 abbrev pub route_length : RouteRow → ℕ
 route_length e = length e.route.course
 
 -- ... of routes, the first of which begins there
-abbrev pub entries_of : List Asset → ℕ → List RouteRow → List Entry
+abbrev pub entries_of : List Asset → ℕ → List RouteRow → List LengthEntry
 entries_of assets start [] = []
 entries_of assets start (e ∷ es) = entries_on assets start e.spans ++ entries_of assets (start + route_length e) es
 
@@ -59,25 +59,25 @@ list_of o = option_map_or (λ e. e ∷ []) o []
 
 -- ---- their order
 
-abbrev pub is_entry_of : Name → Name → Entry → Bool
+abbrev pub is_entry_of : Name → Name → LengthEntry → Bool
 is_entry_of class value e = same_name e.class class && same_name e.value value
 
 -- by class, then value, then start
-abbrev pub entry_before : Entry → Entry → Bool
+abbrev pub entry_before : LengthEntry → LengthEntry → Bool
 entry_before a b = key_before a.class a.value b.class b.value || (is_entry_of b.class b.value a && nat_lt a.from b.from)
 
-abbrev pub not_behind : Entry → Entry → Bool
+abbrev pub not_behind : LengthEntry → LengthEntry → Bool
 not_behind a b = not (entry_before b a)
 
-abbrev pub begins_by : Entry → Entry → Bool
+abbrev pub begins_by : LengthEntry → LengthEntry → Bool
 begins_by a b = nat_le a.from b.from
 
 -- the stretch is of a later class and value
-abbrev pub is_later : Entry → Entry → Bool
+abbrev pub is_later : LengthEntry → LengthEntry → Bool
 is_later first e = key_before first.class first.value e.class e.value
 
 -- The first so many have the class and the value of the first one, and rise; the others come later.
-pub record IsGroup (first : Entry) (entries : List Entry) (count : ℕ) : Type 0 where
+pub record IsGroup (first : LengthEntry) (entries : List LengthEntry) (count : ℕ) : Type 0 where
   pub some : 0 < count
   pub within : count ≤ length entries
   pub has_first : list_any (is_entry_of first.class first.value) (take count entries) ≡ true
@@ -93,37 +93,37 @@ reaches Left = has_left
 reaches Right = has_right
 reaches Either = has_either
 
-abbrev pub is_over : (Side → Bool) → ℕ → Entry → Bool
+abbrev pub is_over : (Side → Bool) → ℕ → LengthEntry → Bool
 is_over counted x e = nat_le e.from x && nat_lt x e.to && counted e.side
 
 -- how many of the first n millimetres some stretch holds, on a side that is counted
-abbrev pub held : (Side → Bool) → List Entry → ℕ → ℕ
+abbrev pub held : (Side → Bool) → List LengthEntry → ℕ → ℕ
 held counted entries n = count_by (λ x. list_any (is_over counted x) entries) (range_with_len 0 n)
 
 -- ... some stretch of the class and the value
-abbrev pub held_by : (Side → Bool) → Name → Name → List Entry → ℕ → ℕ
+abbrev pub held_by : (Side → Bool) → Name → Name → List LengthEntry → ℕ → ℕ
 held_by counted class value entries n = count_by (λ x. list_any (λ e. is_entry_of class value e && is_over counted x e) entries) (range_with_len 0 n)
 
 -- the stretch ends within the first n millimetres
-abbrev pub ends_by : ℕ → Entry → Bool
+abbrev pub ends_by : ℕ → LengthEntry → Bool
 ends_by n e = nat_le e.to n
 
 -- one stretch more, which begins no earlier than those before it
-abbrev pub longer : (Side → Bool) → Extent → Entry → Extent
+abbrev pub longer : (Side → Bool) → HeldLength → LengthEntry → HeldLength
 longer counted t e = if counted e.side then record { total = t.total + (e.to - max e.from t.end); end = max t.end e.to } else t
 
-abbrev pub nothing_held : Extent
+abbrev pub nothing_held : HeldLength
 nothing_held = record { total = 0; end = 0 }
 
 -- ---- the table
 
 -- The lengths are what stretches of the class and the value hold of the first n millimetres.
-pub record HasHeld (n : ℕ) (entries : List Entry) (l : ValueLength) : Type 0 where
+pub record HasHeld (n : ℕ) (entries : List LengthEntry) (l : ValueLength) : Type 0 where
   pub left_is : l.left ≡ held_by has_left l.class l.value entries n
   pub right_is : l.right ≡ held_by has_right l.class l.value entries n
   pub length_is : l.length ≡ held_by has_either l.class l.value entries n
 
-pub record IsTable (n : ℕ) (entries : List Entry) (lengths : List ValueLength) : Type 0 where
+pub record IsTable (n : ℕ) (entries : List LengthEntry) (lengths : List ValueLength) : Type 0 where
   pub order : each_two length_before lengths ≡ true
   pub exact : (class value : Name) → list_any (is_length_of class value) lengths ≡ list_any (is_entry_of class value) entries
   pub counts : AllByRecursion (HasHeld n entries) lengths

@@ -17,7 +17,7 @@ use std::alloc::{AllocError, Global};
 
 /// A stretch that an asset of a class and a value holds, in millimetres of an axis along which routes lie one behind the other.
 #[derive(Clone, Copy)]
-pub(crate) struct Entry {
+pub(crate) struct LengthEntry {
     pub class: ClassName,
     pub value: Value,
     pub from: u64,
@@ -26,12 +26,12 @@ pub(crate) struct Entry {
 }
 
 /// What an asset holds by a row of the route that begins there.
-fn entry_of(start: u64, row: &Span, asset: &Asset) -> Entry
+fn entry_of(start: u64, row: &Span, asset: &Asset) -> LengthEntry
     requires from { start + row.now.from < 2 ^ 64 }
     requires to { start + row.now.to < 2 ^ 64 }
     ensures { result ≡ entry_of start row.now asset.now }
 {
-    Entry {
+    LengthEntry {
         class: row.class,
         value: asset.value,
         from: start + row.from,
@@ -42,7 +42,7 @@ fn entry_of(start: u64, row: &Span, asset: &Asset) -> Entry
 
 /// Adds what a known asset holds by a row, or nothing where there is no asset.
 fn push_known(
-    entries: &mut Vec<Entry>,
+    entries: &mut Vec<LengthEntry>,
     start: u64,
     row: &Span,
     asset: Option<&Asset>,
@@ -62,7 +62,7 @@ fn push_known(
 }
 
 fn push_row(
-    entries: &mut Vec<Entry>,
+    entries: &mut Vec<LengthEntry>,
     assets: &Chunked<Asset>,
     start: u64,
     row: &Span,
@@ -77,7 +77,7 @@ fn push_row(
 }
 
 fn push_rows(
-    entries: &mut Vec<Entry>,
+    entries: &mut Vec<LengthEntry>,
     assets: &Chunked<Asset>,
     start: u64,
     rows: &[Span],
@@ -95,7 +95,7 @@ fn push_rows(
 
 /// Adds what the rows of a route hold, which begins there.
 fn push_route(
-    entries: &mut Vec<Entry>,
+    entries: &mut Vec<LengthEntry>,
     assets: &Chunked<Asset>,
     start: u64,
     route_row: &RouteRow,
@@ -114,7 +114,7 @@ fn all_entries(
     alloc: Global,
     assets: &Chunked<Asset>,
     routes: &Chunked<RouteRow>,
-) -> Result<Vec<Entry>, AllocError>
+) -> Result<Vec<LengthEntry>, AllocError>
     requires order { each_two asset_before assets.now.rows ≡ true }
     requires rows { list_all has_rows_on routes.now.rows ≡ true }
     requires fit { sum_by route_length routes.now.rows < 2 ^ 64 }
@@ -135,7 +135,7 @@ fn route_entries(
     alloc: Global,
     assets: &Chunked<Asset>,
     route_row: &RouteRow,
-) -> Result<Vec<Entry>, AllocError>
+) -> Result<Vec<LengthEntry>, AllocError>
     requires order { each_two asset_before assets.now.rows ≡ true }
     requires rows { has_rows_on route_row.now ≡ true }
     requires fits { route_length route_row.now < 2 ^ 64 }
@@ -152,7 +152,7 @@ fn found_entries(
     alloc: Global,
     assets: &Chunked<Asset>,
     route_row: Option<&RouteRow>,
-) -> Result<Vec<Entry>, AllocError>
+) -> Result<Vec<LengthEntry>, AllocError>
     requires order { each_two asset_before assets.now.rows ≡ true }
     requires rows { list_all has_rows_on (list_of (option_map (λ e. e.now) route_row)) ≡ true }
     requires fit { sum_by route_length (list_of (option_map (λ e. e.now) route_row)) < 2 ^ 64 }
@@ -171,7 +171,7 @@ pub(crate) fn wanted_entries(
     assets: &Chunked<Asset>,
     routes: &Chunked<RouteRow>,
     route: Option<&RouteName>,
-) -> Result<Vec<Entry>, AllocError>
+) -> Result<Vec<LengthEntry>, AllocError>
     requires assets_order { each_two asset_before assets.now.rows ≡ true }
     requires routes_order { each_two route_before routes.now.rows ≡ true }
     requires rows { list_all has_rows_on routes.now.rows ≡ true }

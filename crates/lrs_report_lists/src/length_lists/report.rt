@@ -9,7 +9,7 @@ ghost use Rattle.lrs_report_lists.specs.Length.Lengths.{AreLengths};
 use crate::length_lists::entries::wanted_entries;
 use crate::length_lists::order::sort;
 use crate::length_lists::table::{ValueLength, table_of};
-use lrs_image::KeptImage;
+use lrs_image::ImageLists;
 use lrs_measure::Rows;
 use lrs_position::RouteName;
 use std::alloc::{AllocError, Global};
@@ -22,7 +22,7 @@ use std::alloc::{AllocError, Global};
 /// When memory runs out.
 pub fn lengths(
     alloc: Global,
-    kept: &KeptImage,
+    kept: &ImageLists,
     route: Option<&RouteName>,
 ) -> Result<Rows<ValueLength>, AllocError>
     requires sound { IsSound (image_of kept.now) }

@@ -6,8 +6,8 @@ ghost use Rattle.lrs_measure.specs.Lists.{each_two};
 ghost use Rattle.lrs_report_lists.specs.Length.Lengths.{has_either, has_left, has_right};
 ghost use Rattle.lrs_report_lists.specs.Length.Parts.{IsGroup, IsTable, begins_by, ends_by, held, is_entry_of, not_behind};
 
-use crate::length_lists::entries::Entry;
-use crate::length_lists::extent::{Reach, held_length};
+use crate::length_lists::entries::LengthEntry;
+use crate::length_lists::held_lengths::{Reach, held_length};
 use crate::length_lists::order::is_of;
 use lrs_events::{ClassName, Value};
 use lrs_measure::Rows;
@@ -25,7 +25,7 @@ pub struct ValueLength {
 }
 
 /// How many of the first stretches are of the class and the value of another.
-fn count_alike(entries: &[Entry], first: &Entry) -> usize
+fn count_alike(entries: &[LengthEntry], first: &LengthEntry) -> usize
     ensures { result ≡ prefix_len (is_entry_of first.now.class first.now.value) entries.now }
 {
     for (i, entry) in entries.iter().enumerate() {
@@ -37,7 +37,7 @@ fn count_alike(entries: &[Entry], first: &Entry) -> usize
 }
 
 /// How many of the first stretches are of the class and the value of the first one.
-fn group_len(entries: &[Entry], first: &Entry) -> usize
+fn group_len(entries: &[LengthEntry], first: &LengthEntry) -> usize
     requires some { 0 < length entries.now }
     requires first { first.now ≡ slice_index_or entries.now 0 first.now }
     requires order { each_two not_behind entries.now ≡ true }
@@ -47,7 +47,7 @@ fn group_len(entries: &[Entry], first: &Entry) -> usize
 }
 
 /// The lengths of stretches of one class and one value, which the first one has.
-fn group_length(first: &Entry, group: &[Entry]) -> ValueLength
+fn group_length(first: &LengthEntry, group: &[LengthEntry]) -> ValueLength
     requires order { each_two begins_by group.now ≡ true }
     ensures class { result.class ≡ first.now.class }
     ensures value { result.value ≡ first.now.value }
@@ -68,7 +68,10 @@ fn group_length(first: &Entry, group: &[Entry]) -> ValueLength
 }
 
 /// The lengths of each class and value.
-pub(crate) fn table_of(alloc: Global, entries: &[Entry]) -> Result<Rows<ValueLength>, AllocError>
+pub(crate) fn table_of(
+    alloc: Global,
+    entries: &[LengthEntry],
+) -> Result<Rows<ValueLength>, AllocError>
     requires order { each_two not_behind entries.now ≡ true }
     ensures { IfOk result (λ lengths. (n : ℕ) → list_all (ends_by n) entries.now ≡ true
         → IsTable n entries.now lengths) }

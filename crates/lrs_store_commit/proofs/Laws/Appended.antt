@@ -1,4 +1,4 @@
--- What comes besides routes: a link, a class, an asset, rows of the ledgers, and the edit.
+-- What is inserted besides routes: a link, a class, an asset, rows of the ledgers, and the edit.
 use Rattle.std.proofs.Common.{◌+◌, Bool, List, [], ◌∷◌, ◌++◌, map, length, sym, subst, arith, IsPermutation}
 use Rattle.std.specs.Prelude.{Option, Some, None}
 use Rattle.std.proofs.lemmas.List.{map-append}

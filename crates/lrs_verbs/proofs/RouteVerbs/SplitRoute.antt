@@ -70,7 +70,7 @@ module _ (route name : Name) (at : ℕ) (i : Image) (n : ℕ) where
         ∙ ap (λ b. refuse_if b cause.NoMark >> Ok (set_route route (take at r.route.course) (marks_to at r.route.marks) (set_route name (drop at r.route.course) (marks_from at r.route.marks) (state_of i))))
         (ap not (sym (inside_is_inner r at)) ∙ missing)
 
--- ---- referents that go by their names
+-- ---- referents that are removed by their names
 
 module _ (r : RouteRow) (at : ℕ) where
   abbrev named : Referent → Name

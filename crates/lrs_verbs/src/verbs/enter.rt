@@ -8,7 +8,7 @@ ghost use Rattle.lrs_machine.specs.declared.answer.Cause.TheVariants as cause;
 ghost use Rattle.lrs_machine.specs.declared.command.Command.TheVariants as verb;
 ghost use Rattle.lrs_machine.specs.Machine.{first_holder};
 ghost use Rattle.lrs_verbs.specs.Entries.{asset_of, row_of, with_row, AreInLimits, AreEntered, IsEntering};
-ghost use Rattle.lrs_inventory.specs.Extents.{IsRouteIn, EndsBy};
+ghost use Rattle.lrs_inventory.specs.RouteStretches.{IsRouteIn, EndsBy};
 ghost use Rattle.lrs_inventory.specs.Plans.{Answers, Plans, plan_of};
 ghost use Rattle.lrs_verbs.specs.EntryRequests.{IsWanted};
 

@@ -50,7 +50,7 @@ fn wanted_on<'a>(
 {
     let is_wrong = is_refused(kind, asked.location, only_exclusive);
     refuse_if(is_wrong, Cause::WrongKind)?;
-    let stretch = inventory.extent(route, asked.location)?;
+    let stretch = inventory.stretch(route, asked.location)?;
     refuse_if(stretch.is_empty(), Cause::Empty)?;
     Ok((kind, route, stretch))
 }

@@ -58,7 +58,7 @@ fn retire_on(
 {
     inventory.prove_sound();
     refuse_if(is_wrong_kind(kind, location), Cause::WrongKind)?;
-    let stretch = inventory.extent(route_row, location)?;
+    let stretch = inventory.stretch(route_row, location)?;
     refuse_if(stretch.is_empty(), Cause::Empty)?;
     let removal = removal_of(alloc, route_row, asset, stretch)?;
     refuse_if(is_nothing(&removal.left), Cause::Empty)?;

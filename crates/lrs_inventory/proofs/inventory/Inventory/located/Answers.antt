@@ -4,7 +4,7 @@ use Rattle.lrs_inventory.specs.Prelude.{alignment_of, state_of}
 use Rattle.lrs_position.specs.declared.expression.Expr.{Expr}
 use Rattle.lrs_position.specs.Expressions.{is_entered}
 use Rattle.lrs_machine.specs.Machine.{located_chainage}
-use Rattle.lrs_inventory.specs.Extents.{IsLocatedAt}
+use Rattle.lrs_inventory.specs.RouteStretches.{IsLocatedAt}
 use Rattle.lrs_inventory.proofs.Located.{located_alike, refused_alike}
 use Rattle.lrs_inventory.proofs.inventory.Inventory.located.Goals as goal
 

@@ -1,12 +1,12 @@
 use Rattle.std.proofs.Common.{sym, ◌∙◌}
 use Rattle.std.proofs.lemmas.Bool.{leb-false}
 use Rattle.std.proofs.lemmas.Result.{err_from_is_err_and}
-use Rattle.lrs_inventory.specs.Prelude.{alignment_of, state_of, extent_of}
+use Rattle.lrs_inventory.specs.Prelude.{alignment_of, state_of, located_stretch}
 use Rattle.lrs_machine.specs.declared.answer.Cause.TheVariants as cause
 use Rattle.lrs_machine.specs.Machine.{wanted_of}
 use Rattle.lrs_verbs.specs.EntryRequests.{is_left_out}
 use Rattle.lrs_inventory.proofs.Stopping.{answers_refused, answers_stopped, passed}
-use Rattle.lrs_verbs.proofs.EntryChecks.{refuses_kind, refuses_extent, refuses_empty, wants}
+use Rattle.lrs_verbs.proofs.EntryChecks.{refuses_kind, refuses_stretch, refuses_empty, wants}
 use Rattle.lrs_verbs.proofs.verbs.location.wanted_on.Goals as goal
 
 pub returns-in_err-refuse_if-clause-refused : goal.returns-in_err-refuse_if-clause-refused
@@ -28,8 +28,8 @@ returns-in_err-stretch-clause-refused c =
     let test = is_left_out c.args.only_exclusive in
     let right = sym c.is_refused-is_wrong.ensures ∙ passed c.is_refused-is_wrong.result cause.WrongKind c.refuse_if.result _ c.refuse_if.ensures c.in_ok-refuse_if.was in
     let err = err_from_is_err_and c.from_residual-in_err-stretch.result c.from_residual-in_err-stretch.ensures.1 in
-    rw (err.1, err.2) (answers_stopped (wanted_of test e s) (extent_of s a e.location) _ c.in_err-stretch.ensures.answer
-    (λ d is. refuses_extent e s test b.fresh c.args.kind b.class a b.alignment right d is))
+    rw (err.1, err.2) (answers_stopped (wanted_of test e s) (located_stretch s a e.location) _ c.in_err-stretch.ensures.answer
+    (λ d is. refuses_stretch e s test b.fresh c.args.kind b.class a b.alignment right d is))
 
 pub returns-in_err-refuse_if-2-clause-refused : goal.returns-in_err-refuse_if-2-clause-refused
 returns-in_err-refuse_if-2-clause-refused c =

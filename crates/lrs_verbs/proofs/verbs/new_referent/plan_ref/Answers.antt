@@ -9,7 +9,7 @@ use Rattle.lrs_machine.specs.declared.answer.Cause.TheVariants as cause
 use Rattle.lrs_machine.specs.declared.command.Command.TheVariants as verb
 use Rattle.lrs_machine.specs.Register.{get}
 use Rattle.lrs_inventory.specs.declared.plan.Plan.{Plan}
-use Rattle.lrs_inventory.specs.Extents.{IsRouteIn, located_cell}
+use Rattle.lrs_inventory.specs.RouteStretches.{IsRouteIn, located_cell}
 use Rattle.lrs_inventory.specs.Plans.{Answers, IsPlanOf}
 use Rattle.lrs_verbs.specs.RouteReferents.{plan_of_referents, with_one, standing_at}
 use Rattle.lrs_inventory.proofs.Located.{route_in}

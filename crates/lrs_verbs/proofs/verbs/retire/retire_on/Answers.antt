@@ -1,6 +1,6 @@
 use Rattle.std.proofs.Common.{ℕ, ◌+◌, rules, sym, ap, subst, ◌∙◌}
 use Rattle.std.proofs.lemmas.Result.{err_from_is_err_and}
-use Rattle.lrs_inventory.specs.Prelude.{alignment_of, state_of, extent_of, Retired}
+use Rattle.lrs_inventory.specs.Prelude.{alignment_of, state_of, located_stretch, Retired}
 use Rattle.lrs_measure.specs.Lists.{is_nothing}
 use Rattle.lrs_machine.specs.declared.answer.Cause.TheVariants as cause
 use Rattle.lrs_machine.specs.declared.command.Command.TheVariants as verb
@@ -9,7 +9,7 @@ use Rattle.lrs_verbs.specs.Removals.{IsTaking}
 use Rattle.lrs_inventory.proofs.Stopping.{refused, passed, stopped}
 use Rattle.lrs_inventory.proofs.Located.{route_in}
 use Rattle.lrs_image_laws.proofs.Holding.{alone}
-use Rattle.lrs_verbs.proofs.Retirement.{refuses_kind, refuses_extent, refuses_empty, refuses_bare, retires}
+use Rattle.lrs_verbs.proofs.Retirement.{refuses_kind, refuses_stretch, refuses_empty, refuses_bare, retires}
 use Rattle.lrs_verbs.proofs.verbs.retire.retire_on.Goals as goal
 
 pub returns-in_err-refuse_if : goal.returns-in_err-refuse_if
@@ -28,8 +28,8 @@ returns-in_err-stretch c =
     let command = verb.Retire c.args.asset.number r.route.name c.args.location in
     let right = sym c.is_wrong_kind.ensures ∙ passed c.is_wrong_kind.result cause.WrongKind c.refuse_if.result _ c.refuse_if.ensures c.in_ok-refuse_if.was in
     let err = err_from_is_err_and c.from_residual-in_err-stretch.result c.from_residual-in_err-stretch.ensures.1 in
-    rw (err.1, err.2) (stopped command i (extent_of (state_of i) (alignment_of r.route) c.args.location) _ c.in_err-stretch.ensures.answer
-    (λ d is. refuses_extent i r c.args.asset c.args.kind c.args.location c.prove_sound.ensures c.requires.known right d is))
+    rw (err.1, err.2) (stopped command i (located_stretch (state_of i) (alignment_of r.route) c.args.location) _ c.in_err-stretch.ensures.answer
+    (λ d is. refuses_stretch i r c.args.asset c.args.kind c.args.location c.prove_sound.ensures c.requires.known right d is))
 
 pub returns-in_err-refuse_if-2 : goal.returns-in_err-refuse_if-2
 returns-in_err-refuse_if-2 c =
