@@ -1,8 +1,8 @@
-use Rattle.std.proofs.Common.{inl, inr, rules}
+use Rattle.std.proofs.Common.{inl, inr, refl, rules}
 use Rattle.csv.specs.Records.{fields_of}
 use Rattle.lrs_machine.specs.Image.{state_of}
 use Rattle.lrs_sheet_records.specs.Kinds.{width_of}
-use Rattle.lrs_sheet.proofs.Resuming.{differs_next, searched_next}
+use Rattle.lrs_sheet.proofs.Resuming.{differs_next, nothing_searched, searched_next}
 use Rattle.lrs_sheet.proofs.resumption.search.Goals as goal
 
 pub returns-in-Ok-false-clause-found : goal.returns-in-Ok-false-clause-found
@@ -11,6 +11,9 @@ returns-in-Ok-false-clause-found g c = (c.loop-turn.rows, c.loop-turn.turn, c.lo
 pub returns-in-Err-BadCsv-clause-found : goal.returns-in-Err-BadCsv-clause-found
 returns-in-Err-BadCsv-clause-found g c =
     (c.loop-turn.rows, c.loop-turn.turn, c.loop-turn.invariant, inr (differs_next g.R.Read.remaining c.loop-turn.rows (width_of c.args.sheet) _ (search rules) c.loop-turn.invariant.width c.in-Err-BadCsv.ensures.faults))
+
+pub loop-turn-init : goal.loop-turn-init
+loop-turn-init g c = nothing_searched c.args.sheet g.R.Read.remaining c.args.rows.now (state_of c.args.desk.now.image) _ c.requires.plain c.requires.width refl
 
 pub loop-turn-preserved : goal.loop-turn-preserved
 loop-turn-preserved g c =
