@@ -118,7 +118,7 @@ def test_measures_may_be_fractions(desk):
 
 
 def test_an_empty_inventory():
-    with serving(7) as server:
+    with serving(8) as server:
         for name in ["links", "classes", "refs", "marks", "rows", "lengths", "gone"]:
             gets(server, f"/v1/{name}", reply(200, b'{"%s":[]}' % name.encode()))
         gets(server, "/health", reply(200, b'{"edits":0}'))
