@@ -448,3 +448,19 @@ def test_the_log_is_kept_and_makes_the_same_inventory(tmp_path):
     ends(ended, FIRST_REPLIES + lines("e1,done,8"), 0)
     ends(run("audit", str(tmp_path / "new.db")), lines("sound, and as its log says"), 0)
     assert rows_of(tmp_path / "new.db") == rows_of(db)
+
+
+def test_a_backup_stops_where_the_inventory_is_another_one(tmp_path):
+    db, log = tmp_path / "roads.db", tmp_path / "roads.log.csv"
+    with started(db=db) as server:
+        assert does(scripts(server.port)[1], tmp_path).returncode == 0
+        assert posted(server.port, FIRST) == (200, FIRST_REPLIES)
+        for _ in range(2):
+            assert does(scripts(server.port)[1], tmp_path).returncode == 0
+    kept = log.read_bytes()
+    older = sheet_of("o1,link,1,5000", *(f"o{n},link,{n},5" for n in range(2, 9)))
+    for copy, sheet in [("fewer.db", sheet_of("o1,link,1,5000")), ("other.db", older)]:
+        ends(edit(tmp_path / copy, sheet), edit(":memory:", sheet).stdout, 0)
+        with started(db=tmp_path / copy) as server:
+            ended = does(scripts(server.port)[1], tmp_path)
+            assert (ended.returncode, ended.stderr, log.read_bytes()) == (1, b"edit 7 is not the one that was kept\n", kept)
