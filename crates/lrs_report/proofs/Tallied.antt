@@ -1,11 +1,11 @@
 -- Totals to which rows are added have the sums over the rows.
-use Rattle.std.proofs.Common.{◌≡◌, ℕ, ◌+◌, ◌<◌, ◌≤◌, ◌^◌, Bool, true, false, cond, Option, Some, None, List, [], ◌∷◌, map, refl, sym, ap, ◌∙◌, arith, sum_by}
+use Rattle.std.proofs.Common.{◌≡◌, ℕ, ◌+◌, Bool, true, false, cond, Option, Some, None, List, [], ◌∷◌, map, refl, sym, ap, ◌∙◌, arith, sum_by}
 use Rattle.std.specs.Prelude.{◌&&◌, not}
 use Rattle.std.specs.List.{fold}
 use Rattle.std.specs.Option.{option_map_or}
 use Rattle.std.specs.Ordering.{is_eq}
 use Rattle.std.proofs.lemmas.Map.Text.{is_eq-slice_cmp}
-use Rattle.std.proofs.lemmas.List.Sums.{sum_by-cons, sum_by-le-sum_by}
+use Rattle.std.proofs.lemmas.List.Sums.{sum_by-cons}
 use Rattle.lrs_measure.specs.Lists.{each_two}
 use Rattle.lrs_measure.specs.Texts.{Name, name_before, same_name}
 use Rattle.lrs_events.specs.declared.class.Asset.{Asset}
@@ -18,8 +18,7 @@ use Rattle.lrs_machine.specs.Sound.{class_before}
 use Rattle.lrs_machine.specs.declared.total.Total.{Total}
 use Rattle.lrs_report.specs.declared.list_tally.Sum.{Sum}
 use Rattle.lrs_report.specs.declared.list_tally.Sum.TheVariants.{Entered, Retired, Abandoned, Present}
-use Rattle.lrs_report.specs.ListTally.{kept_sum}
-use Rattle.lrs_report.specs.ListTotals.{asset_class, is_of_class, part_length, row_length, entered_of, retired_of, abandoned_of, present_on, present_of, list_totals}
+use Rattle.lrs_report.specs.ListTotals.{asset_class, is_of_class, kept_sum, part_length, row_length, entered_of, retired_of, abandoned_of, present_on, present_of, list_totals}
 use Rattle.lrs_report.specs.ListTally.{raised, raised_of, class_order, total_before, are_by_class, with_part, with_entered, sum_of, with_gone, with_rows, with_routes, no_total}
 
 -- ---- the order of the classes stays
@@ -164,12 +163,8 @@ module _ (class : Name) where
 
 -- ---- all sums
 
-fits : (n most : ℕ) → n ≤ most → most < 2 ^ 64 → kept_sum (0 + n) ≡ n
-fits n most le lt = omega (arith, le, lt)
-
-within : (b : Bool) (n : ℕ) → cond b n 0 ≤ n
-within true n = omega arith
-within false n = omega arith
+from_none : (n : ℕ) → kept_sum (0 + n) ≡ kept_sum n
+from_none n = omega arith
 
 abbrev none : Name → Total
 none m = record { class = m; entered = 0; retired = 0; abandoned = 0; present = 0 }
@@ -192,29 +187,22 @@ module _ (classes : List Class) (assets : List Asset) (routes : List (List Span)
       ∙ fold_shown classes (λ ts rows. with_rows rows ts) (λ m u rows. fold (with_row m) u rows)
       (λ f rows. fold_shown classes (λ ts r. raised_of r.class Present (row_length r) ts) with_row (λ h r. raised_shown r.class Present (row_length r) classes h) rows f) routes _
 
-  module _ (present_fits : sum_by (λ rows. sum_by row_length rows) routes < 2 ^ 64) (entered_fits : sum_by part_length entered < 2 ^ 64) (gone_fits : sum_by (λ g. part_length g.part) gone < 2 ^ 64) where
-    one_total : (m : Name)
-        → kept m (passed m) ≡ record { class = m; entered = entered_of m assets entered; retired = retired_of m assets gone; abandoned = abandoned_of m assets gone; present = present_of m routes }
-    one_total m =
-        ap (kept m) (
-        ap (λ u. fold (λ v rows. fold (with_row m) v rows) (fold (λ v g. plus (sum_of g) (cond (of assets m g.part.asset) (part_length g.part) 0) v) u gone) routes) (entered_sum assets m entered (none m))
-        ∙ ap (λ u. fold (λ v rows. fold (with_row m) v rows) u routes) (gone_sum assets m gone _)
-        ∙ routes_sum m routes _
-        )
-        ∙ (λ i. record { class = m; entered = its_entered i; retired = its_retired i; abandoned = its_abandoned i; present = its_present i })
-      where
-        its_entered : kept_sum (0 + entered_of m assets entered) ≡ entered_of m assets entered
-        its_entered = fits _ _ (sum_by-le-sum_by (λ p. cond (of assets m p.asset) (part_length p) 0) part_length entered (λ p. within (of assets m p.asset) (part_length p))) entered_fits
+  one_total : (m : Name) → kept m (passed m)
+      ≡ record { class = m; entered = kept_sum (entered_of m assets entered); retired = kept_sum (retired_of m assets gone); abandoned = kept_sum (abandoned_of m assets gone); present = kept_sum (present_of m routes) }
+  one_total m =
+      ap (kept m) (
+      ap (λ u. fold (λ v rows. fold (with_row m) v rows) (fold (λ v g. plus (sum_of g) (cond (of assets m g.part.asset) (part_length g.part) 0) v) u gone) routes) (entered_sum assets m entered (none m))
+      ∙ ap (λ u. fold (λ v rows. fold (with_row m) v rows) u routes) (gone_sum assets m gone _)
+      ∙ routes_sum m routes _
+      )
+      ∙ (λ i. record {
+        class = m;
+        entered = from_none (entered_of m assets entered) i;
+        retired = from_none (retired_of m assets gone) i;
+        abandoned = from_none (abandoned_of m assets gone) i;
+        present = from_none (present_of m routes) i;
+      })
 
-        its_retired : kept_sum (0 + retired_of m assets gone) ≡ retired_of m assets gone
-        its_retired = fits _ _ (sum_by-le-sum_by (λ g. cond (not g.abandoned && of assets m g.part.asset) (part_length g.part) 0) (λ g. part_length g.part) gone (λ g. within _ (part_length g.part))) gone_fits
-
-        its_abandoned : kept_sum (0 + abandoned_of m assets gone) ≡ abandoned_of m assets gone
-        its_abandoned = fits _ _ (sum_by-le-sum_by (λ g. cond (g.abandoned && of assets m g.part.asset) (part_length g.part) 0) (λ g. part_length g.part) gone (λ g. within _ (part_length g.part))) gone_fits
-
-        its_present : kept_sum (0 + present_of m routes) ≡ present_of m routes
-        its_present = fits _ _ (sum_by-le-sum_by (present_on m) (λ rows. sum_by row_length rows) routes (λ rows. sum_by-le-sum_by (λ r. cond (same_name m r.class) (row_length r) 0) row_length rows (λ r. within (same_name m r.class) (row_length r)))) present_fits
-
-    -- where the sums fit, one pass over the lists has the totals
-    pub all_counted : with_routes routes (with_gone assets gone (with_entered assets entered (map no_total classes))) ≡ list_totals classes assets routes entered gone
-    all_counted = all_shown ∙ (λ i. map (λ (c : Class). one_total c.name i) classes)
+  -- one pass over the lists has the totals
+  pub all_counted : with_routes routes (with_gone assets gone (with_entered assets entered (map no_total classes))) ≡ list_totals classes assets routes entered gone
+  all_counted = all_shown ∙ (λ i. map (λ (c : Class). one_total c.name i) classes)

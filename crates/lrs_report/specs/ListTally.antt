@@ -1,5 +1,5 @@
 -- Totals while rows are added to them, one after the other.
-use Rattle.std.specs.Prelude.{ℕ, ◌+◌, Bool, if◌then◌else◌, List, map, ◌-◌, ◌^◌, min}
+use Rattle.std.specs.Prelude.{ℕ, ◌+◌, Bool, if◌then◌else◌, List, map}
 use Rattle.std.specs.List.{fold}
 use Rattle.std.specs.Option.{option_map_or}
 use Rattle.std.specs.declared.cmp.Ordering.{Ordering}
@@ -14,11 +14,7 @@ use Rattle.lrs_events.specs.declared.span.Span.{Span}
 use Rattle.lrs_machine.specs.declared.total.Total.{Total}
 use Rattle.lrs_report.specs.declared.list_tally.Sum.{Sum}
 use Rattle.lrs_report.specs.declared.list_tally.Sum.TheVariants.{Entered, Retired, Abandoned, Present}
-use Rattle.lrs_report.specs.ListTotals.{asset_class, part_length, row_length}
-
--- a sum as 64 bits keep it
-abbrev pub kept_sum : ℕ → ℕ
-kept_sum n = min n (2 ^ 64 - 1)
+use Rattle.lrs_report.specs.ListTotals.{asset_class, kept_sum, part_length, row_length}
 
 -- the total with n more in a sum
 abbrev pub raised : Sum → ℕ → Total → Total

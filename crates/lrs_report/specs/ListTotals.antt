@@ -1,5 +1,5 @@
 -- Totals of classes, counted over lists: the assets, the rows of the ledgers, and the rows of the routes. They are in side millimetres: a millimetre on both sides is two.
-use Rattle.std.specs.Prelude.{ℕ, ◌-◌, ◌*◌, ◌&&◌, Bool, false, not, nat_eq, if◌then◌else◌, List, map, sum_by, Option}
+use Rattle.std.specs.Prelude.{ℕ, ◌-◌, ◌*◌, ◌^◌, min, ◌&&◌, Bool, false, not, nat_eq, if◌then◌else◌, List, map, sum_by, Option}
 use Rattle.std.specs.List.{find}
 use Rattle.std.specs.Option.{option_map, option_map_or}
 use Rattle.lrs_measure.specs.Texts.{Name, same_name}
@@ -54,12 +54,16 @@ present_on class rows = sum_by (λ r. if same_name class r.class then row_length
 abbrev pub present_of : Name → List (List Span) → ℕ
 present_of class routes = sum_by (λ rows. present_on class rows) routes
 
+-- a sum as 64 bits keep it: no sum over a sound image comes near the greatest number
+abbrev pub kept_sum : ℕ → ℕ
+kept_sum n = min n (2 ^ 64 - 1)
+
 -- the total of each class
 abbrev pub list_totals : List Class → List Asset → List (List Span) → List Part → List Gone → List Total
 list_totals classes assets routes entered gone = map (λ c. record {
   class = c.name;
-  entered = entered_of c.name assets entered;
-  retired = retired_of c.name assets gone;
-  abandoned = abandoned_of c.name assets gone;
-  present = present_of c.name routes;
+  entered = kept_sum (entered_of c.name assets entered);
+  retired = kept_sum (retired_of c.name assets gone);
+  abandoned = kept_sum (abandoned_of c.name assets gone);
+  present = kept_sum (present_of c.name routes);
 }) classes

@@ -5,8 +5,7 @@ ghost use Rattle.std.specs.Ordering.{is_eq, is_ge};
 ghost use Rattle.lrs_measure.specs.Lists.{each_two};
 ghost use Rattle.lrs_measure.specs.OrderedLists.{place_by};
 ghost use Rattle.lrs_machine.specs.Sound.{asset_before};
-ghost use Rattle.lrs_report.specs.ListTally.{kept_sum};
-ghost use Rattle.lrs_report.specs.ListTotals.{asset_class, row_length};
+ghost use Rattle.lrs_report.specs.ListTotals.{asset_class, kept_sum, row_length};
 ghost use Rattle.lrs_report.specs.ListTally.{are_by_class, class_order, no_total, raised, raised_of, sum_of, with_entered, with_gone, with_part, with_routes, with_rows};
 
 use crate::KnownRows;

@@ -14,4 +14,4 @@ returns c =
     let gone = c.args.gone.now in
     c.add_routes.ensures.sums
     ∙ ap (with_routes routes) (c.add_gone.ensures.sums ∙ ap (with_gone assets gone) (c.add_entered.ensures.sums ∙ ap (with_entered assets entered) c.in_ok-totals.ensures))
-    ∙ all_counted c.args.classes.now assets routes entered gone c.requires.present_fits c.requires.entered_fits c.requires.gone_fits
+    ∙ all_counted c.args.classes.now assets routes entered gone
