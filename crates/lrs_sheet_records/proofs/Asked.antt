@@ -1,5 +1,5 @@
 -- Records that ask questions.
-use Rattle.std.proofs.Common.{Ok, Err, Result, sym, ◌≡◌, ℕ, ◌≤◌, ◌∙◌, List, length, inl, inr, Some}
+use Rattle.std.proofs.Common.{Ok, Err, Result, sym, ◌≡◌, ℕ, ◌≤◌, ◌∙◌, List, length, inl, inr, lit<, refl, Some}
 use Rattle.std.specs.Prelude.{Contains, IsTrue}
 use Rattle.lrs_measure.specs.Texts.{Name}
 use Rattle.lrs_machine.specs.Keys.{is_key}
@@ -7,19 +7,21 @@ use Rattle.lrs_machine.specs.Lines.{Text}
 use Rattle.lrs_machine.specs.declared.answer.Field.{Field}
 use Rattle.lrs_machine.specs.declared.question.Destination.{Destination}
 use Rattle.lrs_machine.specs.declared.question.Question.{Question}
-use Rattle.lrs_sheet_records.proofs.Misfits.{misfit-malformed, unknown-malformed}
+use Rattle.lrs_sheet_records.proofs.Misfits.{misfit-malformed, runs-out, unknown-malformed}
 use Rattle.lrs_sheet_records.proofs.Said.{classes-said, destination-said}
+use Rattle.lrs_sheet_records.specs.declared.question.Asked.{Asked}
+use Rattle.lrs_sheet_records.specs.declared.question.Asked.TheVariants as asked
 use Rattle.lrs_sheet_records.specs.declared.fault.ReadFault.{ReadFault}
 use Rattle.lrs_sheet_records.specs.declared.fault.ReadFault.TheVariants as fault
 use Rattle.lrs_sheet_records.specs.Fields.{ReadsAsked, ReadsQuestion}
-use Rattle.lrs_sheet_records.specs.Questions.{RefusesQuestion, all_questions, question_shapes}
+use Rattle.lrs_sheet_records.specs.Questions.{RefusesQuestion, all_questions, name_of, question_shapes}
 use Rattle.lrs_sheet_records.specs.Records.{place_of, text_at}
 use Rattle.lrs_sheet_records.specs.Shapes.{ClassNames, DestinationName, Fits, IsReachable, destination_text}
 use Rattle.lrs_sheet_records.specs.Words.{AreSaid, IsClassWord, words_of}
 
 -- a fault of the fields after a well formed key
 pub refuses-asked : (fields : List (List ℕ)) (e : ReadFault) → IsTrue (is_key (text_at fields 0)) → ReadsQuestion fields (Err e) → RefusesQuestion fields e
-refuses-asked fields fault.Memory key reads = tt
+refuses-asked fields fault.Memory key reads = runs-out all_questions question_shapes fields key reads.0 reads.1
 refuses-asked fields (fault.Field at) key (inl (is, unknown)) = rw is (unknown-malformed all_questions question_shapes fields key unknown)
 refuses-asked fields (fault.Field at) key (inr (known, misfit)) = misfit-malformed all_questions question_shapes fields (place_of at) key known misfit
 
@@ -27,7 +29,14 @@ refuses-asked fields (fault.Field at) key (inr (known, misfit)) = misfit-malform
 pub reads-question : (fields : List (List ℕ)) (name : List ℕ) (result : Result Question ReadFault) → Contains all_questions name → text_at fields 1 ≡ name → ReadsAsked fields name result → ReadsQuestion fields result
 reads-question fields name (Ok q) known is reads = (rw is known, is ∙ sym reads.0, rw reads.0 reads.1)
 reads-question fields name (Err (fault.Field field)) known is reads = inr (rw is known, rw is reads)
-reads-question fields name (Err fault.Memory) known is reads = tt
+reads-question fields name (Err fault.Memory) known is reads = (rw is known, rw is reads)
+
+-- each question is one of the table
+pub is-asked : (q : Asked) → Contains all_questions (name_of q)
+is-asked asked.At = (0, lit< tt, refl)
+is-asked asked.Translate = (1, lit< tt, refl)
+is-asked asked.Find = (2, lit< tt, refl)
+is-asked asked.Segments = (3, lit< tt, refl)
 
 -- no destination is said where none is found
 pub no-destination-there : (texts : Field → Text) (text : Text) → ((to : Destination) → text ≡ destination_text to → IsReachable to → ⊥) → Fits texts (Some DestinationName) text → ⊥

@@ -3,10 +3,10 @@ use Rattle.std.proofs.Common.{Ok, Err, Result, ◌∙◌, Option, ◌-◌, sym, 
 use Rattle.std.specs.Prelude.{slice_get, map, Contains, IsTrue}
 use Rattle.std.specs.List.{AllByRecursion}
 use Rattle.csv.specs.Records.{field_at}
-use Rattle.lrs_sheet_records.specs.Records.{FirstMalformedBy, IsWellFormedBy, Refuses, place_of, text_at, texts_of}
-use Rattle.lrs_sheet_records.specs.Shapes.{Fits, Shape}
+use Rattle.lrs_sheet_records.specs.Records.{FirstMalformedBy, IsWellFormedBy, Refuses, RunsOutBy, place_of, text_at, texts_of}
+use Rattle.lrs_sheet_records.specs.Shapes.{Fits, Shape, is_list_at}
 use Rattle.lrs_sheet_records.specs.Verbs.{IsVerb, Row, all_verbs, every_verb, row_of, shapes_of}
-use Rattle.lrs_sheet_records.specs.Fields.{FirstMisfit, ReadsArguments, ReadsCommand}
+use Rattle.lrs_sheet_records.specs.Fields.{FirstMisfit, ReadsArguments, ReadsCommand, RunsOut}
 use Rattle.lrs_machine.specs.declared.command.Command.{Command}
 use Rattle.lrs_sheet_records.specs.declared.fault.ReadFault.{ReadFault}
 use Rattle.lrs_sheet_records.specs.declared.fault.ReadFault.TheVariants as fault
@@ -24,6 +24,13 @@ text_at-past (f ∷ fs) (suc i) h = text_at-past fs i (omega arith)
 -- a field at an equal place
 pub fits-along : (fields : List (List ℕ)) (shape : Option Shape) (a b : ℕ) → a ≡ b → Fits (texts_of fields) shape (text_at fields a) → Fits (texts_of fields) shape (text_at fields b)
 fits-along fields shape a b e h = subst (λ (p : ℕ). Fits (texts_of fields) shape (text_at fields p)) e h
+
+-- one more field that fits, in front of others
+more-fit : (fields : List (List ℕ)) (place : ℕ) (shape : Shape) (shapes : List Shape) → Fits (texts_of fields) (Some shape) (text_at fields place)
+    → (j : ℕ) → ((i : ℕ) → i < j → Fits (texts_of fields) (slice_get shapes i) (text_at fields (place + 1 + i)))
+    → (i : ℕ) → i < suc j → Fits (texts_of fields) (slice_get (shape ∷ shapes) i) (text_at fields (place + i))
+more-fit fields place shape shapes first j earlier zero below = fits-along fields (Some shape) place (place + 0) (omega arith) first
+more-fit fields place shape shapes first j earlier (suc i) below = fits-along fields (slice_get shapes i) (place + 1 + i) (place + suc i) (omega arith) (earlier i (omega arith))
 
 -- the first misfit, by its place among the shapes
 pub misfit-at : (fields : List (List ℕ)) (place : ℕ) (shapes : List Shape) (m : ℕ) → FirstMisfit fields place shapes m
@@ -47,27 +54,36 @@ misfit-at fields place (shape ∷ shapes) m (inr h) =
       suc j,
       omega arith,
       (λ fits. bad (fits-along fields (slice_get shapes j) (place + suc j) (place + 1 + j) (omega arith) fits)),
-      from h.0 j earlier,
+      more-fit fields place shape shapes h.0 j earlier,
     )
-  where
-    from : Fits (texts_of fields) (Some shape) (text_at fields place) → (j : ℕ) → ((i : ℕ) → i < j → Fits (texts_of fields) (slice_get shapes i) (text_at fields (place + 1 + i)))
-        → (i : ℕ) → i < suc j → Fits (texts_of fields) (slice_get (shape ∷ shapes) i) (text_at fields (place + i))
-    from first j earlier zero below = fits-along fields (Some shape) place (place + 0) (omega arith) first
-    from first j earlier (suc i) below = fits-along fields (slice_get shapes i) (place + 1 + i) (place + suc i) (omega arith) (earlier i (omega arith))
+
+-- a field with a list, by its place among the shapes
+list-at : (fields : List (List ℕ)) (place : ℕ) (shapes : List Shape) → RunsOut fields place shapes
+    → (j : ℕ) × IsTrue (is_list_at shapes j) × ((i : ℕ) → i < j → Fits (texts_of fields) (slice_get shapes i) (text_at fields (place + i)))
+list-at fields place [] h = absurd h
+list-at fields place (shape ∷ shapes) (inl list) = (0, list, λ i below. absurd (omega arith))
+list-at fields place (shape ∷ shapes) (inr h) = let (j, list, earlier) = list-at fields (place + 1) shapes h.1 in (suc j, list, more-fit fields place shape shapes h.0 j earlier)
 
 module _ (names : List (List ℕ)) (shapes : List ℕ → List Shape) (fields : List (List ℕ)) where
+  -- the fields in front, behind a well formed key and name
+  all-before : IsTrue (is_key (text_at fields 0)) → Contains names (text_at fields 1)
+      → (j : ℕ) → ((i : ℕ) → i < j → Fits (texts_of fields) (slice_get (shapes (text_at fields 1)) i) (text_at fields (2 + i))) → (i : ℕ) → i < suc (suc j) → IsWellFormedBy names shapes fields i
+  all-before key name j earlier zero below = key
+  all-before key name j earlier (suc zero) below = name
+  all-before key name j earlier (suc (suc i)) below = earlier i (omega arith)
+
   -- where the key and the name are well formed, the first misfit is the first malformed field
   pub misfit-malformed : (m : ℕ) → IsTrue (is_key (text_at fields 0)) → Contains names (text_at fields 1) → FirstMisfit fields 2 (shapes (text_at fields 1)) m → FirstMalformedBy names shapes fields m
   misfit-malformed m key name h =
       let (j, e, bad, earlier) = misfit-at fields 2 (shapes (text_at fields 1)) m h in
       let at : m ≡ suc (suc j) = omega arith in
-      rw at (record { malformed = bad; earlier = before j earlier })
-    where
-      before : (j : ℕ) → ((i : ℕ) → i < j → Fits (texts_of fields) (slice_get (shapes (text_at fields 1)) i) (text_at fields (2 + i)))
-          → (i : ℕ) → i < suc (suc j) → IsWellFormedBy names shapes fields i
-      before j earlier zero below = key
-      before j earlier (suc zero) below = name
-      before j earlier (suc (suc i)) below = earlier i (omega arith)
+      rw at (record { malformed = bad; earlier = all-before key name j earlier })
+
+  -- ... and memory runs out at a field with a list
+  pub runs-out : IsTrue (is_key (text_at fields 0)) → Contains names (text_at fields 1) → RunsOut fields 2 (shapes (text_at fields 1)) → RunsOutBy names shapes fields
+  runs-out key name h =
+      let (j, list, earlier) = list-at fields 2 (shapes (text_at fields 1)) h in
+      record { at = j; list = list; earlier = λ i below. all-before key name j earlier i (omega (arith, below)) }
 
   -- a name that is none of them is the first malformed field behind a well formed key
   pub unknown-malformed : IsTrue (is_key (text_at fields 0)) → (Contains names (text_at fields 1) → ⊥) → FirstMalformedBy names shapes fields 1
@@ -85,7 +101,7 @@ not-among (other ∷ names) name h (suc k, below, is) = not-among names name h.1
 
 -- a fault of the fields after a well formed key
 pub refuses : (fields : List (List ℕ)) (e : ReadFault) → IsTrue (is_key (text_at fields 0)) → ReadsCommand fields (Err e) → Refuses fields e
-refuses fields fault.Memory key reads = tt
+refuses fields fault.Memory key reads = runs-out all_verbs shapes_of fields key reads.0 reads.1
 refuses fields (fault.Field at) key (inl (is, unknown)) = rw is (unknown-malformed all_verbs shapes_of fields key unknown)
 refuses fields (fault.Field at) key (inr (known, misfit)) = misfit-malformed all_verbs shapes_of fields (place_of at) key known misfit
 
@@ -120,4 +136,4 @@ verb-named = named-in every_verb
 pub reads-verb : (fields : List (List ℕ)) (verb : List ℕ) (result : Result Command ReadFault) → IsVerb verb → text_at fields 1 ≡ verb → ReadsArguments fields verb result → ReadsCommand fields result
 reads-verb fields verb (Ok command) known is reads = (rw is known, is ∙ sym reads.0, rw reads.0 reads.1)
 reads-verb fields verb (Err (fault.Field field)) known is reads = inr (rw is known, rw is reads)
-reads-verb fields verb (Err fault.Memory) known is reads = tt
+reads-verb fields verb (Err fault.Memory) known is reads = (rw is known, rw is reads)

@@ -1,15 +1,17 @@
 -- What a record of a sheet of questions says: a key and a question, or which of its fields is the first malformed one.
-use Rattle.std.specs.Prelude.{◌≡◌, ℕ, List, [], ◌∷◌, IsTrue, ⊤, Contains, codes, map}
+use Rattle.std.specs.Prelude.{◌≡◌, ℕ, List, [], ◌∷◌, IsTrue, Contains, codes, map}
 use Rattle.lrs_machine.specs.Keys.{is_key}
 use Rattle.lrs_machine.specs.Lines.{Text}
 use Rattle.lrs_machine.specs.declared.answer.Field.{Field}
 use Rattle.lrs_machine.specs.declared.answer.Field.TheVariants as field
 use Rattle.lrs_machine.specs.declared.question.Question.{Question}
 use Rattle.lrs_machine.specs.declared.question.Question.TheVariants as question
+use Rattle.lrs_sheet_records.specs.declared.question.Asked.{Asked}
+use Rattle.lrs_sheet_records.specs.declared.question.Asked.TheVariants as asked
 use Rattle.lrs_sheet_records.specs.declared.fault.ReadFault.{ReadFault}
 use Rattle.lrs_sheet_records.specs.declared.fault.ReadFault.TheVariants as fault
 use Rattle.lrs_sheet_records.specs.Kinds.{without_mark}
-use Rattle.lrs_sheet_records.specs.Records.{FirstMalformedBy, SayAll, place_of, text_at}
+use Rattle.lrs_sheet_records.specs.Records.{FirstMalformedBy, RunsOutBy, SayAll, place_of, text_at}
 use Rattle.lrs_sheet_records.specs.Shapes.{Argument, Number, Word, SideOf, MethodOf, At, ClassesOf, DestinationOf, Shape, RouteName, RouteSide, MethodName, PositionBy, ClassNames, DestinationName}
 use Rattle.lrs_sheet_records.specs.Verbs.{Row, asset_number, method_of, shapes_in}
 
@@ -46,6 +48,13 @@ all_questions = map (λ row. row.name) questions
 abbrev pub question_shapes : Text → List Shape
 question_shapes name = shapes_in questions name
 
+-- under which name each is asked
+abbrev pub name_of : Asked → Text
+name_of asked.At = codes "at"
+name_of asked.Translate = codes "translate"
+name_of asked.Find = codes "find"
+name_of asked.Segments = codes "segments"
+
 -- the name of a question; no record asks any other kind
 abbrev pub question_of : Question → Text
 question_of (question.At route e) = codes "at"
@@ -74,7 +83,7 @@ pub record SaysQuestion (fields : List Text) (key : Text) (q : Question) : Type 
 abbrev pub FirstMalformedQuestion : List Text → ℕ → Type 0
 FirstMalformedQuestion = FirstMalformedBy all_questions question_shapes
 
--- a fault names the first malformed field, or lack of memory
+-- a fault names the first malformed field, or lack of memory for a list
 abbrev pub RefusesQuestion : List Text → ReadFault → Type 0
 RefusesQuestion fields (fault.Field at) = FirstMalformedQuestion fields (place_of at)
-RefusesQuestion fields fault.Memory = ⊤
+RefusesQuestion fields fault.Memory = RunsOutBy all_questions question_shapes fields

@@ -1,5 +1,5 @@
 -- What a record of an edit sheet says: a key and a command, or which of its fields is the first malformed one.
-use Rattle.std.specs.Prelude.{◌≡◌, ℕ, zero, suc, ◌+◌, ◌<◌, ◌≤◌, List, [], ◌∷◌, IsTrue, ⊤, slice_get, unwrap_or, Contains}
+use Rattle.std.specs.Prelude.{◌≡◌, ℕ, zero, suc, ◌+◌, ◌<◌, ◌≤◌, List, [], ◌∷◌, IsTrue, slice_get, unwrap_or, Contains}
 use Rattle.csv.specs.Records.{field_at}
 use Rattle.lrs_machine.specs.Keys.{is_key}
 use Rattle.lrs_machine.specs.Lines.{Text}
@@ -8,7 +8,7 @@ use Rattle.lrs_machine.specs.declared.answer.Field.TheVariants as field
 use Rattle.lrs_machine.specs.declared.command.Command.{Command}
 use Rattle.lrs_sheet_records.specs.declared.fault.ReadFault.{ReadFault}
 use Rattle.lrs_sheet_records.specs.declared.fault.ReadFault.TheVariants as fault
-use Rattle.lrs_sheet_records.specs.Shapes.{Argument, Fits, Says, Shape}
+use Rattle.lrs_sheet_records.specs.Shapes.{Argument, Fits, Says, Shape, is_list_at}
 use Rattle.lrs_sheet_records.specs.Verbs.{all_verbs, arguments_of, shapes_of, verb_of}
 
 -- the field at a place, which is empty past the end
@@ -71,7 +71,13 @@ SaysCommand fields key command = SaysAmong all_verbs fields key command
 abbrev pub FirstMalformed : List Text → ℕ → Type 0
 FirstMalformed fields place = FirstMalformedAmong all_verbs fields place
 
--- a fault names the first malformed field, or lack of memory
+-- Memory runs out at a field that has a list, behind fields that are well formed.
+pub record RunsOutBy (names : List Text) (shapes : Text → List Shape) (fields : List Text) : Type 0 where
+  pub at : ℕ
+  pub list : IsTrue (is_list_at (shapes (text_at fields 1)) at)
+  pub earlier : (i : ℕ) → i < 2 + at → IsWellFormedBy names shapes fields i
+
+-- a fault names the first malformed field, or lack of memory for a list
 abbrev pub Refuses : List Text → ReadFault → Type 0
 Refuses fields (fault.Field field) = FirstMalformed fields (place_of field)
-Refuses fields fault.Memory = ⊤
+Refuses fields fault.Memory = RunsOutBy all_verbs shapes_of fields

@@ -1,5 +1,6 @@
 -- What one field of a record may say: its shape, and the argument that a text of that shape says.
-use Rattle.std.specs.Prelude.{◌≡◌, ℕ, ◌≤◌, List, [], length, Option, Some, None, IsTrue, ⊤, codes}
+use Rattle.std.specs.Prelude.{◌≡◌, ℕ, ◌≤◌, Bool, true, false, List, [], length, slice_get, Option, Some, None, IsTrue, ⊤, codes}
+use Rattle.std.specs.Option.{option_map_or}
 use Rattle.lrs_measure.specs.Texts.{Name}
 use Rattle.lrs_element.specs.declared.link.Piece.{Piece}
 use Rattle.lrs_element.specs.declared.marks.Mark.{Mark}
@@ -47,6 +48,18 @@ pub data Shape : Type 0 where
   ClassNames : Shape
   DestinationName : Shape
   OrNothing : Shape → Shape
+
+-- whether what a field of the shape says is a list
+abbrev pub is_list : Shape → Bool
+is_list Pieces = true
+is_list Marks = true
+is_list ClassNames = true
+is_list (OrNothing shape) = is_list shape
+is_list _ = false
+
+-- whether that of the field at a place is
+abbrev pub is_list_at : List Shape → ℕ → Bool
+is_list_at shapes i = option_map_or is_list (slice_get shapes i) false
 
 -- The text states the expression by the method of this name.
 abbrev pub StatesBy : Text → Text → Expr → Type 0

@@ -1,10 +1,10 @@
 //! A record as a question.
 
-ghost use Rattle.std.specs.Prelude.{◌≡◌, ◌≤◌, ◌↔◌, Contains, IsTrue, codes, length, IfOk, IfErr};
+ghost use Rattle.std.specs.Prelude.{◌≡◌, ◌≤◌, Contains, codes, length, IfSome, IfNone, IfOk, IfErr};
 ghost use Rattle.csv.specs.Records.{fields_of};
 ghost use Rattle.lrs_sheet_records.specs.Fields.{ReadsAsked, ReadsQuestion};
 ghost use Rattle.lrs_sheet_records.specs.Kinds.{edit_fields};
-ghost use Rattle.lrs_sheet_records.specs.Questions.{RefusesQuestion, SaysQuestion, all_questions, column_text};
+ghost use Rattle.lrs_sheet_records.specs.Questions.{RefusesQuestion, SaysQuestion, all_questions, column_text, name_of};
 
 use crate::arguments::nothing_from;
 use crate::fault::ReadFault;
@@ -14,6 +14,15 @@ use crate::sheet::{Sheet, SheetRecord, text_at};
 use csv::ByteRecord;
 use lrs_machine::{Field, Key, Question};
 use std::alloc::Global;
+
+/// What a record of a sheet of questions asks for.
+#[derive(Clone, Copy)]
+enum Asked {
+    At,
+    Translate,
+    Find,
+    Segments,
+}
 
 /// The name of a field in the header of a sheet of questions, which has the fields up to d.
 pub fn column_name(field: Field) -> &'static str
@@ -84,32 +93,30 @@ fn segments_of(alloc: Global, row: &SheetRecord<'_>) -> Result<Question, ReadFau
     })
 }
 
-/// Whether there is a question of this name.
-fn is_question(name: &[u8]) -> bool
-    ensures { IsTrue result ↔ Contains all_questions name.now }
+/// The question of this name.
+fn read_question(name: &[u8]) -> Option<Asked>
+    ensures known { IfSome result (λ asked. name.now ≡ name_of asked) }
+    ensures unknown { IfNone result (Contains all_questions name.now → ⊥) }
 {
-    name == b"at".as_slice()
-        || name == b"translate".as_slice()
-        || name == b"find".as_slice()
-        || name == b"segments".as_slice()
+    match name {
+        b"at" => Some(Asked::At),
+        b"translate" => Some(Asked::Translate),
+        b"find" => Some(Asked::Find),
+        b"segments" => Some(Asked::Segments),
+        _ => None,
+    }
 }
 
-/// The question of a name that the fields a, b, .. ask.
-fn question_of(alloc: Global, row: &SheetRecord<'_>, name: &[u8]) -> Result<Question, ReadFault>
-    requires six { length (edit_fields row.now) ≤ 11 }
-    requires known { Contains all_questions name.now }
-    ensures { ReadsAsked (edit_fields row.now) name.now result }
+/// What the fields a, b, .. ask.
+fn question_of(alloc: Global, row: &SheetRecord<'_>, asked: Asked) -> Result<Question, ReadFault>
+    requires { length (edit_fields row.now) ≤ 11 }
+    ensures { ReadsAsked (edit_fields row.now) (name_of asked) result }
 {
-    if name == b"at".as_slice() {
-        at_of(row)
-    } else if name == b"translate".as_slice() {
-        translate_of(row)
-    } else if name == b"find".as_slice() {
-        find_of(row)
-    } else if name == b"segments".as_slice() {
-        segments_of(alloc, row)
-    } else {
-        unreachable!()
+    match asked {
+        Asked::At => at_of(row),
+        Asked::Translate => translate_of(row),
+        Asked::Find => find_of(row),
+        Asked::Segments => segments_of(alloc, row),
     }
 }
 
@@ -118,11 +125,9 @@ fn question_by_name(alloc: Global, row: &SheetRecord<'_>) -> Result<Question, Re
     requires { length (edit_fields row.now) ≤ 11 }
     ensures { ReadsQuestion (edit_fields row.now) result }
 {
-    let name = text_at(row, 1);
-    if is_question(name) {
-        question_of(alloc, row, name)
-    } else {
-        Err(ReadFault::Field(Field::Verb))
+    match read_question(text_at(row, 1)) {
+        Some(asked) => question_of(alloc, row, asked),
+        None => Err(ReadFault::Field(Field::Verb)),
     }
 }
 
@@ -130,7 +135,8 @@ fn question_by_name(alloc: Global, row: &SheetRecord<'_>) -> Result<Question, Re
 ///
 /// # Errors
 ///
-/// `Field` with the first field that is malformed, in the order of key, question, a to d: the question is `Verb`.
+/// `Field` with the first field that is malformed, in the order of key, question, a to d: the question is `Verb`. Or
+/// `Memory` at the list of `segments`, behind fields that are well formed.
 pub fn question_in(alloc: Global, row: &ByteRecord) -> Result<(Key, Question), ReadFault>
     requires { length (fields_of row.now) ≤ 6 }
     ensures says { IfOk result (λ said. SaysQuestion (fields_of row.now) said.0 said.1) }

@@ -18,7 +18,8 @@ use std::alloc::Global;
 ///
 /// # Errors
 ///
-/// `Field` with the first field that is malformed, in the order of key, verb, a to i.
+/// `Field` with the first field that is malformed, in the order of key, verb, a to i; or `Memory` at a list, which
+/// `route`, `recalibrate` and `realign` have, behind fields that are well formed.
 pub fn command_of(alloc: Global, row: &ByteRecord) -> Result<(Key, Command), ReadFault>
     requires { length (fields_of row.now) ≤ 11 }
     ensures says { IfOk result (λ said. SaysCommand (fields_of row.now) said.0 said.1) }
@@ -62,6 +63,10 @@ pub fn survey_of(row: &ByteRecord) -> Result<(Key, NewAsset), ReadFault>
 }
 
 /// The key and the command that a record of a sheet says.
+///
+/// # Errors
+///
+/// As those of `command_of`, or of `survey_of`, which takes no memory.
 pub fn command_in(alloc: Global, row: &SheetRecord<'_>) -> Result<(Key, Command), ReadFault>
     requires { length (fields_of row.now.fields.now) ≤ width_of row.now.sheet }
     ensures says { IfOk result (λ said. SaysCommand (edit_fields row.now) said.0 said.1) }
