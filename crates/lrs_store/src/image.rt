@@ -1,6 +1,6 @@
 //! An image is read from the rows of a store.
 
-ghost use Rattle.std.specs.Prelude.{◌≡◌, ◌↔◌, [], ◌∷◌, pos, map, length, IfOk, IfErr, OnOk, IsTrue, true, false, Result, Ok, Err};
+ghost use Rattle.std.specs.Prelude.{◌≡◌, ◌↔◌, [], ◌∷◌, pos, map, length, IfOk, OnOk, IsTrue, false, Result, Ok, Err};
 ghost use Rattle.sqlite_trees.specs.Tree.{Trees};
 ghost use Rattle.sqlite.specs.State.{HasCleanDisk};
 ghost use Rattle.sqlite.specs.Held.{state};
@@ -13,7 +13,8 @@ ghost use Rattle.lrs_store_tables.specs.Connections.{IsReady};
 ghost use Rattle.lrs_store_tables.specs.Failures.{ErrHasReason, HasFailed};
 ghost use Rattle.lrs_store_tables.specs.Rows.{tables_of};
 ghost use Rattle.lrs_store_tables.specs.HeldRows.{MayHold};
-ghost use Rattle.lrs_store.specs.TableKeeper.HeldImages.{AreRowsOf, HasEdits, HoldNone, IsOpenIfClean};
+ghost use Rattle.lrs_store_commit.specs.UndoneChanges.{GoesBack};
+ghost use Rattle.lrs_store.specs.TableKeeper.HeldImages.{AreRowsOf, HasEdits, HoldNone, FindsUnsound, IsOpenIfClean};
 ghost use Rattle.lrs_store.specs.TableKeeper.Openings.{IsSecond};
 
 use lrs_image::LoadFault;
@@ -25,11 +26,12 @@ use sqlite::{Alter, Connection, Error, ErrorCode, Row};
 use std::alloc::Global;
 
 /// The rows of all tables, read in a transaction of its own, which is rolled back.
-pub(crate) fn read_alone<S: Alter>(conn: &mut Connection<S>) -> Result<StoredRows, Error>
+fn read_in_one<S: Alter>(conn: &mut Connection<S>) -> Result<StoredRows, Error>
     requires autocommit { conn.old.in_transaction ≡ false }
     requires ready { IsReady (state S.Store conn.old) }
     ensures autocommit { conn.new.in_transaction ≡ false }
     ensures ready { OnOk result (IsReady (state S.Store conn.new)) }
+    ensures back { GoesBack (state S.Store conn.old) (state S.Store conn.new) }
     ensures rows { HasCleanDisk (state S.Store conn.new) → (db : Trees)
         → (state S.Store conn.new).may_leave db → IfOk result (λ r.
         AreSame (stored db) (tables_of r)) }
@@ -42,13 +44,33 @@ pub(crate) fn read_alone<S: Alter>(conn: &mut Connection<S>) -> Result<StoredRow
     rows
 }
 
+/// The same. A connection that was open before it is at rest again, whatever is answered.
+pub(crate) fn read_alone<S: Alter>(conn: &mut Connection<S>) -> Result<StoredRows, Error>
+    requires autocommit { conn.old.in_transaction ≡ false }
+    requires ready { IsReady (state S.Store conn.old) }
+    ensures autocommit { conn.new.in_transaction ≡ false }
+    ensures ready { OnOk result (IsReady (state S.Store conn.new)) }
+    ensures undone { IsOpenIfClean (state S.Store conn.old) → IsReady (state S.Store conn.new) }
+    ensures rows { HasCleanDisk (state S.Store conn.new) → (db : Trees)
+        → (state S.Store conn.new).may_leave db → IfOk result (λ r.
+        AreSame (stored db) (tables_of r)) }
+    ensures cause { ErrHasReason result (state S.Store conn.old) (state S.Store conn.new) }
+    ensures survives { LeavesStore (state S.Store conn.old) (state S.Store conn.new) }
+{
+    // For the prover alone: before and afterwards the trees list the schema.
+    let _ = conn.schema();
+    let rows = read_in_one(conn);
+    let _ = conn.schema();
+    rows
+}
+
 /// Fails where the connection is shut, as a rollback that fails leaves it. A statement is prepared and not run: no
 /// connection that is shut prepares one.
 pub(crate) fn check_open<S: Alter>(conn: &mut Connection<S>) -> Result<(), Error>
     requires autocommit { conn.old.in_transaction ≡ false }
     requires ready { IsReady (state S.Store conn.old) }
     ensures autocommit { conn.new.in_transaction ≡ false }
-    ensures ready { OnOk result (IsReady (state S.Store conn.new)) }
+    ensures ready { IsReady (state S.Store conn.new) }
     ensures open { OnOk result (IsOpenIfClean (state S.Store conn.new)) }
     ensures was_open { OnOk result (HasCleanDisk (state S.Store conn.new)
         → IsTrue (state S.Store conn.old).is_open) }
@@ -59,12 +81,13 @@ pub(crate) fn check_open<S: Alter>(conn: &mut Connection<S>) -> Result<(), Error
     Ok(())
 }
 
-/// The rows of all tables, of a connection that is open after it.
+/// The rows of all tables, of a connection that is open before and after it.
 fn read_open<S: Alter>(conn: &mut Connection<S>) -> Result<StoredRows, Error>
     requires autocommit { conn.old.in_transaction ≡ false }
     requires ready { IsReady (state S.Store conn.old) }
+    requires open { IsOpenIfClean (state S.Store conn.old) }
     ensures autocommit { conn.new.in_transaction ≡ false }
-    ensures ready { OnOk result (IsReady (state S.Store conn.new)) }
+    ensures ready { IsReady (state S.Store conn.new) }
     ensures open { OnOk result (IsOpenIfClean (state S.Store conn.new)) }
     ensures rows { HasCleanDisk (state S.Store conn.new) → (db : Trees)
         → (state S.Store conn.new).may_leave db → IfOk result (λ r.
@@ -75,6 +98,25 @@ fn read_open<S: Alter>(conn: &mut Connection<S>) -> Result<StoredRows, Error>
     let rows = read_alone(conn)?;
     check_open(conn)?;
     Ok(rows)
+}
+
+/// The same, of any connection. Only one that is open is read, so that it is at rest again whatever is answered.
+fn read_checked<S: Alter>(conn: &mut Connection<S>) -> Result<StoredRows, Error>
+    requires autocommit { conn.old.in_transaction ≡ false }
+    requires ready { IsReady (state S.Store conn.old) }
+    ensures autocommit { conn.new.in_transaction ≡ false }
+    ensures ready { IsReady (state S.Store conn.new) }
+    ensures open { OnOk result (IsOpenIfClean (state S.Store conn.new)) }
+    ensures rows { HasCleanDisk (state S.Store conn.new) → (db : Trees)
+        → (state S.Store conn.new).may_leave db → IfOk result (λ r.
+        AreSame (stored db) (tables_of r)) }
+    ensures cause { ErrHasReason result (state S.Store conn.old) (state S.Store conn.new) }
+    ensures survives { LeavesStore (state S.Store conn.old) (state S.Store conn.new) }
+{
+    match check_open(conn) {
+        Ok(()) => read_open(conn),
+        Err(error) => Err(error),
+    }
 }
 
 /// Whether a row of the version says 2.
@@ -131,53 +173,35 @@ pub(crate) fn read_fault(error: Error) -> LoadFault
     }
 }
 
-/// Why no image is loaded, and whether the store must be opened anew, since a call of it answered an error.
-#[derive(Clone, Copy)]
-pub(crate) struct ImageNotLoaded {
-    pub fault: LoadFault,
-    pub must_reopen: bool,
-}
-
-/// The image that the tables hold. Nothing is written.
+/// The image that the tables hold. Nothing is written. The connection is at rest again, whatever is answered.
 pub(crate) fn load_from<S: Alter, R: ReadImage>(
     reader: &R,
     alloc: Global,
     conn: &mut Connection<S>,
-) -> Result<Image, ImageNotLoaded>
+) -> Result<Image, LoadFault>
     requires autocommit { conn.old.in_transaction ≡ false }
     requires ready { IsReady (state S.Store conn.old) }
     requires second { IsSecond (state S.Store conn.old) }
     ensures autocommit { conn.new.in_transaction ≡ false }
-    ensures ready { OnOk result (IsReady (state S.Store conn.new)) }
+    ensures ready { IsReady (state S.Store conn.new) }
     ensures second { IsSecond (state S.Store conn.new) }
     ensures open { OnOk result (IsOpenIfClean (state S.Store conn.new)) }
-    ensures unbroken { IfErr result (λ e. e.must_reopen ≡ false
-        → IsReady (state S.Store conn.new)) }
     ensures image { IfOk result (λ image. (c : Result ImageRows DeclaredTable)
         → MayHold (state S.Store conn.new) c → c ≡ Ok image) }
     ensures edits { IfOk result (λ image. HasEdits (length image.edits) (state S.Store conn.new)) }
     ensures sound { IfOk result IsSound }
-    ensures unsound { IfErr result (λ e. (t : DeclaredTable) → e.fault ≡ LoadFault.Unsound t
-        → (c : Result ImageRows DeclaredTable) → MayHold (state S.Store conn.new) c → c ≡ Err t) }
-    ensures cause { IfErr result (λ e. e.fault ≡ LoadFault.Store → e.must_reopen ≡ true) }
-    ensures failed { IfErr result (λ e. e.fault ≡ LoadFault.Store → HasCleanDisk (state S.Store conn.new)
-        → HasFailed (state S.Store conn.old) (state S.Store conn.new)) }
+    ensures unsound { (t : DeclaredTable) → result ≡ Err (LoadFault.Unsound t)
+        → FindsUnsound t (state S.Store conn.new) }
+    ensures failed { result ≡ Err LoadFault.Store → HasCleanDisk (state S.Store conn.new)
+        → HasFailed (state S.Store conn.old) (state S.Store conn.new) }
     ensures survives { LeavesStore (state S.Store conn.old) (state S.Store conn.new) }
 {
-    let rows = match read_open(conn) {
+    let rows = match read_checked(conn) {
         Ok(rows) => rows,
-        Err(error) => {
-            return Err(ImageNotLoaded {
-                fault: read_fault(error),
-                must_reopen: true,
-            });
-        }
+        Err(error) => return Err(read_fault(error)),
     };
     match image_of(reader, alloc, rows) {
         Ok(image) => Ok(image),
-        Err(fault) => Err(ImageNotLoaded {
-            fault,
-            must_reopen: false,
-        }),
+        Err(fault) => Err(fault),
     }
 }

@@ -1,7 +1,7 @@
 //! The tables of a store as a keeper of batches.
 
 ghost use Rattle.std.specs.Prelude.{◌≡◌, ◌⊎◌, ◌≤◌, IfOk, IfErr, OnOk, MatchResult, true, false, Ok, Err, Result};
-ghost use Rattle.sqlite.specs.State.{HasCleanDisk};
+ghost use Rattle.sqlite.specs.State.{HasCleanDisk, IsLive};
 ghost use Rattle.sqlite.specs.Held.{state};
 ghost use Rattle.sqlite.specs.Steps.{over_memory};
 ghost use Rattle.lrs_machine.specs.declared.image.Image.{Image as ImageRows};
@@ -17,7 +17,7 @@ ghost use Rattle.lrs_store.specs.TableKeeper.HeldImages.{IsOpenIfClean, IsSafe};
 ghost use Rattle.lrs_store.specs.TableKeeper.Openings.{IsSecond, HoldsAnImage};
 
 use crate::commit::write_next;
-use crate::image::{ImageNotLoaded, load_from};
+use crate::image::load_from;
 use crate::memory::new_store;
 use crate::migration::make_second;
 use lrs_image::{Batches, Change, CommitFault, Holder, LoadFault};
@@ -30,8 +30,8 @@ use std::marker::Model;
 
 /// Keeps an image in the tables of a store. A write is one transaction; loading reads all tables.
 ///
-/// After a load that failed the connection is not used again, nor after a write but where memory ran out in it and
-/// nothing was kept: each call fails from then on, until the store is opened anew.
+/// After a write that answered `Store` the connection is not used again: each call fails from then on, until the store
+/// is opened anew. After a load that failed nothing is loaded, and the next load tries again.
 #[derive(Drop)]
 pub struct Tables<S: Alter, R: ReadImage> {
     conn: Connection<S>,
@@ -121,6 +121,15 @@ impl<S: Alter, R: ReadImage + Drop> Tables<S, R> {
         }
     }
 
+    /// Where no write has failed, all that the connection sees is committed and in the tables, and while it is open that is
+    /// a database: facts for proofs, which take no time.
+    pub fn prove_serving(&self)
+        ensures ready { self.now.is_broken ≡ false → IsReady (state S.Store self.now.conn) }
+        ensures live { IsLive (state S.Store self.now.conn) }
+    {
+        let _live = self.conn.schema();
+    }
+
     /// Gives the connection back, with no call of the store.
     pub fn into_connection(self) -> Connection<S>
         ensures { result ≡ self.conn }
@@ -173,7 +182,8 @@ impl<S: Alter, R: ReadImage> Holder for Tables<S, R> {
 impl<S: Alter, R: ReadImage> Batches for Tables<S, R> {
     ghost use Rattle.lrs_store.specs.TableKeeper.HeldImages.{finds_left};
 
-    // The last two clauses are not of `Batches`: why the store fails, and that all rows stay, whatever it answers.
+    // The last four clauses are not of `Batches`: why the store fails, that all rows stay, whatever it answers, that an
+    // unsound table is found, and that no load gives the connection up.
     fn load(&mut self, alloc: Global) -> Result<Image, LoadFault>
         ensures image { IfOk result (λ image. (c : Result ImageRows DeclaredTable)
             → MayHold (state S.Store self.new.conn) c → c ≡ Ok image) }
@@ -195,6 +205,10 @@ impl<S: Alter, R: ReadImage> Batches for Tables<S, R> {
             → HasCleanDisk (state S.Store self.new.conn)
             → HasFailed (state S.Store self.old.conn) (state S.Store self.new.conn) }
         ensures rows { LeavesStore (state S.Store self.old.conn) (state S.Store self.new.conn) }
+        ensures named { (t : DeclaredTable) → result ≡ Err (LoadFault.Unsound t)
+            → HasCleanDisk (state S.Store self.new.conn)
+            → MayHold (state S.Store self.new.conn) (Err t) }
+        ensures goes_on { self.new.is_broken ≡ self.old.is_broken }
     {
         if self.is_broken {
             self.failures = self.failures.saturating_add(1);
@@ -206,9 +220,8 @@ impl<S: Alter, R: ReadImage> Batches for Tables<S, R> {
                 self.is_loaded = true;
                 Ok(image)
             }
-            Err(ImageNotLoaded { fault, must_reopen }) => {
+            Err(fault) => {
                 self.is_loaded = false;
-                self.is_broken = must_reopen;
                 self.failures = failures_after(self.failures, &fault);
                 Err(fault)
             }

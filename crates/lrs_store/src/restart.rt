@@ -30,8 +30,10 @@ pub fn close_and_open<D: Disk + Drop, R: ReadImage + Drop>(
     options: Options,
     reader: R,
 ) -> Result<Tables<FileStore<D>, R>, NotReopened<D>>
-    ensures { IfOk result (λ opened. IsReopened tables.conn (file_state opened.conn)) }
+    ensures { IfOk result (λ opened. IsReopened tables (file_state opened.conn)) }
 {
+    // For the prover alone: what its contract says is known from here on.
+    tables.prove_serving();
     let files = match close_files(tables) {
         Ok(files) => files,
         Err(fault) => return Err(NotReopened::Unclosed(fault)),

@@ -12,7 +12,7 @@ use Rattle.lrs_image.specs.declared.keeper.LoadFault.TheVariants.{Memory, Store}
 use Rattle.lrs_store_tables.specs.StoredRows.{IsWriting, LeavesStore}
 use Rattle.lrs_store_tables.specs.Connections.{IsReady}
 use Rattle.lrs_store_tables.specs.Failures.{HasFailed, HasReason, ErrHasReason, ErrInsideHasReason}
-use Rattle.lrs_store_tables.proofs.FailLemmas.{reason_then}
+use Rattle.lrs_store_tables.proofs.FailLemmas.{reason_then, reason_after}
 use Rattle.lrs_store.specs.TableKeeper.Openings.{IsSecond, IsNotSecond}
 use Rattle.lrs_store.proofs.TableKeeper.ReadLemmas.{begins}
 use Rattle.lrs_store.proofs.TableKeeper.CommitLemmas.{Stays}
@@ -34,6 +34,11 @@ fails_alone {S} {A} g old tx mid last (Err e) is ready one cause two clean = by 
 
     by : (t : Held S) → begun ≡ t → LeavesStore (state g t) (state g mid) → (IsWriting (state g t) → HasCleanDisk (state g mid) → HasReason (state g t) (state g mid) e) → HasReason (state g old) last e
     by t same = subst (λ (x : Held S). LeavesStore (state g x) (state g mid) → (IsWriting (state g x) → HasCleanDisk (state g mid) → HasReason (state g x) (state g mid) e) → HasReason (state g old) last e) same at_begin
+
+-- the reason of what follows a call that changed nothing
+pub reason_behind : {A : Type 0} (a b c : State) (r : Result A Error) → LeavesStore a b → LeavesStore b c → ErrHasReason r b c → ErrHasReason r a c
+reason_behind a b c (Ok x) first last cause clean = tt
+reason_behind a b c (Err e) first last cause clean = reason_after a b c e first last clean (cause clean)
 
 -- what is told as a failure of the store is no lack of memory
 pub store_failed : (f : LoadFault) (e : Error) (old new : State) → (e ≡ SqliteFailure OutOfMemory → f ≡ Memory) → f ≡ Store → HasReason old new e → HasFailed old new

@@ -1,10 +1,10 @@
 -- What reading inside a transaction that is rolled back says of what an opening may find.
-use Rattle.std.proofs.Common.{◌≡◌, ◌⊎◌, inl, inr, IsTrue, true, IfOk, OnOk, Ok, Err, Result, refl, sym, ap, subst, ◌∙◌, arith}
+use Rattle.std.proofs.Common.{◌≡◌, ◌⊎◌, inl, inr, ℕ, List, [], IsTrue, true, IfOk, OnOk, Ok, Err, Result, refl, sym, ap, subst, ◌∙◌, arith}
 use Rattle.sqlite_trees.specs.declared.store.Store.{Ghosts}
 use Rattle.sqlite_trees.specs.Tree.{Trees}
 use Rattle.sqlite.specs.Effect.{Database}
 use Rattle.sqlite.specs.Held.{Held, state}
-use Rattle.sqlite.specs.State.{State, HasCleanDisk, Survives, IsRolledBack, IsUnchanged}
+use Rattle.sqlite.specs.State.{State, HasCleanDisk, Survives, IsRolledBack, IsUnchanged, IsNotRun}
 use Rattle.sqlite.specs.declared.error.Error.{Error}
 use Rattle.lrs_store_tables.specs.Contents.Tables.{Tables}
 use Rattle.lrs_store_tables.specs.StoredRows.{stored, IsWriting, HasTables, LeavesStore}
@@ -111,3 +111,25 @@ module _ (a b : State) (survives : LeavesStore a b) where
   -- whatever may be left was so before
   pub left_before : (P : Trees → Type 0) → (HasCleanDisk a → (db : Trees) → a.may_leave db → P db) → HasCleanDisk b → (db : Trees) → b.may_leave db → P db
   left_before P all clean db left = all (early clean) db (before (survives.crash clean db left))
+
+-- a connection that was at rest and was rolled back is at rest
+rests_back : (a b : State) → IsReady a → HasCleanDisk a → IsTrue b.is_open → IsRolledBack a b → IsAtRest b
+rests_back a b ready early opened back =
+    let rest = ready early (back.was_open opened) in
+    let undone = back.undone opened in
+    let same : b.now ≡ a.now = undone.0 ∙ sym rest.settled in
+    record {
+      schema = ap (λ (d : Database). d.schema) same ∙ rest.schema;
+      settled = undone.0 ∙ sym undone.1;
+      tables = subst (λ (d : Database). HasTables d.trees) (sym same) rest.tables;
+    }
+
+-- a statement that was not prepared leaves the connection at rest
+pub rests_unprepared : (a b : State) (sql : List ℕ) (e : Error) → LeavesStore a b → IsReady a → (HasCleanDisk b → IsNotRun a b sql [] e) → IsReady b
+unfolding IsNotRun
+rests_unprepared a b sql e survives ready fails clean opened =
+    let early : HasCleanDisk a = omega (arith, clean, survives.clean) in
+    elim (fails clean) [
+      | inl h ↦ rests_still a b survives ready (λ _. h.1) clean opened
+      | inr h ↦ rests_back a b ready early opened h.3
+    ]

@@ -34,6 +34,11 @@ pub record AreRowsOf (i : Image) (t : Tables) : Type 0 where
 abbrev pub HoldNone : Table → Tables → Type 0
 HoldNone u t = (t.version ≢ pos 2 ∷ []) ⊎ (content_of t ≡ Err u)
 
+-- This table is the first unsound one of whatever may be found, and that is found where the disk is clean.
+pub record FindsUnsound (t : Table) (s : State) : Type 0 where
+  pub only : (c : Result Image Table) → MayHold s c → c ≡ Err t
+  pub found : HasCleanDisk s → MayHold s (Err t)
+
 -- rows of version 2 that hold an image with this many edits
 pub record HoldEdits (n : ℕ) (t : Tables) : Type 0 where
   pub image : Image

@@ -9,7 +9,7 @@ pub record KeeperView (S R : Type 0) : Type 0 where
   -- how many edits are kept, once the image is loaded
   pub edits : ℕ
   pub is_loaded : Bool
-  -- whether a commit or a load has failed
+  -- whether a write has failed, so that the connection is not used again
   pub is_broken : Bool
   pub failures : ℕ
 

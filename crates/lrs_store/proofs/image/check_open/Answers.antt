@@ -7,7 +7,7 @@ use Rattle.lrs_store_tables.specs.Failures.{HasReason}
 use Rattle.lrs_store_tables.proofs.SelectStatements.{version_shows, select_version_is}
 use Rattle.lrs_store_tables.proofs.AloneStatements.{version_alone, version_typed}
 use Rattle.lrs_store_tables.proofs.FailLemmas.{not_run_for}
-use Rattle.lrs_store.proofs.TableKeeper.ReadLemmas.{rests_still}
+use Rattle.lrs_store.proofs.TableKeeper.ReadLemmas.{rests_still, rests_unprepared}
 use Rattle.lrs_store.proofs.image.check_open.Goals as goal
 
 pub returns-clause-ready : goal.returns-clause-ready
@@ -30,3 +30,7 @@ returns-in_err-prepare-clause-cause g c clean =
       | inr shut ↦ inr (inr (inl shut))
     ] in
     search rules
+
+pub returns-in_err-prepare-clause-ready : goal.returns-in_err-prepare-clause-ready
+returns-in_err-prepare-clause-ready g c =
+    rests_unprepared (state g.S.Store c.args.conn.now) (state g.S.Store c.prepare.new.self) select_version c.in_err-prepare.field-0.0 c.prepare.ensures.survives c.requires.ready (λ clean. c.in_err-prepare.ensures.err clean [])

@@ -1,25 +1,8 @@
-use Rattle.std.proofs.Common.{rules}
 use Rattle.sqlite.specs.Held.{state}
-use Rattle.lrs_store_tables.specs.Contents.Tables.{AreSame}
-use Rattle.lrs_store_tables.specs.Rows.{tables_of}
-use Rattle.lrs_store.proofs.TableKeeper.ReadLemmas.{told_if, rests_if}
-use Rattle.lrs_store.proofs.TableKeeper.FailedLemmas.{fails_alone}
+use Rattle.lrs_store.proofs.TableKeeper.LoadLemmas.{rests_read}
 use Rattle.lrs_store.proofs.image.read_alone.Goals as goal
 
-pub returns-clause-ready : goal.returns-clause-ready
-returns-clause-ready g c =
-    let h = rests_if g.S.Store c.args.conn.now c.transaction-tx.result.conn.now c.read_rows-rows.new.tx.conn.now (state g.S.Store c.rollback.new.self.0) (λ x t. AreSame t (tables_of x)) c.read_rows-rows.result
-    c.transaction-tx.ensures.begun c.requires.ready c.read_rows-rows.ensures.survives c.read_rows-rows.ensures.read c.rollback.ensures.survives c.rollback.ensures.undone in
-    search rules
-
-pub returns-clause-rows : goal.returns-clause-rows
-returns-clause-rows g c =
-    let h = told_if g.S.Store g.met.S.Store.settled c.args.conn.now c.transaction-tx.result.conn.now c.read_rows-rows.new.tx.conn.now (state g.S.Store c.rollback.new.self.0) (λ x t. AreSame t (tables_of x)) c.read_rows-rows.result
-    c.transaction-tx.ensures.begun c.requires.ready c.read_rows-rows.ensures.survives c.read_rows-rows.ensures.read c.rollback.ensures.survives in
-    search rules
-
-pub returns-clause-cause : goal.returns-clause-cause
-returns-clause-cause g c =
-    let h = fails_alone g.S.Store c.args.conn.now c.transaction-tx.result.conn.now c.read_rows-rows.new.tx.conn.now (state g.S.Store c.rollback.new.self.0) c.read_rows-rows.result
-    c.transaction-tx.ensures.begun c.requires.ready c.read_rows-rows.ensures.survives c.read_rows-rows.ensures.cause c.rollback.ensures.survives in
-    search rules
+pub returns-clause-undone : goal.returns-clause-undone
+returns-clause-undone g c =
+    let read = c.read_in_one-rows.ensures in
+    rests_read (state g.S.Store c.args.conn.now) (state g.S.Store c.read_in_one-rows.new.conn) c.requires.ready c.schema.ensures.live c.schema-2.ensures.live read.survives read.back

@@ -32,3 +32,12 @@ returns-clause-survives g c = leaves_then (state g.S.Store c.args.conn.now) (sta
 
 pub returns-clause-cause : goal.returns-clause-cause
 returns-clause-cause g c clean = tt
+
+pub returns-in_err-rows-clause-ready : goal.returns-in_err-rows-clause-ready
+returns-in_err-rows-clause-ready g c = c.read_alone.ensures.undone c.requires.open
+
+pub returns-in_err-check_open-clause-ready : goal.returns-in_err-check_open-clause-ready
+returns-in_err-check_open-clause-ready g c = c.check_open.ensures.ready
+
+pub returns-clause-ready : goal.returns-clause-ready
+returns-clause-ready g c = c.check_open.ensures.ready

@@ -1,9 +1,7 @@
-use Rattle.std.proofs.Common.{Ok, Err, Result, ap, subst}
+use Rattle.std.proofs.Common.{Result, subst}
 use Rattle.sqlite.specs.Held.{state}
 use Rattle.lrs_machine.specs.declared.image.Image.{Image}
 use Rattle.lrs_machine.specs.declared.table.Table.{Table}
-use Rattle.lrs_image.specs.declared.keeper.LoadFault.{LoadFault}
-use Rattle.lrs_image.specs.declared.keeper.LoadFault.TheVariants.{Memory}
 use Rattle.lrs_store_tables.specs.StoredRows.{LeavesStore}
 use Rattle.lrs_store_tables.specs.HeldRows.{MayHold}
 use Rattle.lrs_store.specs.TableKeeper.KeeperView.{KeeperView}
@@ -20,12 +18,11 @@ returns-in-Ok-clause-found g c = found_sound (state g.S.Store c.load_from.new.co
 pub returns-in-Err-clause-found : goal.returns-in-Err-clause-found
 returns-in-Err-clause-found g c = found_sound (state g.S.Store c.load_from.new.conn)
 
-abbrev fault_in : Result Image LoadFault → LoadFault
-fault_in (Ok image) = Memory
-fault_in (Err fault) = fault
-
 pub returns-in-Err-clause-unsound : goal.returns-in-Err-clause-unsound
-returns-in-Err-clause-unsound g c t e = c.in-Err.ensures.unsound t (ap fault_in e)
+returns-in-Err-clause-unsound g c t e = (c.in-Err.ensures.unsound t e).only
+
+pub returns-in-Err-clause-named : goal.returns-in-Err-clause-named
+returns-in-Err-clause-named g c t e = (c.in-Err.ensures.unsound t e).found
 
 pub returns-in-Ok-clause-content : goal.returns-in-Ok-clause-content
 returns-in-Ok-clause-content g c = subst (λ (v : KeeperView g.row.S.Denot g.row.R.Denot). (x : Result Image Table) → MayHold (state g.S.Store c.load_from.new.conn) x → MayHold (state g.S.Store v.conn) x) c.self.view_is (found_before (state g.S.Store c.self.inside.conn) (state g.S.Store c.load_from.new.conn) c.load_from.ensures.survives)
