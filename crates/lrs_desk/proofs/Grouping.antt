@@ -1,15 +1,16 @@
 -- Commands that are done together, and what is kept of them.
-use Rattle.std.proofs.Common.{◌≡◌, ◌⊎◌, inl, inr, ℕ, zero, suc, ◌+◌, ◌-◌, ◌≤◌, ◌<◌, Bool, true, List, [], ◌∷◌, ◌++◌, length, take, get_or, Result, Ok, Err, IfOk, OnOk, OnErr, refl, sym, ap, subst, ◌∙◌, arith, length-append}
+use Rattle.std.proofs.Common.{◌≡◌, ◌⊎◌, inl, inr, ℕ, zero, suc, ◌+◌, ◌-◌, ◌≤◌, ◌<◌, Bool, true, false, List, [], ◌∷◌, ◌++◌, length, take, get_or, Result, Ok, Err, IfOk, OnOk, OnErr, refl, sym, ap, subst, ◌∙◌, arith, length-append}
 use Rattle.std.specs.List.{AllByRecursion}
 use Rattle.std.proofs.lemmas.List.{take_more, take_all, take-map, map-append, length-map, length-take-le}
 use Rattle.lrs_measure.specs.Texts.{Name}
 use Rattle.lrs_machine.specs.declared.answer.Answer.{Answer}
+use Rattle.lrs_machine.specs.declared.answer.Answer.TheVariants.{Done}
 use Rattle.lrs_machine.specs.declared.answer.Limits.{Limits}
 use Rattle.lrs_machine.specs.declared.command.Command.{Command}
 use Rattle.lrs_machine.specs.declared.image.Image.{Image}
 use Rattle.lrs_machine.specs.declared.table.Table.{Table}
 use Rattle.lrs_machine.specs.Image.{state_of}
-use Rattle.lrs_machine.specs.Machine.{Record, step_record, answers, state_after}
+use Rattle.lrs_machine.specs.Machine.{Record, step, step_record, answers, state_after}
 use Rattle.lrs_machine.specs.Sound.{IsSound}
 use Rattle.lrs_machine.specs.State.{State}
 use Rattle.lrs_image.specs.declared.change.Change.{Change}
@@ -20,16 +21,23 @@ use Rattle.lrs_image.specs.KeeperCalls.{HasRisen, HoldsOnly, HoldsSound}
 use Rattle.lrs_image.specs.ChangeLists.{apply_all, CanMakeAll, IsChangedBy}
 use Rattle.lrs_image.proofs.Together.{apply_more, can_more, edits_after}
 use Rattle.lrs_machine.specs.Stop.StoppedRuns.{IsAccepted}
-use Rattle.lrs_desk.specs.Desk.{BreaksAmid, records_of}
+use Rattle.lrs_machine.proofs.Keeping.{only_done_changes}
+use Rattle.lrs_desk.specs.Desk.{BreaksAmid, EndsRefused, OneIsDone, records_of}
 use Rattle.lrs_machine.specs.declared.stops.fault.Fault.{Fault}
 use Rattle.lrs_machine.specs.declared.stops.fault.Fault.TheVariants.{Memory, Keep, MustReopen}
 use Rattle.lrs_desk.specs.DeskView.{DeskView}
 use Rattle.lrs_desk.specs.Group.{MayBeChanged, DoesNext, IsMade, HasDone, GoesOn, IsGroup}
+use Rattle.lrs_desk.proofs.Deciding.{kept_edit}
 
 module _ {X : Type 0} where
   all_more : (P : X → Type 0) (xs : List X) (y : X) → AllByRecursion P xs → P y → AllByRecursion P (xs ++ y ∷ [])
   all_more P [] y h p = (p, tt)
   all_more P (x ∷ xs) y h p = (h.0, all_more P xs y h.1 p)
+
+-- images of one state have as many edits
+as_many_edits : (i j : Image) → state_of j ≡ state_of i → length j.edits ≡ length i.edits
+unfolding state_of
+as_many_edits i j same = sym (length-map j.edits kept_edit) ∙ ap (λ (s : State). length s.done) same ∙ length-map i.edits kept_edit
 
 module _ (limits : Limits) where
   -- commands, one after the other
@@ -52,6 +60,26 @@ module _ (limits : Limits) where
   fewer_accepted (suc m) zero rs s few h = absurd (omega (arith, few))
   fewer_accepted (suc m) (suc n) [] s few h = tt
   fewer_accepted (suc m) (suc n) (r ∷ rs) s few h = (h.0, fewer_accepted m n rs (step_record limits r s).state (omega (arith, few)) h.1)
+
+  -- where none of the commands is done, the state stays
+  one_done : (rs : List Record) (s : State) → OneIsDone (answers limits rs s) ⊎ (state_after limits rs s ≡ s)
+  one_done [] s = inr refl
+  one_done (r ∷ rs) s = by (only_done_changes limits r.key r.command s) (one_done rs (step_record limits r s).state)
+    where
+      by : ((step limits r.key r.command s).answer ≡ Done (length s.done + 1)) ⊎ ((step limits r.key r.command s).state ≡ s)
+          → OneIsDone (answers limits rs (step_record limits r s).state) ⊎ (state_after limits rs (step_record limits r s).state ≡ (step_record limits r s).state)
+          → OneIsDone (answers limits (r ∷ rs) s) ⊎ (state_after limits (r ∷ rs) s ≡ s)
+      by (inl done) rest = inl (length s.done + 1, inl (sym done))
+      by (inr same) (inl (number, there)) = inl (number, inr there)
+      by (inr same) (inr still) = inr (still ∙ same)
+
+  -- so where there are other edits behind them, one is done
+  some_done : (rs : List Record) (i j : Image) → state_of j ≡ state_after limits rs (state_of i) → (length j.edits ≡ length i.edits → ⊥) → OneIsDone (answers limits rs (state_of i))
+  some_done rs i j state differ = by (one_done rs (state_of i))
+    where
+      by : OneIsDone (answers limits rs (state_of i)) ⊎ (state_after limits rs (state_of i) ≡ state_of i) → OneIsDone (answers limits rs (state_of i))
+      by (inl done) = done
+      by (inr still) = absurd (differ (as_many_edits i j (state ∙ still)))
 
   -- no commands
   pub goes_on_from : (i : Image) → IsSound i → (given : List Answer) (changes : List Change) → given ≡ [] → changes ≡ [] → GoesOn limits [] i i given changes
@@ -168,6 +196,11 @@ module _ (commands : List (Name × Command)) where
       (subst (λ (cs : List (Name × Command)). GoesOn limits (records_of cs) i j given changes) (take_all n commands past ∙ sym (take_all (length commands) commands (omega arith))) so_far)
       some (omega arith)
 
+  -- ... each has its answer
+  pub all_given : (limits : Limits) (n : ℕ) (i j : Image) (given : List Answer) (changes : List Change) → GoesOn limits (records_of (take n commands)) i j given changes → length commands ≤ n → length given ≡ length commands
+  all_given limits n i j given changes so_far past =
+      as_many_given limits (length commands) i j given changes (subst (λ (cs : List (Name × Command)). GoesOn limits (records_of cs) i j given changes) (take_all n commands past ∙ sym (take_all (length commands) commands (omega arith))) so_far) (omega arith)
+
   -- where memory runs out for another command than the first
   pub group_stays : (limits : Limits) (n : ℕ) (i j j_after : Image) (given given_after : List Answer) (changes changes_after : List Change)
       → GoesOn limits (records_of (take n commands)) i j given changes → n ≤ length commands → 1 ≤ length given_after → j_after ≡ j → given_after ≡ given → changes_after ≡ changes
@@ -201,6 +234,10 @@ module _ (commands : List (Name × Command)) where
         (subst (λ (rs : List Record). AllByRecursion IsAccepted (answers limits rs (state_of i)))
         (sym (take-map record_of n commands) ∙ ap (λ (m : ℕ). take m (records_of commands)) (let e : n ≡ (n + 1) - 1 = omega arith in e)) so_far.accepted)
 
+    -- a group that ends with it ends refused
+    pub ends_refused : goes_on ≡ false → EndsRefused given_after
+    ends_refused stops = (given, (step limits r.0 r.1 (state_of before)).answer, next.answered, next.refused stops)
+
 -- what is kept
 
 module _ (may found : Result Image Table → Type 0) (i j : Image) (changes : List Change) (only : HoldsOnly may i) where
@@ -221,14 +258,15 @@ module _ (may found : Result Image Table → Type 0) (i j : Image) (changes : Li
 module _ {K : Type 0} (holds : K → Result Image Table → Type 0) (failures : K → ℕ) (records : List Record) (old new : DeskView K) (given : List Answer) (changes : List Change) where
   pub breaks_amid : IsGroup old.limits records old.image new.image given changes → HoldsOnly (holds old.keeper) old.image
       → ((c : Result Image Table) → holds new.keeper c → holds old.keeper c ⊎ IsChangedBy (holds old.keeper) changes c)
-      → new.must_reopen ≡ true → new.is_ahead ≡ true → HasRisen (failures old.keeper) (failures new.keeper) → BreaksAmid holds failures records old new
-  breaks_amid group only found reopen ahead cause =
+      → (length new.image.edits ≡ length old.image.edits → ⊥) → new.must_reopen ≡ true → new.is_ahead ≡ true → HasRisen (failures old.keeper) (failures new.keeper) → BreaksAmid holds failures records old new
+  breaks_amid group only found differ reopen ahead cause =
       let many : length given ≡ (length given - 1) + 1 = omega (arith, group.first.some) in
       let state : state_of new.image ≡ state_after old.limits (take ((length given - 1) + 1) records) (state_of old.image) = group.first.state ∙ ap (λ (n : ℕ). state_after old.limits (take n records) (state_of old.image)) many in
       record {
         accepted = length given - 1;
         few = omega (arith, group.first.some, group.first.few);
         are_accepted = group.first.accepted;
+        done = some_done old.limits (take ((length given - 1) + 1) records) old.image new.image state differ;
         image = state;
         content = λ c h. elim (found c h) [
           | inl earlier ↦ inl (only c earlier)

@@ -5,8 +5,6 @@ use Rattle.lrs_machine.specs.declared.image.Image.{Image}
 use Rattle.lrs_machine.specs.declared.table.Table.{Table}
 use Rattle.lrs_image.specs.KeeperCalls.{HoldsOnly}
 use Rattle.lrs_machine.specs.declared.stops.fault.Fault.{Fault}
-use Rattle.lrs_machine.specs.declared.stops.fault.Fault.TheVariants.{Keep}
-use Rattle.lrs_desk.proofs.Grouping.{held}
 
 pub if_ok : {P Q : Answer → Type 0} (made : Result Answer Fault) → ((a : Answer) → P a → Q a) → IfOk made P → IfOk made Q
 if_ok (Ok a) f h = f a h
@@ -24,9 +22,3 @@ on_any (Err fault) h = tt
 pub kept_then : (may : Result Image Table → Type 0) (new next : Image) (made : Result Answer Fault) → OnOk made (new ≡ next) → OnOk made (HoldsOnly may next) → OnOk made (HoldsOnly may new)
 kept_then may new next (Ok a) is kept = λ c h. kept c h ∙ ap (λ (i : Image). let r : Result Image Table = Ok i in r) (sym is)
 kept_then may new next (Err fault) is kept = tt
-
--- ... and it is found where the keeper is clean, since it is open then.
-pub found_then : (may : Result Image Table → Type 0) (new : Image) (IsClean IsOpen : Type 0) (made : Result Answer Fault) → OnOk made (HoldsOnly may new) → ((made ≡ Err Keep → ⊥) → IsClean → IsOpen)
-    → (IsClean → IsOpen → (c : Result Image Table) × may c) → OnOk made (IsClean → may (Ok new))
-found_then may new IsClean IsOpen (Ok a) only reached finds = λ clean. held may new only (finds clean (reached (λ e. absurd (cc e)) clean))
-found_then may new IsClean IsOpen (Err fault) only reached finds = tt

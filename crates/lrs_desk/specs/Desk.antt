@@ -1,17 +1,19 @@
 -- What a desk's calls leave.
-use Rattle.std.specs.Prelude.{◌≡◌, ◌⊎◌, ◌≤◌, ◌<◌, ◌+◌, ◌-◌, true, false, ℕ, Ok, Result, List, [], ◌∷◌, length, map, take}
+use Rattle.std.specs.Prelude.{◌≡◌, ◌⊎◌, ◌≤◌, ◌<◌, ◌+◌, ◌-◌, Bool, true, false, ℕ, Ok, Result, List, [], ◌∷◌, ◌++◌, length, map, take}
 use Rattle.std.specs.List.{AllByRecursion}
 use Rattle.lrs_machine.specs.declared.answer.Answer.{Answer}
+use Rattle.lrs_machine.specs.declared.answer.Answer.TheVariants.{Done}
 use Rattle.lrs_machine.specs.declared.answer.Limits.{Limits}
 use Rattle.lrs_machine.specs.State.{State}
 use Rattle.lrs_machine.specs.declared.table.Table.{Table}
+use Rattle.lrs_measure.specs.Lists.{In}
 use Rattle.lrs_measure.specs.Texts.{Name}
 use Rattle.lrs_machine.specs.declared.command.Command.{Command}
 use Rattle.lrs_machine.specs.declared.image.Image.{Image}
 use Rattle.lrs_machine.specs.Image.{state_of}
-use Rattle.lrs_machine.specs.Machine.{Record, answers, state_after}
+use Rattle.lrs_machine.specs.Machine.{Record, answers, state_after, step}
 use Rattle.lrs_machine.specs.Sound.{IsSound}
-use Rattle.lrs_image.specs.KeeperCalls.{HasRisen}
+use Rattle.lrs_image.specs.KeeperCalls.{HasRisen, HoldsOnly}
 use Rattle.lrs_machine.specs.Stop.StoppedRuns.{IsAccepted}
 use Rattle.lrs_image.specs.declared.keeper.LoadFault.{LoadFault}
 use Rattle.lrs_image.specs.declared.keeper.LoadFault.TheVariants as load
@@ -25,6 +27,14 @@ opened_by load.Memory = opened.Memory
 opened_by load.Store = opened.Keep
 opened_by (load.Unsound t) = opened.Unsound t
 
+-- While the desk need not be opened again, an opening finds its image and nothing else.
+abbrev pub KeepsImage : {K : Type 0} → (K → Result Image Table → Type 0) → DeskView K → Type 0
+KeepsImage holds desk = desk.must_reopen ≡ false → HoldsOnly (holds desk.keeper) desk.image
+
+-- ... and does find it where the device is clean
+abbrev pub FindsImage : {K : Type 0} → (K → Result Image Table → Type 0) → (K → Type 0) → DeskView K → Type 0
+FindsImage holds clean desk = desk.must_reopen ≡ false → clean desk.keeper → holds desk.keeper (Ok desk.image)
+
 -- the same image, and nothing else to be found
 pub record IsUnchanged {K : Type 0} (holds : K → Result Image Table → Type 0) (old new : DeskView K) : Type 0 where
   pub image : new.image ≡ old.image
@@ -36,8 +46,9 @@ pub record IsUnchanged {K : Type 0} (holds : K → Result Image Table → Type 0
 abbrev pub IsOldOrNext : Limits → List Record → Image → Result Image Table → Type 0
 IsOldOrNext limits records before c = (c ≡ Ok before) ⊎ ((image : Image) × (c ≡ Ok image) × (state_of image ≡ state_after limits records (state_of before)) × IsSound image)
 
--- The commit of a command failed: what is found is the old image, or a sound one of the next state. The desk knows what it knew.
+-- The commit of a command that is done failed: what is found is the old image, or a sound one of the next state. The desk knows what it knew.
 pub record HasBroken {K : Type 0} (holds : K → Result Image Table → Type 0) (failures : K → ℕ) (key : Name) (command : Command) (old new : DeskView K) : Type 0 where
+  pub done : (number : ℕ) × ((step old.limits key command (state_of old.image)).answer ≡ Done number)
   pub image : new.image ≡ old.image
   pub content : (c : Result Image Table) → holds new.keeper c → IsOldOrNext old.limits (record { key = key; command = command } ∷ []) old.image c
   pub must_reopen : new.must_reopen ≡ true
@@ -56,12 +67,26 @@ pub record DoesFirst (limits : Limits) (records : List Record) (before after : S
   pub state : after ≡ state_after limits (take (length given) records) before
   pub accepted : AllByRecursion IsAccepted (answers limits (take (length given - 1) records) before)
 
--- The first of these commands are in flight: their commit failed. Each before the last was accepted, what is found is the old image or the state after all of them, and the desk's image is ahead: it is that after all of them.
+-- the last of these answers is a refusal
+abbrev pub EndsRefused : List Answer → Type 0
+EndsRefused given = (front : List Answer) × (last : Answer) × (given ≡ front ++ last ∷ []) × (IsAccepted last → ⊥)
+
+-- Why no more of so many commands are answered: there are no more, or the last one is refused; or memory ran out for the next one.
+abbrev pub StopsBy : Bool → ℕ → List Answer → Type 0
+StopsBy false count given = (length given ≡ count) ⊎ EndsRefused given
+StopsBy true count given = length given < count
+
+-- one of these answers says that a command is done
+abbrev pub OneIsDone : List Answer → Type 0
+OneIsDone given = (number : ℕ) × In (Done number) given
+
+-- The first of these commands are in flight: their commit failed. One of them is done, each before the last was accepted, what is found is the old image or the state after all of them, and the desk's image is ahead: it is that after all of them.
 pub record BreaksAmid {K : Type 0} (holds : K → Result Image Table → Type 0) (failures : K → ℕ) (records : List Record) (old new : DeskView K) : Type 0 where
   -- how many are in flight beside the last one
   pub accepted : ℕ
   pub few : accepted < length records
   pub are_accepted : AllByRecursion IsAccepted (answers old.limits (take accepted records) (state_of old.image))
+  pub done : OneIsDone (answers old.limits (take (accepted + 1) records) (state_of old.image))
   pub image : state_of new.image ≡ state_after old.limits (take (accepted + 1) records) (state_of old.image)
   pub content : (c : Result Image Table) → holds new.keeper c → IsOldOrNext old.limits (take (accepted + 1) records) old.image c
   pub must_reopen : new.must_reopen ≡ true

@@ -1,5 +1,5 @@
 -- Commands that are done together: done here first, and what they change is kept then.
-use Rattle.std.specs.Prelude.{◌≡◌, ◌⊎◌, Bool, true, List, [], ◌∷◌, ◌++◌}
+use Rattle.std.specs.Prelude.{◌≡◌, ◌⊎◌, Bool, true, false, List, [], ◌∷◌, ◌++◌}
 use Rattle.std.specs.List.{AllByRecursion}
 use Rattle.lrs_measure.specs.Texts.{Name}
 use Rattle.lrs_machine.specs.declared.answer.Answer.{Answer}
@@ -32,6 +32,7 @@ pub record DoesNext (limits : Limits) (key : Name) (command : Command) (before a
   pub state : state_of after ≡ (step limits key command (state_of before)).state
   pub changed : MayBeChanged changes changes_after before after
   pub accepted : goes_on ≡ true → IsAccepted (step limits key command (state_of before)).answer
+  pub refused : goes_on ≡ false → IsAccepted (step limits key command (state_of before)).answer → ⊥
 
 -- The changes make this image, which is sound, of the one before.
 pub record IsMade (before after : Image) (changes : List Change) : Type 0 where

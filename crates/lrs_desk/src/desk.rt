@@ -11,10 +11,10 @@ ghost use Rattle.lrs_image.specs.KeeperCalls.{HasLoaded, HasRisen, HoldsOnly};
 ghost use Rattle.lrs_image.specs.ChangeLists.{KeepsOne};
 ghost use Rattle.lrs_report_answers.specs.Tally.RunningCounts.{IsCounted};
 ghost use Rattle.lrs_inventory.specs.Plans.{change_of, TellsGround};
-ghost use Rattle.lrs_desk.specs.Desk.{IsUnchanged, HasBroken, DoesFirst, BreaksAmid, records_of};
+ghost use Rattle.lrs_desk.specs.Desk.{IsUnchanged, HasBroken, DoesFirst, BreaksAmid, FindsImage, KeepsImage, StopsBy, records_of};
 
 use crate::decision::{Decision, decide, known_edit};
-use crate::group::{class_of, do_first};
+use crate::group::{FirstAnswers, class_of, do_first};
 use lrs_image::{CommitFault, Keeper, LoadFault};
 use lrs_inventory::{Inventory, Plan};
 use lrs_machine::{Answer, Command, Edit, Fault, Key, Limits, Table};
@@ -126,6 +126,15 @@ impl<K: Keeper> Desk<K> {
         })
     }
 
+    /// Gives the caller's proof what this desk keeps: while it need not be opened again, an opening finds its image and
+    /// nothing else, and does find it where the device is clean. It does nothing.
+    pub fn prove_kept(&self)
+        ensures kept { KeepsImage K.may_hold self.now }
+        ensures found { FindsImage K.may_hold K.is_clean self.now }
+    {
+        let _ = &self.keeper;
+    }
+
     /// What is known.
     pub fn inventory(&self) -> &Inventory
         ensures { result.now ≡ self.now.image }
@@ -208,8 +217,8 @@ impl<K: Keeper> Desk<K> {
         ensures image { OnOk result (state_of self.new.image ≡ (step self.old.limits key command.now
             (state_of self.old.image)).state) }
         ensures content { OnOk result (HoldsOnly (K.may_hold self.new.keeper) self.new.image) }
-        ensures found { OnOk result (K.is_clean self.new.keeper
-            → K.may_hold self.new.keeper (Ok self.new.image)) }
+        // Whatever is answered, while it need not be opened again.
+        ensures found { FindsImage K.may_hold K.is_clean self.new }
 
         // Lack of memory changes nothing.
         ensures memory { result ≡ Err Fault.Memory → IsUnchanged K.may_hold self.old self.new }
@@ -221,6 +230,7 @@ impl<K: Keeper> Desk<K> {
         // From then on the desk asks to be opened again, and at no other time.
         ensures reopen { (result ≡ Err Fault.MustReopen) ↔ IsTrue self.old.must_reopen }
         ensures stays { result ≡ Err Fault.MustReopen → IsUnchanged K.may_hold self.old self.new }
+        ensures same { result ≡ Err Fault.MustReopen → self.new ≡ self.old }
         ensures limits { self.new.limits ≡ self.old.limits }
         ensures open { OnOk result (self.new.must_reopen ≡ false) }
         ensures ahead { OnOk result (self.new.is_ahead ≡ self.old.is_ahead) }
@@ -257,22 +267,24 @@ impl<K: Keeper> Desk<K> {
 }
 
 impl<K: Keeper> Desk<K> {
-    /// Does the first of these commands, in order: one at least, and no more after one that is refused. What they
-    /// change is kept before they are answered, all of it by one commit.
+    /// Does the first of these commands, in order: all of them, or up to the first that is refused, or up to one for which
+    /// memory ran out. What they change is kept before they are answered, all of it by one commit.
     ///
     /// # Errors
     ///
-    /// `Memory`, and nothing has changed. `Keep` if the keeper counts a failure of the commit, or memory runs out in it: all of
+    /// `Memory` where it ran out for the first one, and nothing has changed. `Keep` if the keeper counts a failure of the commit, or memory runs out in it: all of
     /// them are kept then, or none, and the image is ahead of an opening that finds none, so no question is answered
     /// either. `MustReopen` from then on.
-    pub fn act_on_first(&mut self, commands: &[(Key, Command)]) -> Result<Vec<Answer>, Fault>
+    pub fn act_on_first(&mut self, commands: &[(Key, Command)]) -> Result<FirstAnswers, Fault>
         requires some { 1 ≤ length commands.now }
         // The answers and the next state are the ground machine's.
-        ensures does { IfOk result (λ given. DoesFirst self.old.limits (records_of commands.now)
-            (state_of self.old.image) (state_of self.new.image) given.items) }
+        ensures does { IfOk result (λ done. DoesFirst self.old.limits (records_of commands.now)
+            (state_of self.old.image) (state_of self.new.image) done.answers.items) }
+        ensures stops { IfOk result (λ done. StopsBy done.ran_out (length commands.now)
+            done.answers.items) }
         ensures content { OnOk result (HoldsOnly (K.may_hold self.new.keeper) self.new.image) }
-        ensures found { OnOk result (K.is_clean self.new.keeper
-            → K.may_hold self.new.keeper (Ok self.new.image)) }
+        // Whatever is answered, while it need not be opened again.
+        ensures found { FindsImage K.may_hold K.is_clean self.new }
 
         // Lack of memory changes nothing.
         ensures memory { result ≡ Err Fault.Memory → IsUnchanged K.may_hold self.old self.new }
@@ -284,6 +296,7 @@ impl<K: Keeper> Desk<K> {
         // From then on the desk asks to be opened again, and at no other time.
         ensures reopen { (result ≡ Err Fault.MustReopen) ↔ IsTrue self.old.must_reopen }
         ensures stays { result ≡ Err Fault.MustReopen → IsUnchanged K.may_hold self.old self.new }
+        ensures same { result ≡ Err Fault.MustReopen → self.new ≡ self.old }
         ensures limits { self.new.limits ≡ self.old.limits }
         ensures open { OnOk result (self.new.must_reopen ≡ false) }
         ensures ahead { OnOk result (self.new.is_ahead ≡ self.old.is_ahead) }

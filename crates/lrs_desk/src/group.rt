@@ -1,12 +1,12 @@
 //! Commands that are done together: here first, by changes that are kept then.
 
-ghost use Rattle.std.specs.Prelude.{◌≡◌, ◌+◌, ◌<◌, ◌≤◌, ◌∷◌, ◌++◌, [], IfOk, OnOk, OnErr, length, true, vec_len, vec_capacity};
+ghost use Rattle.std.specs.Prelude.{◌≡◌, ◌+◌, ◌<◌, ◌≤◌, ◌∷◌, ◌++◌, [], IfOk, OnOk, OnErr, length, true, false, vec_len, vec_capacity};
 ghost use Rattle.lrs_image.specs.Change.{apply, CanMake};
 ghost use Rattle.lrs_image.specs.KeeperCalls.{OnlyStages};
 ghost use Rattle.lrs_machine.specs.Stop.StoppedRuns.{IsAccepted};
 ghost use Rattle.lrs_report_answers.specs.Tally.RunningCounts.{IsCounted};
 ghost use Rattle.lrs_inventory.specs.Plans.{change_of, TellsGround};
-ghost use Rattle.lrs_desk.specs.Desk.{records_of};
+ghost use Rattle.lrs_desk.specs.Desk.{StopsBy, records_of};
 ghost use Rattle.lrs_desk.specs.Group.{DoesNext, IsGroup};
 
 use crate::decision::{Decision, decide};
@@ -16,6 +16,15 @@ use lrs_inventory::{Inventory, Plan};
 use lrs_machine::{Answer, Command, Edit, Key, Limits};
 use lrs_report_answers::Counts;
 use std::alloc::{AllocError, Global};
+
+/// What `Desk::act_on_first` did of the commands that it was given.
+#[derive(Drop)]
+pub struct FirstAnswers {
+    /// The answers to the first of them, in order.
+    pub answers: Vec<Answer>,
+    /// Whether memory ran out for the next one.
+    pub ran_out: bool,
+}
 
 /// Does the first of these commands, in order: one at least, and no more after one that is refused. What they change is
 /// staged. Where memory runs out for another one than the first, those before it are done.
@@ -29,12 +38,14 @@ pub fn do_first<K: Keeper>(
     counts: &mut Counts,
     keeper: &mut K,
     commands: &[(Key, Command)],
-) -> Result<Vec<Answer>, AllocError>
+) -> Result<FirstAnswers, AllocError>
     requires some { 1 ≤ length commands.now }
     requires staged { K.staged keeper.old ≡ [] }
     requires counted { IsCounted inventory.old counts.old }
-    ensures does { IfOk result (λ given. IsGroup limits.now (records_of commands.now)
-        inventory.old inventory.new given.items (K.staged keeper.new)) }
+    ensures does { IfOk result (λ done. IsGroup limits.now (records_of commands.now)
+        inventory.old inventory.new done.answers.items (K.staged keeper.new)) }
+    ensures stops { IfOk result (λ done. StopsBy done.ran_out (length commands.now)
+        done.answers.items) }
     ensures memory { OnErr result (inventory.new ≡ inventory.old) }
     ensures not_staged { OnErr result (K.staged keeper.new ≡ []) }
     ensures rest { OnlyStages K.Holder keeper.old keeper.new }
@@ -47,16 +58,27 @@ pub fn do_first<K: Keeper>(
             alloc, limits, inventory, counts, keeper, key, command, &mut given,
         ) {
             Ok(true) => {}
-            Ok(false) => return Ok(given),
+            Ok(false) => {
+                return Ok(FirstAnswers {
+                    answers: given,
+                    ran_out: false,
+                });
+            }
             Err(AllocError) => {
                 if given.is_empty() {
                     return Err(AllocError);
                 }
-                return Ok(given);
+                return Ok(FirstAnswers {
+                    answers: given,
+                    ran_out: true,
+                });
             }
         }
     }
-    Ok(given)
+    Ok(FirstAnswers {
+        answers: given,
+        ran_out: false,
+    })
 }
 
 // Does one more command, and says whether another may follow: none does behind a refusal. Lack of memory
@@ -100,9 +122,13 @@ fn do_next<K: Keeper>(
 
 // Whether an answer says that the command is an edit.
 fn is_accepted(answer: &Answer) -> bool
-    ensures { result ≡ true → IsAccepted answer.now }
+    ensures accepted { result ≡ true → IsAccepted answer.now }
+    ensures refused { result ≡ false → IsAccepted answer.now → ⊥ }
 {
-    matches!(answer, Answer::Done(_) | Answer::Again(_))
+    match answer {
+        Answer::Done(_) | Answer::Again(_) => true,
+        Answer::Refused(_) => false,
+    }
 }
 
 // Puts an element at the end of a vector that has room for it.

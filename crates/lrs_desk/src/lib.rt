@@ -10,6 +10,7 @@ mod group;
 
 pub use desk::{Desk, OpenFault};
 pub use files::Files;
+pub use group::FirstAnswers;
 pub use lrs_image::{Batches, Change, CommitFault, Difference, Holder, Keeper, LoadFault, Staged};
 pub use lrs_image_plain::Plain;
 pub use lrs_inventory::Inventory;

@@ -1,7 +1,7 @@
-use Rattle.std.proofs.Common.{◌≤◌, length, arith, rules, ◌≡◌, ap, sym, List, ◌∙◌}
+use Rattle.std.proofs.Common.{◌≤◌, length, arith, rules, ◌≡◌, ap, inl, inr, sym, List, ◌∙◌}
 use Rattle.lrs_machine.specs.declared.answer.Answer.{Answer}
 use Rattle.lrs_image.proofs.Staging.{stages_none, stages_more}
-use Rattle.lrs_desk.proofs.Grouping.{goes_on_from, none_staged, none_changed, group_ends, group_grows, group_stays, whole_group}
+use Rattle.lrs_desk.proofs.Grouping.{all_given, as_many_given, ends_refused, goes_on_from, none_staged, none_changed, group_ends, group_grows, group_stays, whole_group}
 use Rattle.lrs_desk.proofs.group.do_first.Goals as goal
 
 pub loop-key-init : goal.loop-key-init
@@ -25,6 +25,9 @@ returns-in-Ok-false g c = record {
   does = group_ends c.args.commands.now c.args.limits.now c.loop-key.key-index c.loop-key-item.result c.args.inventory.now c.loop-key.inventory c.do_next.new.inventory
       c.loop-key.given.items c.do_next.new.given.items (g.K.Keeper.staged c.loop-key.keeper) (g.K.Keeper.staged c.do_next.new.keeper) c.in-Ok-false.field-0
       c.loop-key-test.true c.loop-key-item.is c.loop-key.invariant.so_far c.in-Ok-false.ensures.does;
+  stops = inr (ends_refused c.args.commands.now c.args.limits.now c.loop-key.key-index c.loop-key-item.result c.args.inventory.now c.loop-key.inventory c.do_next.new.inventory
+      c.loop-key.given.items c.do_next.new.given.items (g.K.Keeper.staged c.loop-key.keeper) (g.K.Keeper.staged c.do_next.new.keeper) c.in-Ok-false.field-0
+      c.loop-key-test.true c.loop-key-item.is c.loop-key.invariant.so_far c.in-Ok-false.ensures.does c.in-Ok-false.field-0-test);
   memory = tt;
   not_staged = tt;
   rest = stages_more g.K.Holder c.args.keeper.now c.loop-key.keeper c.do_next.new.keeper c.loop-key.invariant.rest c.do_next.ensures.rest;
@@ -39,6 +42,10 @@ returns-in-Err g c =
       does = group_stays c.args.commands.now c.args.limits.now c.loop-key.key-index c.args.inventory.now c.loop-key.inventory c.do_next.new.inventory
           c.loop-key.given.items c.do_next.new.given.items (g.K.Keeper.staged c.loop-key.keeper) (g.K.Keeper.staged c.do_next.new.keeper)
           c.loop-key.invariant.so_far (omega (arith, within)) some c.in-Err.ensures.memory c.in-Err.ensures.given c.in-Err.ensures.not_staged;
+      stops =
+          let many = ap (λ (xs : List Answer). length xs) c.in-Err.ensures.given
+          ∙ as_many_given c.args.commands.now c.args.limits.now c.loop-key.key-index c.args.inventory.now c.loop-key.inventory c.loop-key.given.items (g.K.Keeper.staged c.loop-key.keeper) c.loop-key.invariant.so_far (omega (arith, within)) in
+          omega (arith, within, many);
       memory = tt;
       not_staged = tt;
       rest = stages_more g.K.Holder c.args.keeper.now c.loop-key.keeper c.do_next.new.keeper c.loop-key.invariant.rest c.do_next.ensures.rest;
@@ -53,6 +60,7 @@ returns-then-is_empty g c =
     let none : length c.loop-key.given.items ≡ 0 = ap (λ (xs : List Answer). length xs) (sym c.in-Err.ensures.given) ∙ empty in
     record {
       does = tt;
+      stops = tt;
       memory = c.in-Err.ensures.memory ∙ none_changed c.args.commands.now c.args.limits.now c.loop-key.key-index c.args.inventory.now c.loop-key.inventory c.loop-key.given.items (g.K.Keeper.staged c.loop-key.keeper)
           c.loop-key.invariant.so_far few none;
       not_staged = c.in-Err.ensures.not_staged ∙ none_staged c.args.commands.now c.args.limits.now c.loop-key.key-index c.args.inventory.now c.loop-key.inventory c.loop-key.given.items (g.K.Keeper.staged c.loop-key.keeper)
@@ -65,6 +73,8 @@ pub returns : goal.returns
 returns g c = record {
   does = whole_group c.args.commands.now c.args.limits.now c.loop-key.key-index c.args.inventory.now c.loop-key.inventory c.loop-key.given.items (g.K.Keeper.staged c.loop-key.keeper)
       c.loop-key.invariant.so_far c.loop-key-test.false c.requires.some;
+  stops = inl (all_given c.args.commands.now c.args.limits.now c.loop-key.key-index c.args.inventory.now c.loop-key.inventory c.loop-key.given.items (g.K.Keeper.staged c.loop-key.keeper)
+      c.loop-key.invariant.so_far c.loop-key-test.false);
   memory = tt;
   not_staged = tt;
   rest = c.loop-key.invariant.rest;

@@ -30,6 +30,7 @@ returns-in_ok-answer-in-Make g c =
           kept = made.ensures.staged;
         });
         accepted = λ yes. subst IsAccepted (sym answer) tt;
+        refused = λ no. absurd (cc no);
       };
       memory = tt;
       given = tt;

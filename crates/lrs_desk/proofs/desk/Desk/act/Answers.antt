@@ -1,6 +1,7 @@
-use Rattle.std.proofs.Common.{◌≡◌, true, false, [], ◌∷◌, Err, IfOk, OnOk, OnErr, ap, sym, subst, rules, ◌∙◌}
+use Rattle.std.proofs.Common.{◌≡◌, ℕ, ◌+◌, true, false, [], ◌∷◌, length, Err, IfOk, OnOk, OnErr, ap, sym, subst, rules, ◌∙◌}
 use Rattle.std.proofs.lemmas.Bool.{false≢true}
 use Rattle.lrs_machine.specs.declared.answer.Answer.{Answer}
+use Rattle.lrs_machine.specs.declared.answer.Answer.TheVariants.{Done}
 use Rattle.lrs_machine.specs.declared.image.Edit.{Edit}
 use Rattle.lrs_machine.specs.Image.{state_of}
 use Rattle.lrs_machine.specs.Machine.{Outcome, step}
@@ -12,8 +13,8 @@ use Rattle.lrs_desk.specs.Desk.{IsOldOrNext}
 use Rattle.lrs_desk.specs.DeskView.{DeskView}
 use Rattle.lrs_machine.specs.declared.stops.fault.Fault.TheVariants.{Keep}
 use Rattle.lrs_desk.proofs.Deciding.{old_or_next}
-use Rattle.lrs_desk.proofs.Grouping.{kept_after}
-use Rattle.lrs_desk.proofs.Made.{if_ok, on_ok, on_any, kept_then, found_then}
+use Rattle.lrs_desk.proofs.Grouping.{held, kept_after}
+use Rattle.lrs_desk.proofs.Made.{if_ok, on_ok, on_any, kept_then}
 use Rattle.lrs_desk.proofs.desk.Desk.act.Goals as goal
 
 pub returns-after-matches : goal.returns-after-matches
@@ -37,7 +38,11 @@ returns-after-matches g c =
       image = subst (λ (v : DeskView g.row.K.Denot). OnOk made (state_of new.inventory ≡ (step v.limits key command (state_of v.image)).state)) seen
           (on_ok made (λ e. ap state_of e ∙ ap (λ (e : Edit). state_of (apply (change_of e plan) i)) same ∙ sym (ap (λ (o : Outcome). o.state) d.outcome)) is.ok);
       content = content;
-      found = found_then may new.inventory (g.K.Holder.is_clean new.keeper) (g.K.Holder.is_open new.keeper) made content is.keeps.reached (g.met.K.Keeper.finds new.keeper);
+      found = λ shut clean.
+          let no_failure : made ≡ Err Keep → ⊥ = λ e. (let failed : c.match-matches.self ≡ true = search rules in false≢true (sym shut ∙ failed)) in
+          held may new.inventory
+          (kept_after (g.K.Holder.may_hold c.self.inside.keeper) may i new.inventory _ made (c.self.invariant.kept c.if-self.false) is.ok is.keeps.ok is.err is.keeps.none is.only no_failure)
+          (g.met.K.Keeper.finds new.keeper clean (is.keeps.reached no_failure clean));
       memory = λ e. record {
         image = subst (λ r. OnErr r (new.inventory ≡ i)) e is.err ∙ ap (λ (v : DeskView g.row.K.Denot). v.image) seen;
         content = λ found h. subst (λ (v : DeskView g.row.K.Denot). g.K.Holder.may_hold v.keeper found) seen (is.keeps.none e found h);
@@ -45,6 +50,7 @@ returns-after-matches g c =
         is_ahead = ap (λ (v : DeskView g.row.K.Denot). v.is_ahead) seen;
       };
       keep = λ e. record {
+        done = subst (λ (v : DeskView g.row.K.Denot). (number : ℕ) × ((step v.limits key command (state_of v.image)).answer ≡ Done number)) seen (length i.edits + 1, ap (λ (o : Outcome). o.answer) d.outcome);
         image = subst (λ r. OnErr r (new.inventory ≡ i)) e is.err ∙ ap (λ (v : DeskView g.row.K.Denot). v.image) seen;
         content = λ found h.
             subst (λ (v : DeskView g.row.K.Denot). IsOldOrNext v.limits (record { key = key; command = command } ∷ []) v.image found) seen
@@ -55,6 +61,7 @@ returns-after-matches g c =
       };
       reopen = (λ e. absurd (is.only e), λ yes. absurd (false≢true (sym c.if-self.false ∙ ap (λ (v : DeskView g.row.K.Denot). v.must_reopen) seen ∙ yes)));
       stays = λ e. absurd (is.only e);
+      same = λ e. absurd (is.only e);
       limits = ap (λ (v : DeskView g.row.K.Denot). v.limits) seen;
       «open» = search rules;
       ahead = on_any made (ap (λ (v : DeskView g.row.K.Denot). v.is_ahead) seen);

@@ -16,9 +16,9 @@ returns-in-Err-clause-keep g c = λ e.
     let new : DeskView g.row.K.Denot = record { image = c.do_first.new.inventory; limits = d.limits; must_reopen = true; is_ahead = true; keeper = c.commit.new.self } in
     let holds = g.K.Holder.may_hold in
     subst (λ (v : DeskView g.row.K.Denot). BreaksAmid holds g.K.Holder.failures records v new) c.self.view_is
-    (breaks_amid holds g.K.Holder.failures records old new c.in_ok-given.given.items staged c.in_ok-given.ensures.does (c.self.invariant.kept c.if-self.false)
+    (breaks_amid holds g.K.Holder.failures records old new c.in_ok-given.given.answers.items staged c.in_ok-given.ensures.does (c.self.invariant.kept c.if-self.false)
     (λ x h. as_before (holds d.keeper) (holds mid) (λ y held. (c.do_first.ensures.rest.content y).0 held) staged x (failed_either (holds c.commit.new.self) (holds mid) (IsChangedBy (holds mid) staged) c.commit.result c.in-Err.field-0 c.in-Err.is c.commit.ensures.keeps.memory c.commit.ensures.keeps.store x h))
-    refl refl (subst (λ (n : ℕ). HasRisen n (g.K.Holder.failures c.commit.new.self)) c.do_first.ensures.rest.quiet c.in-Err.ensures.cause))
+    (λ same. c.if-edits.false (c.edits.ensures ∙ same ∙ sym c.edits-edits.ensures)) refl refl (subst (λ (n : ℕ). HasRisen n (g.K.Holder.failures c.commit.new.self)) c.do_first.ensures.rest.quiet c.in-Err.ensures.cause))
 
 -- Where no edit was made, nothing is staged, and the image is as it was.
 pub invariant_of-self-then-edits : goal.invariant_of-self-then-edits
@@ -47,7 +47,7 @@ returns-then-edits-clause-content g c =
     same_only (g.K.Holder.may_hold mid) i j (g.K.Keeper.staged mid) m none (still_only (g.K.Holder.may_hold c.self.inside.keeper) (g.K.Holder.may_hold mid) (λ x h. (c.do_first.ensures.rest.content x).0 h) i (c.self.invariant.kept c.if-self.false))
 
 pub returns-then-edits-clause-found : goal.returns-then-edits-clause-found
-returns-then-edits-clause-found g c = λ clean.
+returns-then-edits-clause-found g c = λ shut clean.
     let i = c.self.inside.inventory in
     let j = c.do_first.new.inventory in
     let mid = c.do_first.new.keeper in
