@@ -1,5 +1,6 @@
 //! What is asked of a desk. Each question is answered from the image, and changes nothing. Once a commit of
-//! several commands has failed none is: the image may then be ahead of all that is ever kept.
+//! several commands has failed none is: the image may then be ahead of all that is ever kept. `at` alone ends with any
+//! failed commit.
 
 ghost use Rattle.std.specs.Prelude.{◌≡◌, ◌↔◌, IsTrue, Err, false};
 ghost use Rattle.lrs_report_answers.specs.Answers.{IsAt};
@@ -21,13 +22,13 @@ impl<K: Keeper> Desk<K> {
     ///
     /// # Errors
     ///
-    /// `MustReopen` once a commit of several commands has failed; then `Missing(Route)`, and then what the position expression is refused for.
+    /// `MustReopen` once any commit has failed; then `Missing(Route)`, and then what the position expression is refused for.
     pub fn at(&self, route: &RouteName, expression: Expr) -> Result<AtAnswer, AskFault>
-        ensures reopen { (result ≡ Err AskFault.MustReopen) ↔ IsTrue self.now.is_ahead }
-        ensures answer { self.now.is_ahead ≡ false
+        ensures reopen { (result ≡ Err AskFault.MustReopen) ↔ IsTrue self.now.must_reopen }
+        ensures answer { self.now.must_reopen ≡ false
             → IsAt (state_of self.now.image) route.now expression result }
     {
-        if self.is_ahead() {
+        if self.must_reopen() {
             return Err(AskFault::MustReopen);
         }
         lrs_report_answers::at(self.alloc(), self.inventory().kept(), route, expression)
