@@ -23,7 +23,7 @@ use Rattle.lrs_machine.specs.declared.question.RowsWanted.{RowsWanted}
 use Rattle.lrs_report_lists.specs.Lines.{asset_numbered, link_side_text, reason_text}
 use Rattle.lrs_report_lists.specs.Measures.{measure_text}
 use Rattle.lrs_report_lists.specs.WantedRows.{is_of_edit, is_of_route, is_wanted}
-use Rattle.lrs_sheet_log.specs.Log.{edits_from, log_text}
+use Rattle.lrs_sheet_log.specs.Log.{edits_from, edits_under, log_text}
 use Rattle.lrs_web_requests.specs.Text.{Answer}
 use Rattle.lrs_web_replies.specs.JsonParts.{list, whole, with}
 use Rattle.lrs_web_replies.specs.Replies.{json_answer, sheet_answer}
@@ -127,7 +127,7 @@ rows_data w i = named_list (codes "rows") (flat_map (rows_of w i.assets) (filter
 abbrev pub all_gone_data : Option ℕ → Image → Data
 all_gone_data edit i = named_list (codes "gone") (map (gone_data i.assets) (filter (is_of_edit edit) i.gone))
 
--- The table: the reply with each list. That with the log of one key, which no query asks for, is empty.
+-- The table: the reply with each list.
 abbrev pub listing_answer : Image → Listing → Answer
 listing_answer i listing.Routes = json_answer 200 (routes_data i)
 listing_answer i listing.Links = json_answer 200 (links_data i)
@@ -137,4 +137,4 @@ listing_answer i listing.Marks = json_answer 200 (marks_data i)
 listing_answer i (listing.Rows wanted) = json_answer 200 (rows_data wanted i)
 listing_answer i (listing.Gone edit) = json_answer 200 (all_gone_data edit i)
 listing_answer i (listing.Log from) = sheet_answer (log_text (edits_from from (state_of i).done))
-listing_answer i (listing.LogOfKey key) = sheet_answer []
+listing_answer i (listing.LogOfKey key) = sheet_answer (log_text (edits_under key (state_of i).done))

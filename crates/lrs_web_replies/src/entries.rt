@@ -112,9 +112,10 @@ fn measure_at(route: &Route, chainage: u64) -> Scalar
 
 /// What routes have, each shown with its route.
 pub(crate) trait OnRoute: Sized {
-    ghost use Rattle.std.specs.Prelude.{◌≡◌, List, IfOk};
+    ghost use Rattle.std.specs.Prelude.{◌≡◌, List, IfOk, false};
     ghost use Rattle.serde_json.specs.Data.{Data};
     ghost use Rattle.serde_json.specs.View.{view};
+    ghost use Rattle.serde_json.specs.Written.{has_float};
     ghost use Rattle.lrs_position.specs.declared.route.Route.{Route};
 
     ghost on: { Route → List Self };
@@ -127,14 +128,20 @@ pub(crate) trait OnRoute: Sized {
 
     fn value_on(&self, alloc: Global, route: &Route) -> Result<Value, AllocError>
         ensures { IfOk result (λ value. view value ≡ shown route.now self.now) };
+
+    /// All numbers in it are whole.
+    ghost has_no_float: { (route : Route) (one : Self) → has_float (shown route one) ≡ false };
 }
 
 impl OnRoute for Referent {
+    ghost use Rattle.std.specs.Prelude.{refl};
     ghost use Rattle.lrs_web_replies.specs.Listings.{ref_data};
 
     ghost on = { λ route. route.refs };
 
     ghost shown = { ref_data };
+
+    ghost has_no_float = { λ route one. refl };
 
     fn all_on(route: &Route) -> &[Referent] {
         route.refs.as_slice()
@@ -154,11 +161,14 @@ impl OnRoute for Referent {
 }
 
 impl OnRoute for Mark {
+    ghost use Rattle.std.specs.Prelude.{refl};
     ghost use Rattle.lrs_web_replies.specs.Listings.{mark_data};
 
     ghost on = { λ route. route.marks };
 
     ghost shown = { mark_data };
+
+    ghost has_no_float = { λ route one. refl };
 
     fn all_on(route: &Route) -> &[Mark] {
         route.marks.list()

@@ -1,15 +1,15 @@
 //! Lists of an inventory as replies.
 
-ghost use Rattle.std.specs.Prelude.{◌≡◌, ◌++◌, [], IfOk, OnOk, filter, true, false};
+ghost use Rattle.std.specs.Prelude.{◌≡◌, ◌++◌, [], IfOk, OnOk, filter, true};
 ghost use Rattle.std.specs.List.{flat_map};
 ghost use Rattle.std.specs.Option.{option_map, option_map_or};
-ghost use Rattle.serde_json.specs.Written.{compact_text, has_float};
+ghost use Rattle.serde_json.specs.Written.{compact_text};
 ghost use Rattle.lrs_measure.specs.Lists.{each_two};
 ghost use Rattle.lrs_machine.specs.Image.{state_of};
 ghost use Rattle.lrs_machine.specs.Sound.{IsSound, asset_before, route_before};
 ghost use Rattle.lrs_image.specs.OpenLists.{image_of};
 ghost use Rattle.lrs_report_lists.specs.WantedRows.{is_of_route};
-ghost use Rattle.lrs_sheet_log.specs.Log.{edits_from, log_text};
+ghost use Rattle.lrs_sheet_log.specs.Log.{edits_from, edits_under, log_text};
 ghost use Rattle.lrs_web_requests.specs.Text.{answer_of};
 ghost use Rattle.lrs_web_replies.specs.Listings.{all_gone_data, all_of, classes_data, gone_data, links_data, listing_answer, marks_data, named_list, refs_data, routes_data, row_data, rows_data};
 ghost use Rattle.lrs_web_replies.specs.Parts.{gone_part, item_text, row_part, rows_part};
@@ -21,11 +21,11 @@ use lrs_element::Mark;
 use lrs_events::{Asset, Gone, Span};
 use lrs_image::ImageLists;
 use lrs_inventory::Inventory;
-use lrs_machine::{Listing, RouteRow, RowsWanted};
+use lrs_machine::{Key, Listing, RouteRow, RowsWanted};
 use lrs_ordered::Chunked;
 use lrs_position::{Referent, Route};
 use lrs_report_lists::{asset_numbered, is_of_edit, is_wanted};
-use lrs_sheet_log::write_log;
+use lrs_sheet_log::{write_log, write_log_of_key};
 use lrs_web_requests::Response;
 use std::alloc::{AllocError, Global};
 
@@ -64,7 +64,6 @@ fn add_on<T: OnRoute>(
     route: &Route,
     one: &T,
 ) -> Result<(), AllocError>
-    requires whole { has_float (T.shown route.now one.now) ≡ false }
     ensures { OnOk result (bytes.new.items
         ≡ bytes.old.items ++ item_text (T.shown route.now one.now)) }
 {
@@ -78,7 +77,6 @@ fn add_each_on<T: OnRoute>(
     route: &Route,
     list: &[T],
 ) -> Result<(), AllocError>
-    requires whole { (one : T) → has_float (T.shown route.now one) ≡ false }
     ensures { OnOk result (bytes.new.items
         ≡ bytes.old.items ++ flat_map (λ one. item_text (T.shown route.now one)) list.now) }
 {
@@ -93,7 +91,6 @@ fn add_all_of<T: OnRoute>(
     bytes: &mut Vec<u8>,
     route_row: &RouteRow,
 ) -> Result<(), AllocError>
-    requires whole { (route : _) (one : T) → has_float (T.shown route one) ≡ false }
     ensures { OnOk result (bytes.new.items
         ≡ bytes.old.items ++ flat_map item_text (all_of T.on T.shown route_row.now)) }
 {
@@ -106,7 +103,6 @@ fn add_all<T: OnRoute>(
     bytes: &mut Vec<u8>,
     routes: &Chunked<RouteRow>,
 ) -> Result<(), AllocError>
-    requires whole { (route : _) (one : T) → has_float (T.shown route one) ≡ false }
     ensures { OnOk result (bytes.new.items ≡ bytes.old.items
         ++ flat_map (λ e. flat_map item_text (all_of T.on T.shown e)) routes.now.rows) }
 {
@@ -118,7 +114,6 @@ fn add_all<T: OnRoute>(
 
 /// The list of all that the routes have, under its name.
 fn all_json<T: OnRoute>(alloc: Global, kept: &ImageLists, name: &str) -> Result<Vec<u8>, AllocError>
-    requires whole { (route : _) (one : T) → has_float (T.shown route one) ≡ false }
     ensures { IfOk result (λ bytes. bytes.items ≡ compact_text
         (named_list name.now (flat_map (all_of T.on T.shown) (image_of kept.now).routes))) }
 {
@@ -353,6 +348,17 @@ fn log_bytes(alloc: Global, kept: &ImageLists, from: u64) -> Result<Vec<u8>, All
     }
 }
 
+fn log_bytes_of_key(alloc: Global, kept: &ImageLists, key: &Key) -> Result<Vec<u8>, AllocError>
+    ensures { IfOk result (λ bytes. bytes.items
+        ≡ log_text (edits_under key.now (state_of (image_of kept.now)).done)) }
+{
+    let mut bytes = Vec::new(alloc);
+    match write_log_of_key(&mut bytes, kept, key) {
+        Ok(_) => Ok(bytes),
+        Err(_) => Err(AllocError),
+    }
+}
+
 // ---- replies
 
 /// The reply with a list of an inventory: as JSON, and the log as an edit sheet.
@@ -376,7 +382,6 @@ pub(crate) fn listing_reply(
         Listing::Rows(wanted) => Ok(found_reply(rows_json(alloc, kept, wanted)?)),
         Listing::Gone(edit) => Ok(found_reply(gone_json(alloc, kept, *edit)?)),
         Listing::Log(from) => Ok(sheet_reply(log_bytes(alloc, kept, *from)?)),
-        // No query asks for the log of one key.
-        Listing::LogOfKey(_) => Ok(sheet_reply(Vec::new(alloc))),
+        Listing::LogOfKey(key) => Ok(sheet_reply(log_bytes_of_key(alloc, kept, key)?)),
     }
 }
