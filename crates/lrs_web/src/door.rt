@@ -1,6 +1,6 @@
 //! Connections are served one after another.
 
-ghost use Rattle.std.specs.Prelude.{ℕ, ◌≡◌, ◌+◌, IfOk, IsOkAnd, OnErr, IsTrue};
+ghost use Rattle.std.specs.Prelude.{ℕ, ◌≡◌, ◌+◌, IfOk, IsOkAnd, OnOk, OnErr, IsTrue};
 ghost use Rattle.lrs_web_requests.specs.Routes.{rows};
 ghost use Rattle.lrs_web.specs.Door.{HasRisen};
 ghost use Rattle.lrs_web.specs.Visits.{IsCut, IsFull, Visited};
@@ -135,6 +135,7 @@ pub fn serve_all<D: Door, K: Keeper>(
     ensures visited { IfOk result (λ served. Visited K.may_hold D.Reader.remaining
         D.Writer.contents (D.waiting door.old) (D.waiting door.new) (D.ended door.old)
         (D.ended door.new) served.full served.cut desk.old desk.new) }
+    ensures steady { OnOk result (D.failures door.new ≡ D.failures door.old) }
     ensures failed { OnErr result (HasRisen (D.failures door.old) (D.failures door.new)) }
     ensures stopped { OnErr result ((full : ℕ) × (cut : ℕ)
         × Visited K.may_hold D.Reader.remaining D.Writer.contents (D.waiting door.old)
