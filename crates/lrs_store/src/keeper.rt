@@ -130,6 +130,18 @@ impl<S: Alter, R: ReadImage + Drop> Tables<S, R> {
         let _live = self.conn.schema();
     }
 
+    /// Gives the store up, as where its files are no longer at their path. What an opening may find stays as it is; the
+    /// count of failures rises, and each load and each write fails from now on.
+    pub fn give_up(&mut self)
+        ensures given_up { self.new.is_broken ≡ true }
+        ensures risen { HasRisen self.old.failures self.new.failures }
+        ensures kept { self.new.conn ≡ self.old.conn }
+        ensures loaded { self.new.is_loaded ≡ self.old.is_loaded }
+    {
+        self.is_broken = true;
+        self.failures = self.failures.saturating_add(1);
+    }
+
     /// Gives the connection back, with no call of the store.
     pub fn into_connection(self) -> Connection<S>
         ensures { result ≡ self.conn }
