@@ -1,10 +1,15 @@
-//! The program `roadlrs`, over files of the system.
+//! The program `roadlrs`, over files and sheets of the system.
 #![tactic(auto)]
 
 use lrs_cli_files::StoredFiles;
-use lrs_cli_jobs::run;
+use lrs_cli_jobs::{SystemSheets, run};
+use sqlite::Unknown;
 use std::process::ExitCode;
 
 fn main(rt: HostRuntime) -> ExitCode {
-    run(&rt, &StoredFiles)
+    run(
+        &rt,
+        StoredFiles::new(Unknown, Unknown),
+        &SystemSheets::new(&rt),
+    )
 }

@@ -4,27 +4,27 @@
 use lrs_desk::{Batches, Change, CommitFault, Holder, Image, Keeper, LoadFault, Staged};
 use lrs_store::Tables;
 use lrs_store_image::Reader;
-use sqlite::{FileFrom, FileStore, Unknown};
+use sqlite::{FileFrom, FileStore, Start};
 use std::alloc::{AllocError, Global};
 
 /// Keeps an inventory in the tables of a file and its log, at a path of the system.
-pub struct FileTables {
-    pub(crate) tables: Tables<FileStore<FileFrom<Unknown>>, Reader>,
+pub struct FileTables<S: Start> {
+    pub(crate) tables: Tables<FileStore<FileFrom<S>>, Reader>,
 }
 
-impl Holder for FileTables {
-    ghost may_hold = { λ k. ⟦<Tables<FileStore<FileFrom<Unknown>>, Reader> as Holder>⟧.may_hold k.tables };
+impl<S: Start> Holder for FileTables<S> {
+    ghost may_hold = { λ k. ⟦<Tables<FileStore<FileFrom<S>>, Reader> as Holder>⟧.may_hold k.tables };
 
-    ghost is_clean = { λ k. ⟦<Tables<FileStore<FileFrom<Unknown>>, Reader> as Holder>⟧.is_clean k.tables };
+    ghost is_clean = { λ k. ⟦<Tables<FileStore<FileFrom<S>>, Reader> as Holder>⟧.is_clean k.tables };
 
-    ghost is_open = { λ k. ⟦<Tables<FileStore<FileFrom<Unknown>>, Reader> as Holder>⟧.is_open k.tables };
+    ghost is_open = { λ k. ⟦<Tables<FileStore<FileFrom<S>>, Reader> as Holder>⟧.is_open k.tables };
 
-    ghost is_loaded = { λ k. ⟦<Tables<FileStore<FileFrom<Unknown>>, Reader> as Holder>⟧.is_loaded k.tables };
+    ghost is_loaded = { λ k. ⟦<Tables<FileStore<FileFrom<S>>, Reader> as Holder>⟧.is_loaded k.tables };
 
-    ghost failures = { λ k. ⟦<Tables<FileStore<FileFrom<Unknown>>, Reader> as Holder>⟧.failures k.tables };
+    ghost failures = { λ k. ⟦<Tables<FileStore<FileFrom<S>>, Reader> as Holder>⟧.failures k.tables };
 }
 
-impl Batches for FileTables {
+impl<S: Start> Batches for FileTables<S> {
     ghost use Rattle.std.specs.Prelude.{refl};
     ghost use Rattle.std.proofs.Common.{inl};
     ghost use Rattle.sqlite_store.specs.Laws.{stays_at};
@@ -42,29 +42,29 @@ impl Batches for FileTables {
 }
 
 /// The same, with the changes that are staged for its tables.
-pub struct FileKeeper {
-    pub(crate) inner: Staged<FileTables>,
+pub struct FileKeeper<S: Start> {
+    pub(crate) inner: Staged<FileTables<S>>,
 }
 
-impl Holder for FileKeeper {
-    ghost may_hold = { λ k. ⟦<Staged<FileTables> as Holder>⟧.may_hold k.inner };
+impl<S: Start> Holder for FileKeeper<S> {
+    ghost may_hold = { λ k. ⟦<Staged<FileTables<S>> as Holder>⟧.may_hold k.inner };
 
-    ghost is_clean = { λ k. ⟦<Staged<FileTables> as Holder>⟧.is_clean k.inner };
+    ghost is_clean = { λ k. ⟦<Staged<FileTables<S>> as Holder>⟧.is_clean k.inner };
 
-    ghost is_open = { λ k. ⟦<Staged<FileTables> as Holder>⟧.is_open k.inner };
+    ghost is_open = { λ k. ⟦<Staged<FileTables<S>> as Holder>⟧.is_open k.inner };
 
-    ghost is_loaded = { λ k. ⟦<Staged<FileTables> as Holder>⟧.is_loaded k.inner };
+    ghost is_loaded = { λ k. ⟦<Staged<FileTables<S>> as Holder>⟧.is_loaded k.inner };
 
-    ghost failures = { λ k. ⟦<Staged<FileTables> as Holder>⟧.failures k.inner };
+    ghost failures = { λ k. ⟦<Staged<FileTables<S>> as Holder>⟧.failures k.inner };
 }
 
-impl Keeper for FileKeeper {
+impl<S: Start> Keeper for FileKeeper<S> {
     ghost use Rattle.std.specs.Prelude.{refl};
     ghost use Rattle.std.proofs.Common.{inl};
     ghost use Rattle.sqlite_store.specs.Laws.{stays_at};
     ghost use Rattle.lrs_store.specs.TableKeeper.HeldImages.{finds_left};
 
-    ghost staged = { λ k. ⟦<Staged<FileTables> as Keeper>⟧.staged k.inner };
+    ghost staged = { λ k. ⟦<Staged<FileTables<S>> as Keeper>⟧.staged k.inner };
 
     fn load(&mut self, alloc: Global) -> Result<Image, LoadFault> {
         self.inner.load(alloc)

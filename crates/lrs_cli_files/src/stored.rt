@@ -11,7 +11,7 @@ use lrs_store_image::Reader;
 use lrs_store_questions::{Questions, open_for_questions};
 use lrs_store_tables::StoreFault;
 use lrs_store_tables::stored_rows::ReadImage;
-use sqlite::{FileFrom, FileStore, Start, Unknown};
+use sqlite::{FileFrom, FileStore, Start};
 use sqlite_disk::Disk;
 use std::rt::HostRuntime;
 
@@ -21,31 +21,47 @@ fn close_tables<D: Disk + Drop, R: ReadImage + Drop>(tables: Tables<FileStore<D>
 }
 
 /// The tables of a keeper.
-fn tables_of(keeper: FileKeeper) -> Tables<FileStore<FileFrom<Unknown>>, Reader> {
+fn tables_of<S: Start>(keeper: FileKeeper<S>) -> Tables<FileStore<FileFrom<S>>, Reader> {
     let FileKeeper { inner } = keeper;
     let FileTables { tables } = inner.into_inner();
     tables
 }
 
-/// Opens a file and its log at a path of the system.
-pub struct StoredFiles;
+/// Opens a file and its log at a path of the system. `S` stands for what they hold when they are opened for all work, and
+/// `T` when they are opened for questions: each is used once, and what is proved holds for every such content.
+#[derive(Drop)]
+pub struct StoredFiles<S: Start, T: Start> {
+    start: S,
+    seen: Option<T>,
+}
 
-impl Files for StoredFiles {
-    type Kept = FileKeeper;
+impl<S: Start, T: Start> StoredFiles<S, T> {
+    /// Files that have not been opened.
+    pub fn new(start: S, seen: T) -> StoredFiles<S, T> {
+        StoredFiles {
+            start,
+            seen: Some(seen),
+        }
+    }
+}
 
-    type Seen = Questions<FileStore<FileFrom<Unknown>>>;
+impl<S: Start, T: Start> Files for StoredFiles<S, T> {
+    type Kept = FileKeeper<S>;
 
-    ghost has_opened = { IsContentOf (image_at ⟦<Unknown as Start>⟧) };
+    type Seen = Questions<FileStore<FileFrom<T>>>;
 
-    ghost has_read = { HasRead (image_at ⟦<Unknown as Start>⟧) };
+    ghost has_opened = { IsContentOf (image_at S.Start) };
+
+    ghost has_read = { HasRead (image_at T.Start) };
 
     fn open(
-        &self,
+        self,
         rt: &HostRuntime,
         path: &str,
         new_has_sums: bool,
     ) -> Result<Self::Kept, OpenFault> {
-        match open_file(rt, path, new_has_sums, Unknown, Reader) {
+        let StoredFiles { start, seen: _ } = self;
+        match open_file(rt, path, new_has_sums, start, Reader) {
             Ok(tables) => Ok(FileKeeper {
                 inner: Staged::over(FileTables { tables }, rt.alloc()),
             }),
@@ -53,8 +69,15 @@ impl Files for StoredFiles {
         }
     }
 
-    fn open_to_look(&self, rt: &HostRuntime, path: &str) -> Result<Option<Self::Seen>, OpenFault> {
-        match open_for_questions(rt, path, Unknown) {
+    fn open_to_look(
+        &mut self,
+        rt: &HostRuntime,
+        path: &str,
+    ) -> Result<Option<Self::Seen>, OpenFault> {
+        let Some(seen) = self.seen.take() else {
+            return Ok(None);
+        };
+        match open_for_questions(rt, path, seen) {
             Ok(keeper) => Ok(Some(keeper)),
             Err(refusal) => match refusal.into_fault() {
                 StoreFault::Memory => Err(OpenFault::Memory),
@@ -63,15 +86,15 @@ impl Files for StoredFiles {
         }
     }
 
-    fn close(&self, keeper: Self::Kept) {
+    fn close(keeper: Self::Kept) {
         close_tables(tables_of(keeper));
     }
 
-    fn discard(&self, keeper: Self::Kept) {
+    fn discard(keeper: Self::Kept) {
         discard_files(tables_of(keeper));
     }
 
-    fn discard_seen(&self, keeper: Self::Seen) {
+    fn discard_seen(keeper: Self::Seen) {
         keeper.discard();
     }
 }

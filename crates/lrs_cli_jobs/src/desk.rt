@@ -18,7 +18,7 @@ use std::rt::HostRuntime;
 /// opened for another cause.
 pub(crate) fn open_desk<F: Files>(
     rt: &HostRuntime,
-    files: &F,
+    files: F,
     path: &str,
     new_has_sums: bool,
 ) -> Result<Desk<F::Kept>, OpenFault>
@@ -36,7 +36,7 @@ pub(crate) fn open_desk<F: Files>(
     match Desk::open(keeper, Limits::full(), rt.alloc()) {
         Ok(desk) => Ok(desk),
         Err((fault, keeper)) => {
-            files.discard(keeper);
+            F::discard(keeper);
             Err(fault)
         }
     }
@@ -49,7 +49,7 @@ pub(crate) fn open_desk<F: Files>(
 /// `Unsound` with the first unsound table of the file, and `Memory` if memory runs out.
 pub(crate) fn open_desk_to_look<F: Files>(
     rt: &HostRuntime,
-    files: &F,
+    files: &mut F,
     path: &str,
 ) -> Result<Option<Desk<F::Seen>>, OpenFault>
     ensures kept { IfOk result (λ found. IfSome found (λ desk.
@@ -68,7 +68,7 @@ pub(crate) fn open_desk_to_look<F: Files>(
     match Desk::open(keeper, Limits::full(), rt.alloc()) {
         Ok(desk) => Ok(Some(desk)),
         Err((fault, keeper)) => {
-            files.discard_seen(keeper);
+            F::discard_seen(keeper);
             match fault {
                 OpenFault::Keep => Ok(None),
                 fault => Err(fault),

@@ -2,36 +2,40 @@
 
 ghost use Rattle.std.specs.Prelude.{◌≡◌, ◌↔◌, false, true, IsTrue};
 ghost use Rattle.lrs_desk.specs.DeskView.{DeskView};
-ghost use Rattle.lrs_cli_jobs.specs.Jobs.{EndsInFile, EndsInMemory, EndsJob, EndsTask, EndsWithLog, HasWorked, Looks};
+ghost use Rattle.lrs_cli_jobs.specs.Jobs.{EndsInFile, EndsInMemory, EndsJob, EndsPage, EndsTask, EndsWithLog, HasWorked, Looks, printed};
 
 use crate::desk::{open_desk, open_desk_to_look};
 use crate::service::do_service;
-use lrs_cli_sheets::{Pace, ProgressDisplay, do_audit, do_check, do_questions, do_records};
+use lrs_cli_sheets::{
+    Pace, ProgressDisplay, Sheets, World, do_audit, do_check, do_questions, do_records,
+};
 use lrs_cli_tasks::{
-    Ending, ProgramFault, Task, Work, do_page, do_question, is_in_memory, open_in_memory, task_of,
+    Ending, ProgramFault, Task, Work, answer, do_page, is_in_memory, open_in_memory, task_of,
 };
 use lrs_cli_words::{Job, QuestionFault, new_has_sums};
 use lrs_desk::{Desk, Files, Holder, Keeper, Plain};
 use lrs_machine::Question;
 use std::alloc::Global;
 use std::fs;
+use std::io::Write;
 use std::net::Net;
-use std::rt::Runtime;
+use std::rt::{HostRuntime, Runtime};
 
 // A file of so many bytes takes about a second to open.
 const LONG_BYTES: u64 = 4_000_000;
 
-// Does what a job asks for at a desk, whatever keeps the inventory, and prints what is said to it. The replies to a
+// Does what a job asks for at a desk, whatever keeps the inventory, and writes what is said to it. The replies to a
 // sheet in a file go out at the pace `of_file`.
-fn do_work<R: Runtime<A = Global> + Net, K: Keeper>(
-    rt: &R,
+fn do_work<R: Runtime<A = Global> + Net, S: Sheets, W: Write + Drop, K: Keeper>(
+    world: &World<'_, R, S>,
     desk: &mut Desk<K>,
     work: Work<'_>,
     of_file: Pace,
-    shown: ProgressDisplay,
-) -> Ending
+    to: W,
+) -> Result<(W, Ending), ProgramFault>
     requires behind { desk.old.is_ahead ≡ false }
-    ensures { HasWorked K.may_hold work.entry desk.old desk.new result }
+    ensures { HasWorked K.may_hold (S.text_of world.now.sheets.now) work.entry
+        desk.old desk.new (W.contents to) (printed W.contents result) }
 {
     match work {
         Work::Sheet {
@@ -39,30 +43,31 @@ fn do_work<R: Runtime<A = Global> + Net, K: Keeper>(
             from,
             resumes,
             all,
-        } => do_records(rt, desk, kind, resumes, all, from, of_file, shown),
-        Work::Check { kind, from } => do_check(rt, desk, kind, from),
-        Work::Question(question) => do_question(rt, desk, question),
-        Work::Questions { from } => do_questions(rt, desk, from),
-        Work::Audit => do_audit(rt, desk),
-        Work::Service(service) => do_service(rt, desk, service),
+        } => do_records(world, desk, kind, resumes, all, from, of_file, to),
+        Work::Check { kind, from } => do_check(world, desk, kind, from, to),
+        Work::Question(question) => answer(world.rt.alloc(), desk, question, to),
+        Work::Questions { from } => do_questions(world, desk, from, to),
+        Work::Audit => do_audit(world.rt, desk, to),
+        Work::Service(service) => Ok((to, do_service(world.rt, desk, service))),
     }
 }
 
 // Does work in a fresh inventory in memory.
-fn do_in_memory<R: Runtime<A = Global> + Net>(
-    rt: &R,
+fn do_in_memory<R: Runtime<A = Global> + Net, S: Sheets, W: Write + Drop>(
+    world: &World<'_, R, S>,
     work: Work<'_>,
-    shown: ProgressDisplay,
-) -> Ending
-    ensures { EndsInMemory ⟦<Plain as Holder>⟧.may_hold work.entry result }
+    to: W,
+) -> Result<(W, Ending), ProgramFault>
+    ensures { EndsInMemory (S.text_of world.now.sheets.now) ⟦<Plain as Holder>⟧.may_hold
+        work.entry (W.contents to) (printed W.contents result) }
 {
-    match open_in_memory(rt.alloc()) {
+    match open_in_memory(world.rt.alloc()) {
         Ok(mut desk) => {
-            let ending = do_work(rt, &mut desk, work, Pace::InPieces, shown);
+            let given = do_work(world, &mut desk, work, Pace::InPieces, to);
             desk.into_keeper().discard();
-            ending
+            given
         }
-        Err(fault) => Ending::Stopped(fault),
+        Err(fault) => Ok((to, Ending::Stopped(fault))),
     }
 }
 
@@ -92,54 +97,61 @@ fn cleared<T>(rt: &HostRuntime, was_said: bool, opened: T) -> T
 }
 
 // Does work at a desk, whose keeper is then closed.
-fn do_and_close<F: Files>(
-    rt: &HostRuntime,
-    files: &F,
+fn do_and_close<F: Files, S: Sheets, W: Write + Drop>(
+    world: &World<'_, HostRuntime, S>,
     mut desk: Desk<F::Kept>,
     work: Work<'_>,
-    shown: ProgressDisplay,
-) -> Ending
+    to: W,
+) -> Result<(W, Ending), ProgramFault>
     requires behind { desk.is_ahead ≡ false }
-    ensures { (after : DeskView F.Kept) × HasWorked F.Kept.may_hold work.entry desk after result }
+    ensures { (after : DeskView F.Kept) × HasWorked F.Kept.may_hold
+        (S.text_of world.now.sheets.now) work.entry desk after
+        (W.contents to) (printed W.contents result) }
 {
-    let ending = do_work(rt, &mut desk, work, Pace::InGroups, shown);
-    files.close(desk.into_keeper());
-    ending
+    let given = do_work(world, &mut desk, work, Pace::InGroups, to);
+    F::close(desk.into_keeper());
+    given
 }
 
 // Does work in the inventory of a file, which is closed afterwards. Where it cannot be closed, its log still has
 // what was committed. Each reply goes out once its record is committed.
-fn do_with_log<F: Files>(
-    rt: &HostRuntime,
-    files: &F,
+fn do_with_log<F: Files, S: Sheets, W: Write + Drop>(
+    world: &World<'_, HostRuntime, S>,
+    files: F,
     path: &str,
     new_has_sums: bool,
     work: Work<'_>,
-    shown: ProgressDisplay,
-) -> Ending
-    ensures { EndsWithLog F.Kept.may_hold F.has_opened work.entry result }
+    to: W,
+) -> Result<(W, Ending), ProgramFault>
+    ensures { EndsWithLog (S.text_of world.now.sheets.now) F.Kept.may_hold F.has_opened
+        work.entry (W.contents to) (printed W.contents result) }
 {
-    let was_said = tell_opening(rt, path, shown);
-    match cleared(rt, was_said, open_desk(rt, files, path, new_has_sums)) {
-        Ok(desk) => do_and_close(rt, files, desk, work, shown),
-        Err(fault) => Ending::Stopped(ProgramFault::from(fault)),
+    let was_said = tell_opening(world.rt, path, world.shown);
+    match cleared(
+        world.rt,
+        was_said,
+        open_desk(world.rt, files, path, new_has_sums),
+    ) {
+        Ok(desk) => do_and_close::<F, S, W>(world, desk, work, to),
+        Err(fault) => Ok((to, Ending::Stopped(ProgramFault::from(fault)))),
     }
 }
 
 // Answers what only looks, at a desk that is then dropped with what it keeps.
-fn look<F: Files>(
-    rt: &HostRuntime,
-    files: &F,
+fn look<F: Files, S: Sheets, W: Write + Drop>(
+    world: &World<'_, HostRuntime, S>,
     mut desk: Desk<F::Seen>,
     work: Work<'_>,
-    shown: ProgressDisplay,
-) -> Ending
+    to: W,
+) -> Result<(W, Ending), ProgramFault>
     requires behind { desk.is_ahead ≡ false }
-    ensures { (after : DeskView F.Seen) × HasWorked F.Seen.may_hold work.entry desk after result }
+    ensures { (after : DeskView F.Seen) × HasWorked F.Seen.may_hold
+        (S.text_of world.now.sheets.now) work.entry desk after
+        (W.contents to) (printed W.contents result) }
 {
-    let ending = do_work(rt, &mut desk, work, Pace::InGroups, shown);
-    files.discard_seen(desk.into_keeper());
-    ending
+    let given = do_work(world, &mut desk, work, Pace::InGroups, to);
+    F::discard_seen(desk.into_keeper());
+    given
 }
 
 // Whether a file with a byte is at a path. One that is missing or empty may stand beside a log with commits, which must
@@ -160,28 +172,34 @@ fn looks(work: &Work<'_>) -> bool
 
 // Does work in the inventory of a file. What only looks is answered without a connection, where that opening takes the
 // file.
-fn do_in_file<F: Files>(
-    rt: &HostRuntime,
-    files: &F,
+fn do_in_file<F: Files, S: Sheets, W: Write + Drop>(
+    world: &World<'_, HostRuntime, S>,
+    files: F,
     path: &str,
     new_has_sums: bool,
     work: Work<'_>,
-    shown: ProgressDisplay,
-) -> Ending
+    to: W,
+) -> Result<(W, Ending), ProgramFault>
     ensures { EndsInFile ⟦<Plain as Holder>⟧.may_hold F.Kept.may_hold F.Seen.may_hold
-        F.has_opened F.has_read work.entry result }
+        F.has_opened F.has_read (S.text_of world.now.sheets.now)
+        work.entry (W.contents to) (printed W.contents result) }
 {
     if !looks(&work) {
-        return do_with_log(rt, files, path, new_has_sums, work, shown);
+        return do_with_log(world, files, path, new_has_sums, work, to);
     }
-    if !has_bytes(rt, path) {
-        return do_with_log(rt, files, path, new_has_sums, work, shown);
+    if !has_bytes(world.rt, path) {
+        return do_with_log(world, files, path, new_has_sums, work, to);
     }
-    let was_said = tell_opening(rt, path, shown);
-    match cleared(rt, was_said, open_desk_to_look(rt, files, path)) {
-        Ok(Some(desk)) => look(rt, files, desk, work, shown),
-        Ok(None) => do_with_log(rt, files, path, new_has_sums, work, shown),
-        Err(fault) => Ending::Stopped(ProgramFault::from(fault)),
+    let mut files = files;
+    let was_said = tell_opening(world.rt, path, world.shown);
+    match cleared(
+        world.rt,
+        was_said,
+        open_desk_to_look(world.rt, &mut files, path),
+    ) {
+        Ok(Some(desk)) => look::<F, S, W>(world, desk, work, to),
+        Ok(None) => do_with_log(world, files, path, new_has_sums, work, to),
+        Err(fault) => Ok((to, Ending::Stopped(ProgramFault::from(fault)))),
     }
 }
 
@@ -216,65 +234,83 @@ fn needs_file(work: &Work<'_>) -> bool {
 
 // Does work in the inventory of a file. A check of none looks at a fresh inventory, and what needs one has none. Nor is one
 // made where it has to be there.
-fn do_at_path<F: Files>(
-    rt: &HostRuntime,
-    files: &F,
+fn do_at_path<F: Files, S: Sheets, W: Write + Drop>(
+    world: &World<'_, HostRuntime, S>,
+    files: F,
     path: &str,
     new_has_sums: bool,
     existing: bool,
     work: Work<'_>,
-    shown: ProgressDisplay,
-) -> Ending
+    to: W,
+) -> Result<(W, Ending), ProgramFault>
     ensures { EndsInFile ⟦<Plain as Holder>⟧.may_hold F.Kept.may_hold F.Seen.may_hold
-        F.has_opened F.has_read work.entry result }
+        F.has_opened F.has_read (S.text_of world.now.sheets.now)
+        work.entry (W.contents to) (printed W.contents result) }
 {
-    if (existing || needs_file(&work)) && is_new(rt, path) {
-        return Ending::Stopped(ProgramFault::Open);
+    if (existing || needs_file(&work)) && is_new(world.rt, path) {
+        return Ok((to, Ending::Stopped(ProgramFault::Open)));
     }
-    if matches!(work, Work::Check { .. }) && is_new(rt, path) {
-        return do_in_memory(rt, work, shown);
+    if matches!(work, Work::Check { .. }) && is_new(world.rt, path) {
+        return do_in_memory(world, work, to);
     }
-    do_in_file(rt, files, path, new_has_sums, work, shown)
+    do_in_file(world, files, path, new_has_sums, work, to)
+}
+
+// Writes the page, which says nothing to the writer.
+fn give_page<R: Runtime<A = Global>, W: Write + Drop>(
+    rt: &R,
+    dir: &str,
+    to: W,
+) -> Result<(W, Ending), ProgramFault>
+    ensures { EndsPage (W.contents to) (printed W.contents result) }
+{
+    Ok((to, do_page(rt, dir)))
 }
 
 // Does a task: writes the page, or works in the inventory that it names.
-fn do_task<F: Files>(
-    rt: &HostRuntime,
-    files: &F,
+fn do_task<F: Files, S: Sheets, W: Write + Drop>(
+    world: &World<'_, HostRuntime, S>,
+    files: F,
     task: Task<'_>,
     new_has_sums: bool,
     existing: bool,
-    shown: ProgressDisplay,
-) -> Ending
+    to: W,
+) -> Result<(W, Ending), ProgramFault>
     ensures { EndsTask ⟦<Plain as Holder>⟧.may_hold F.Kept.may_hold F.Seen.may_hold
-        F.has_opened F.has_read task.entry result }
+        F.has_opened F.has_read (S.text_of world.now.sheets.now)
+        task.entry (W.contents to) (printed W.contents result) }
 {
     match task {
-        Task::Page { dir } => do_page(rt, dir),
+        Task::Page { dir } => give_page(world.rt, dir, to),
         Task::Inventory { db, work } => {
             if is_in_memory(db) {
-                return do_in_memory(rt, work, shown);
+                return do_in_memory(world, work, to);
             }
-            do_at_path(rt, files, db, new_has_sums, existing, work, shown)
+            do_at_path(world, files, db, new_has_sums, existing, work, to)
         }
     }
 }
 
-/// Reads the words of a job, and then opens its inventory, if it has one. With `existing` no file is made. The page and
-/// all answers are written to standard output, replies to the sheets of a file in groups.
-pub fn do_job<F: Files>(
-    rt: &HostRuntime,
-    files: &F,
+/// Reads the words of a job, and then opens its inventory, if it has one. With `existing` no file is made. All answers are
+/// written to `to`, replies to the sheets of a file in groups, and it is given back with how the program ends; the page
+/// goes into its folder.
+///
+/// # Errors
+/// `Write` where not all was written, and `Memory` where there is none for what is to be written.
+pub fn do_job<F: Files, S: Sheets, W: Write + Drop>(
+    world: &World<'_, HostRuntime, S>,
+    files: F,
     job: &Job<'_>,
     existing: bool,
-    shown: ProgressDisplay,
-) -> Ending
+    to: W,
+) -> Result<(W, Ending), ProgramFault>
     ensures { EndsJob ⟦<Plain as Holder>⟧.may_hold F.Kept.may_hold F.Seen.may_hold
-        F.has_opened F.has_read job.now result }
+        F.has_opened F.has_read (S.text_of world.now.sheets.now)
+        job.now (W.contents to) (printed W.contents result) }
 {
-    match task_of(rt.alloc(), job) {
-        Ok(task) => do_task(rt, files, task, new_has_sums(job), existing, shown),
-        Err(QuestionFault::Unreadable(word)) => Ending::Unreadable(word),
-        Err(QuestionFault::Memory) => Ending::Stopped(ProgramFault::Memory),
+    match task_of(world.rt.alloc(), job) {
+        Ok(task) => do_task(world, files, task, new_has_sums(job), existing, to),
+        Err(QuestionFault::Unreadable(word)) => Ok((to, Ending::Unreadable(word))),
+        Err(QuestionFault::Memory) => Ok((to, Ending::Stopped(ProgramFault::Memory))),
     }
 }

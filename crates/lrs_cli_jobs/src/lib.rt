@@ -8,4 +8,5 @@ mod program;
 mod service;
 
 pub use jobs::do_job;
+pub use lrs_cli_sheets::{Sheets, SystemSheets, World};
 pub use program::run;

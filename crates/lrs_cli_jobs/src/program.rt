@@ -3,25 +3,28 @@
 use crate::explanation::explain;
 use crate::jobs::do_job;
 use lrs_cli_help::{Options, hint_at, is_reader_gone, keep_job_words, options_of, verb_help};
-use lrs_cli_sheets::ProgressDisplay;
+use lrs_cli_sheets::{ProgressDisplay, Sheets, World};
 use lrs_cli_tasks::{Ending, ProgramFault, status};
 use lrs_cli_words::{Job, WordsFault, job_of};
 use lrs_desk::Files;
-use std::env;
 use std::io::{ErrorKind, IsTerminal};
 use std::process::ExitCode;
 use std::rt::HostRuntime;
+use std::{env, io};
 
-// Does a job. Says what was given for a word that cannot be read, and where that is asked for explains the fault that
-// stops it.
-fn do_explained<F: Files>(
-    rt: &HostRuntime,
-    files: &F,
+// Does a job, and prints its answers. Says what was given for a word that cannot be read, and where that is asked for
+// explains the fault that stops it.
+fn do_explained<F: Files, S: Sheets>(
+    world: &World<'_, HostRuntime, S>,
+    files: F,
     job: &Job<'_>,
     options: Options,
-    shown: ProgressDisplay,
 ) -> Ending {
-    let ending = do_job(rt, files, job, options.existing, shown);
+    let rt = world.rt;
+    let ending = match do_job(world, files, job, options.existing, io::writer(rt)) {
+        Ok((_, ending)) => ending,
+        Err(fault) => Ending::Stopped(fault),
+    };
     match ending {
         Ending::Unreadable(word) => hint_at(rt, job, word),
         Ending::Stopped(fault) if options.explain => explain(rt, job, fault),
@@ -67,23 +70,24 @@ fn answer_words(rt: &HostRuntime, fault: WordsFault) -> Ending {
 }
 
 // Does the job that the words say; or shows the help on a verb.
-fn do_given<F: Files>(
-    rt: &HostRuntime,
-    files: &F,
+fn do_given<F: Files, S: Sheets>(
+    world: &World<'_, HostRuntime, S>,
+    files: F,
     words: &[&str],
     options: Options,
-    shown: ProgressDisplay,
 ) -> Ending {
+    let rt = world.rt;
     if let Some(text) = help_on_verb(words) {
         return show_text(rt, text);
     }
     match job_of(rt.alloc(), words) {
-        Ok(job) => do_explained(rt, files, &job, options, shown),
+        Ok(job) => do_explained(world, files, &job, options),
         Err(fault) => answer_words(rt, fault),
     }
 }
 
-fn do_words<F: Files>(rt: &HostRuntime, files: &F, shown: ProgressDisplay) -> Ending {
+fn do_words<F: Files, S: Sheets>(world: &World<'_, HostRuntime, S>, files: F) -> Ending {
+    let rt = world.rt;
     let given = match env::args(rt) {
         Ok(given) => given,
         Err(error) if error.kind() == ErrorKind::OutOfMemory => {
@@ -105,7 +109,7 @@ fn do_words<F: Files>(rt: &HostRuntime, files: &F, shown: ProgressDisplay) -> En
     }
     let options = options_of(words.as_slice());
     keep_job_words(&mut words);
-    do_given(rt, files, words.as_slice(), options, shown)
+    do_given(world, files, words.as_slice(), options)
 }
 
 // Says how the program ends. Where the reader of its output has gone, as `head` goes, the status alone tells.
@@ -116,14 +120,15 @@ fn tell_ending(rt: &HostRuntime, ending: Ending) {
     let _ = eprint!(rt; "{ending}");
 }
 
-/// Does what the words of the program say, over what opens its files, and gives its status.
-pub fn run<F: Files>(rt: &HostRuntime, files: &F) -> ExitCode {
+/// Does what the words of the program say, over what opens its files and gives its sheets, and gives its status.
+pub fn run<F: Files, S: Sheets>(rt: &HostRuntime, files: F, sheets: &S) -> ExitCode {
     let shown = match (rt.stderr().is_terminal(), rt.stdout().is_terminal()) {
         (false, _) => ProgressDisplay::Nowhere,
         (true, false) => ProgressDisplay::Alone,
         (true, true) => ProgressDisplay::BetweenLines,
     };
-    let ending = do_words(rt, files, shown);
+    let world = World { rt, sheets, shown };
+    let ending = do_words(&world, files);
     tell_ending(rt, ending);
     ExitCode::from(status(ending))
 }

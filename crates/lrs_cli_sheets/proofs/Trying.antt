@@ -1,5 +1,5 @@
 -- A sheet that is tried at a copy of an inventory, and one that is done on the empty inventory.
-use Rattle.std.proofs.Common.{◌≡◌, ◌⊎◌, ℕ, List, Option, Some, None, Result, Ok, Err, IfOk, IfErr, refl, subst, sym, inl, inr}
+use Rattle.std.proofs.Common.{◌≡◌, ◌∙◌, ◌⊎◌, ℕ, Bool, List, Option, Some, None, Result, Ok, Err, IfOk, IfErr, IfSome, refl, subst, inl, inr}
 use Rattle.lrs_measure.specs.Limits.{most_assets, most_edits, most_routes}
 use Rattle.lrs_machine.specs.Image.{nothing, state_of}
 use Rattle.lrs_machine.specs.declared.image.Image.{Image}
@@ -13,11 +13,10 @@ use Rattle.lrs_sheet_log.specs.Differences.{IsFirstDifference}
 use Rattle.lrs_cli_tasks.specs.declared.fault.ProgramFault.{ProgramFault}
 use Rattle.lrs_cli_tasks.specs.declared.fault.ProgramFault.TheVariants as program
 use Rattle.lrs_cli_sheets.specs.declared.sheets.Pace.TheVariants.{InPieces}
-use Rattle.lrs_cli_tasks.specs.declared.endings.Ending.{Ending}
-use Rattle.lrs_cli_tasks.specs.declared.endings.Ending.TheVariants.{Done, Stopped}
-use Rattle.lrs_cli_sheets.specs.Audits.{EndsAudit, IsAudited, IsMadeBy, log_of}
+use Rattle.lrs_cli_sheets.specs.Audits.{IsAudited, IsMadeBy, log_of}
 use Rattle.lrs_cli_sheets.specs.Sheets.{HasRun, IsUnwritten}
-use Rattle.lrs_cli_sheets.specs.Trials.{IsFull, IsTried}
+use Rattle.lrs_cli_tasks.specs.declared.endings.Ending.{Ending}
+use Rattle.lrs_cli_sheets.specs.Trials.{EndsAll, IsFull, IsTried}
 
 -- what is run in pieces at a desk with full limits over this image is tried
 tried : {K : Type 0} (holds : K → Result Image Table → Type 0) (kind : Sheet) (passed : ℕ) (text : List ℕ) (image : Image) (before after : DeskView K) (old new : Option (List ℕ)) (outcome : Result Tally SheetFault)
@@ -78,7 +77,42 @@ compared i made left right text differs same_left same_right same_log is first =
 pub audited_as : (i j : Image) (d e : Option Table) → i ≡ j → d ≡ e → IsAudited i d → IsAudited j e
 audited_as i j d e same equal is = subst (λ (x : Option Table). IsAudited j x) equal (subst (λ (x : Image). IsAudited x d) same is)
 
--- an inventory is as its log says, and that is said, or the writer failed
-pub sound_ends : (i : Image) (ending : Ending) → IsAudited i None → (ending ≡ Done) ⊎ (ending ≡ Stopped program.Write) → EndsAudit i ending
-sound_ends i ending is (inl same) = subst (λ (e : Ending). EndsAudit i e) (sym same) is
-sound_ends i ending is (inr same) = subst (λ (e : Ending). EndsAudit i e) (sym same) (inr refl)
+-- a text that is another's, where that is known
+pub is_known : (text read : List ℕ) (known : Option (List ℕ)) → IfSome known (λ t. read ≡ t) → text ≡ read → IfSome known (λ t. text ≡ t)
+is_known text read None is same = tt
+is_known text read (Some t) is same = same ∙ is
+
+module _ {K : Type 0} (holds : K → Result Image Table → Type 0) (kind : Sheet) (resumes : Bool) (read : List ℕ) (known : Option (List ℕ)) (is : IfSome known (λ t. read ≡ t)) (before after : DeskView K) (old : Option (List ℕ)) where
+  all_known : (new : Option (List ℕ)) (ending : Ending) → EndsAll holds kind resumes (Some read) before after old new ending → EndsAll holds kind resumes known before after old new ending
+  all_known new ending (inl done) = inl (record {
+    text = done.text;
+    is_text = is_known done.text read known is done.is_text;
+    passed = done.passed;
+    are_passed = done.are_passed;
+    replies = done.replies;
+    outcome = done.outcome;
+    tried = done.tried;
+    accepted = done.accepted;
+    pace = done.pace;
+    ran = done.ran;
+  })
+  all_known new ending (inr (inl refused)) = inr (inl (record {
+    text = refused.text;
+    is_text = is_known refused.text read known is refused.is_text;
+    passed = refused.passed;
+    are_passed = refused.are_passed;
+    replies = refused.replies;
+    outcome = refused.outcome;
+    tried = refused.tried;
+    refused = refused.refused;
+    same = refused.same;
+    unwritten = refused.unwritten;
+    ends = refused.ends;
+  }))
+  all_known new ending (inr (inr untried)) = inr (inr untried)
+
+  -- a sheet whose bytes were read is done as the sheet of its name
+  pub all_as_named : {W : Type 0} (contents : W → Option (List ℕ)) (result : Result (W × Ending) ProgramFault) → IfOk result (λ done. EndsAll holds kind resumes (Some read) before after old (contents done.0) done.1)
+      → IfOk result (λ done. EndsAll holds kind resumes known before after old (contents done.0) done.1)
+  all_as_named contents (Ok done) ends = all_known (contents done.0) done.1 ends
+  all_as_named contents (Err fault) ends = tt

@@ -1,5 +1,6 @@
 -- Whether an inventory is what its log makes, and how the program ends with that.
-use Rattle.std.specs.Prelude.{◌≡◌, ◌⊎◌, Option, Some, None, Result}
+use Rattle.std.specs.Prelude.{◌≡◌, ◌++◌, ◌∷◌, [], codes, Option, Some, None, Result}
+use Rattle.std.specs.Io.KnownBytes.{Appends}
 use Rattle.lrs_machine.specs.Image.{nothing, state_of}
 use Rattle.lrs_machine.specs.Lines.{Text}
 use Rattle.lrs_machine.specs.declared.answer.Limits.{Limits}
@@ -13,7 +14,7 @@ use Rattle.lrs_sheet.specs.declared.reply.Tally.{Tally}
 use Rattle.lrs_cli_sheets.specs.Trials.{IsFull}
 use Rattle.lrs_cli_tasks.specs.declared.endings.Ending.{Ending}
 use Rattle.lrs_cli_tasks.specs.declared.endings.Ending.TheVariants.{Differs, Done, Stopped}
-use Rattle.lrs_cli_tasks.specs.declared.fault.ProgramFault.TheVariants.{Memory, Write}
+use Rattle.lrs_cli_tasks.specs.declared.fault.ProgramFault.TheVariants.{Memory}
 
 -- the whole log of an inventory
 abbrev pub log_of : Image → Text
@@ -34,9 +35,13 @@ pub record IsAudited (i : Image) (differs : Option Table) : Type 0 where
   pub is_made : IsMadeBy (log_of i) made
   pub compared : IsFirstDifference i made differs
 
--- An audit ends as done where the log of the inventory makes the inventory, and else names the first table that differs.
-abbrev pub EndsAudit : Image → Ending → Type 0
-EndsAudit i Done = IsAudited i None
-EndsAudit i (Differs table) = IsAudited i (Some table)
-EndsAudit i (Stopped fault) = (fault ≡ Memory) ⊎ (fault ≡ Write)
-EndsAudit i other = ⊥
+-- what an audit says where nothing differs
+abbrev pub sound_line : Text
+sound_line = codes "sound, and as its log says" ++ 10 ∷ []
+
+-- An audit ends as done, and says so, where the log of the inventory makes the inventory, and else names the first table that differs.
+abbrev pub EndsAudit : Image → Option Text → Option Text → Ending → Type 0
+EndsAudit i old new Done = IsAudited i None × Appends old new sound_line
+EndsAudit i old new (Differs table) = IsAudited i (Some table) × (new ≡ old)
+EndsAudit i old new (Stopped fault) = (fault ≡ Memory) × (new ≡ old)
+EndsAudit i old new other = ⊥

@@ -1,5 +1,5 @@
 -- What a sheet's run gives, what it leaves of the desk, and how the program ends with it.
-use Rattle.std.specs.Prelude.{◌≡◌, ◌==◌, ◌⊎◌, ℕ, Bool, true, false, List, Option, Some, Result, Ok, Err, IfErr, IfOk, if◌then◌else◌}
+use Rattle.std.specs.Prelude.{◌≡◌, ◌==◌, ◌⊎◌, ℕ, Bool, true, false, List, Option, Some, Result, Ok, Err, IfErr, IfOk, IfSome, if◌then◌else◌}
 use Rattle.lrs_machine.specs.Image.{state_of}
 use Rattle.lrs_machine.specs.Lines.{Text}
 use Rattle.lrs_machine.specs.declared.image.Image.{Image}
@@ -59,35 +59,33 @@ module _ {K : Type 0} (holds : K → Result Image Table → Type 0) where
     pub unwritten : IfErr result (IsUnwritten before after)
     pub left : IsAfterCommands before.limits (state_of before.image) (state_of after.image)
 
-  -- A sheet was run, whatever it was written to, and the program ends as it ended.
-  pub record EndsAsRun (way : Way) (known : Option Text) (before after : DeskView K) (ending : Ending) : Type 0 where
-    pub old : Option Text
-    pub new : Option Text
+  -- A sheet was run, its replies were written, and the program ends as it ended.
+  pub record EndsAsRun (way : Way) (known : Option Text) (before after : DeskView K) (old new : Option Text) (ending : Ending) : Type 0 where
     pub outcome : Result Tally SheetFault
     pub ran : HasRun way known before after old new outcome
     pub ends : ending ≡ ending_of_sheet outcome
 
-  -- ... or it has no replies, or not all
-  abbrev pub EndsRun : Way → Option Text → DeskView K → DeskView K → Ending → Type 0
-  EndsRun way known before after ending =
-      EndsAsRun way known before after ending ⊎ ((fault : ProgramFault) × (ending ≡ Stopped fault) × IsUnwritten before after fault)
+  -- the sheet is not opened: nothing is done, and nothing is written
+  abbrev pub IsUnopened : DeskView K → DeskView K → Option Text → Option Text → Ending → Type 0
+  IsUnopened before after old new ending = (after ≡ before) × (new ≡ old) × ((ending ≡ Stopped Read) ⊎ (ending ≡ Stopped Memory))
 
-  -- the sheet is not opened, and nothing is done
-  abbrev pub IsUnopened : DeskView K → DeskView K → Ending → Type 0
-  IsUnopened before after ending = (after ≡ before) × ((ending ≡ Stopped Read) ⊎ (ending ≡ Stopped Memory))
+  -- it is not known behind which record the sheet goes on: nothing is done, and nothing is written
+  abbrev pub IsUnsearched : DeskView K → DeskView K → Option Text → Option Text → Ending → Type 0
+  IsUnsearched before after old new ending = (after ≡ before) × (new ≡ old) × ((fault : SheetFault) × (ending ≡ Stopped (fault_of_sheet fault)))
 
-  -- it is not known behind which record the sheet goes on, and nothing is done
-  abbrev pub IsUnsearched : DeskView K → DeskView K → Ending → Type 0
-  IsUnsearched before after ending = (after ≡ before) × ((fault : SheetFault) × (ending ≡ Stopped (fault_of_sheet fault)))
+  -- The sheet was run behind the records that are decided: those of its text.
+  pub record EndsResumed (kind : Sheet) (known : Option Text) (before after : DeskView K) (old new : Option Text) (ending : Ending) : Type 0 where
+    pub text : Text
+    pub is_text : IfSome known (λ t. text ≡ t)
+    pub decided : Decided
+    pub front : List (List Text)
+    pub is_decided : IsDecidedBy kind (state_of before.image) text decided front
+    pub pace : Pace
+    pub ran : EndsAsRun (record { kind = kind; pace = pace; passed = decided.records }) (Some text) before after old new ending
 
-  -- the sheet was run behind the records that are decided
-  abbrev pub EndsResumed : Sheet → DeskView K → DeskView K → Ending → Type 0
-  EndsResumed kind before after ending =
-      (pace : Pace) × (text : Text) × (d : Decided) × (front : List (List Text)) × IsDecidedBy kind (state_of before.image) text d front
-      × EndsRun (record { kind = kind; pace = pace; passed = d.records }) (Some text) before after ending
-
-  -- How the program ends with a sheet of a name, done as a whole or gone on with: what is read under it, no contract can say.
-  abbrev pub EndsSheet : Sheet → Bool → DeskView K → DeskView K → Ending → Type 0
-  EndsSheet kind false before after ending =
-      ((pace : Pace) × (known : Option Text) × EndsRun (record { kind = kind; pace = pace; passed = 0 }) known before after ending) ⊎ IsUnopened before after ending
-  EndsSheet kind true before after ending = EndsResumed kind before after ending ⊎ (IsUnsearched before after ending ⊎ IsUnopened before after ending)
+  -- How the program ends with a sheet of this text, where it is known: done as a whole, or gone on with.
+  abbrev pub EndsSheet : Sheet → Bool → Option Text → DeskView K → DeskView K → Option Text → Option Text → Ending → Type 0
+  EndsSheet kind false known before after old new ending =
+      ((pace : Pace) × EndsAsRun (record { kind = kind; pace = pace; passed = 0 }) known before after old new ending) ⊎ IsUnopened before after old new ending
+  EndsSheet kind true known before after old new ending =
+      EndsResumed kind known before after old new ending ⊎ (IsUnsearched before after old new ending ⊎ IsUnopened before after old new ending)

@@ -1,5 +1,6 @@
 -- What a sheet is answered that is tried at a copy of an inventory, and how the program ends with it.
-use Rattle.std.specs.Prelude.{◌≡◌, ◌⊎◌, ℕ, Bool, true, false, List, length, Option, Some, Result, Ok, Err}
+use Rattle.std.specs.Prelude.{◌≡◌, ◌⊎◌, ℕ, Bool, true, false, List, [], length, IfSome, Option, Some, Result, Ok, Err}
+use Rattle.std.specs.Io.KnownBytes.{Appends}
 use Rattle.lrs_measure.specs.Limits.{most_assets, most_edits, most_routes}
 use Rattle.lrs_machine.specs.Image.{state_of}
 use Rattle.lrs_machine.specs.Lines.{Text}
@@ -17,11 +18,11 @@ use Rattle.lrs_sheet.specs.declared.reply.Tally.{Tally}
 use Rattle.lrs_sheet.specs.declared.resumption.Decided.{Decided}
 use Rattle.lrs_cli_tasks.specs.declared.endings.Ending.{Ending}
 use Rattle.lrs_cli_tasks.specs.declared.endings.Ending.TheVariants.{Stopped}
-use Rattle.lrs_cli_tasks.specs.declared.fault.ProgramFault.TheVariants.{Memory, Read, Write}
+use Rattle.lrs_cli_tasks.specs.declared.fault.ProgramFault.TheVariants.{Memory, Read}
 use Rattle.lrs_cli_sheets.specs.declared.sheets.Pace.{Pace}
 use Rattle.lrs_cli_sheets.specs.declared.sheets.Way.{Way}
 use Rattle.lrs_cli_tasks.specs.Faults.{fault_of_sheet}
-use Rattle.lrs_cli_sheets.specs.Sheets.{EndsRun, EndsSheet, ending_of_sheet}
+use Rattle.lrs_cli_sheets.specs.Sheets.{EndsAsRun, EndsSheet, ending_of_sheet}
 
 -- an inventory may hold as much as one may hold at all
 pub record IsFull (limits : Limits) : Type 0 where
@@ -36,18 +37,27 @@ pub record IsTried (kind : Sheet) (passed : ℕ) (text : Text) (image : Image) (
   pub after : State
   pub runs : (front : List (List Text)) → StandAtFront text front → length front ≡ passed → RunsBehind front kind 1 limits text (state_of image) after old new outcome
 
--- the sheet was tried, whatever the replies were written to
-abbrev pub HasTried : Sheet → ℕ → Text → Image → Result Tally SheetFault → Type 0
-HasTried kind passed text image outcome = (old : Option Text) × (new : Option Text) × IsTried kind passed text image old new outcome
+-- the sheet was tried, and these are the lines of its replies
+abbrev pub HasTried : Sheet → ℕ → Text → Image → Text → Result Tally SheetFault → Type 0
+HasTried kind passed text image replies outcome = IsTried kind passed text image (Some []) (Some replies) outcome
 
--- a check ends before there are replies, or before they are all printed
-abbrev pub IsUnchecked : Ending → Type 0
-IsUnchecked ending = (ending ≡ Stopped Memory) ⊎ (ending ≡ Stopped Read) ⊎ (ending ≡ Stopped Write)
+-- A sheet of this text, where it is known, was tried, and the program writes its replies and ends as it ended.
+pub record EndsAsTried (kind : Sheet) (known : Option Text) (image : Image) (old new : Option Text) (ending : Ending) : Type 0 where
+  pub text : Text
+  pub is_text : IfSome known (λ t. text ≡ t)
+  pub replies : Text
+  pub outcome : Result Tally SheetFault
+  pub tried : HasTried kind 0 text image replies outcome
+  pub written : Appends old new replies
+  pub ends : ending ≡ ending_of_sheet outcome
 
--- A check ends as the sheet that was tried: what is read under its name, no contract can say.
-abbrev pub EndsCheck : Sheet → Image → Ending → Type 0
-EndsCheck kind image ending =
-    ((text : Text) × (outcome : Result Tally SheetFault) × HasTried kind 0 text image outcome × (ending ≡ ending_of_sheet outcome)) ⊎ IsUnchecked ending
+-- a check ends before there are replies, and nothing is written
+abbrev pub IsUnchecked : Option Text → Option Text → Ending → Type 0
+IsUnchecked old new ending = (new ≡ old) × ((ending ≡ Stopped Memory) ⊎ (ending ≡ Stopped Read))
+
+-- a check ends as the sheet that was tried, or before
+abbrev pub EndsCheck : Sheet → Option Text → Image → Option Text → Option Text → Ending → Type 0
+EndsCheck kind known image old new ending = EndsAsTried kind known image old new ending ⊎ IsUnchecked old new ending
 
 -- how many records are passed over: none, or those that are decided where the sheet goes on
 abbrev pub ArePassed : Sheet → Bool → Image → Text → ℕ → Type 0
@@ -61,45 +71,51 @@ IsAccepted (Ok tally) = tally.refused ≡ 0
 IsAccepted (Err fault) = ⊥
 
 module _ {K : Type 0} (holds : K → Result Image Table → Type 0) where
-  -- the sheet was tried, no record of it was refused, and then it was run
-  pub record IsDoneAll (kind : Sheet) (resumes : Bool) (before after : DeskView K) (ending : Ending) : Type 0 where
+  -- The sheet was tried, no record of it was refused, and then it was run.
+  pub record IsDoneAll (kind : Sheet) (resumes : Bool) (known : Option Text) (before after : DeskView K) (old new : Option Text) (ending : Ending) : Type 0 where
     pub text : Text
+    pub is_text : IfSome known (λ t. text ≡ t)
     pub passed : ℕ
     pub are_passed : ArePassed kind resumes before.image text passed
+    pub replies : Text
     pub outcome : Result Tally SheetFault
-    pub tried : HasTried kind passed text before.image outcome
+    pub tried : HasTried kind passed text before.image replies outcome
     pub accepted : IsAccepted outcome
     pub pace : Pace
-    pub ran : EndsRun holds (record { kind = kind; pace = pace; passed = passed }) (Some text) before after ending
+    pub ran : EndsAsRun holds (record { kind = kind; pace = pace; passed = passed }) (Some text) before after old new ending
 
-  -- the sheet was tried, something of it was refused, and nothing is done
-  pub record IsRefusedAll (kind : Sheet) (resumes : Bool) (before after : DeskView K) (ending : Ending) : Type 0 where
+  -- The sheet was tried, something of it was refused, and nothing is done or written.
+  pub record IsRefusedAll (kind : Sheet) (resumes : Bool) (known : Option Text) (before after : DeskView K) (old new : Option Text) (ending : Ending) : Type 0 where
     pub text : Text
+    pub is_text : IfSome known (λ t. text ≡ t)
     pub passed : ℕ
     pub are_passed : ArePassed kind resumes before.image text passed
+    pub replies : Text
     pub outcome : Result Tally SheetFault
-    pub tried : HasTried kind passed text before.image outcome
+    pub tried : HasTried kind passed text before.image replies outcome
     pub refused : IsAccepted outcome → ⊥
     pub same : after ≡ before
+    pub unwritten : new ≡ old
     pub ends : ending ≡ ending_of_sheet outcome
 
-  -- a sheet that was tried so is run, if no record of it was refused, and else nothing is done
-  abbrev pub EndsTried : Way → Text → Result Tally SheetFault → DeskView K → DeskView K → Ending → Type 0
-  EndsTried way text outcome before after ending =
-      (IsAccepted outcome × EndsRun holds way (Some text) before after ending)
-      ⊎ ((IsAccepted outcome → ⊥) × (after ≡ before) × (ending ≡ ending_of_sheet outcome))
+  -- a sheet that was tried so is run, if no record of it was refused, and else nothing is done or written
+  abbrev pub EndsTried : Way → Text → Result Tally SheetFault → DeskView K → DeskView K → Option Text → Option Text → Ending → Type 0
+  EndsTried way text outcome before after old new ending =
+      (IsAccepted outcome × EndsAsRun holds way (Some text) before after old new ending)
+      ⊎ ((IsAccepted outcome → ⊥) × (after ≡ before) × (new ≡ old) × (ending ≡ ending_of_sheet outcome))
 
-  -- a sheet was not tried: there was no memory, it was not read, or its replies had no room; or where it goes on, it is not known behind which record
+  -- a sheet was not tried: there was no memory, or it was not read; or where it goes on, it is not known behind which record
   abbrev pub IsUntried : Bool → Ending → Type 0
-  IsUntried resumes ending = IsUnchecked ending ⊎ ((resumes ≡ true) × ((fault : SheetFault) × (ending ≡ Stopped (fault_of_sheet fault))))
+  IsUntried resumes ending =
+      ((ending ≡ Stopped Memory) ⊎ (ending ≡ Stopped Read)) ⊎ ((resumes ≡ true) × ((fault : SheetFault) × (ending ≡ Stopped (fault_of_sheet fault))))
 
-  -- A sheet is done as a whole or not at all; or it was not tried, and nothing is done.
-  abbrev pub EndsAll : Sheet → Bool → DeskView K → DeskView K → Ending → Type 0
-  EndsAll kind resumes before after ending =
-      IsDoneAll kind resumes before after ending ⊎ IsRefusedAll kind resumes before after ending
-      ⊎ ((after ≡ before) × IsUntried resumes ending)
+  -- A sheet is done as a whole or not at all; or it was not tried, and nothing is done or written.
+  abbrev pub EndsAll : Sheet → Bool → Option Text → DeskView K → DeskView K → Option Text → Option Text → Ending → Type 0
+  EndsAll kind resumes known before after old new ending =
+      IsDoneAll kind resumes known before after old new ending ⊎ IsRefusedAll kind resumes known before after old new ending
+      ⊎ ((after ≡ before) × (new ≡ old) × IsUntried resumes ending)
 
   -- How the program ends with a sheet: done as it comes, or as a whole or not at all.
-  abbrev pub EndsRecords : Sheet → Bool → Bool → DeskView K → DeskView K → Ending → Type 0
-  EndsRecords kind resumes false before after ending = EndsSheet holds kind resumes before after ending
-  EndsRecords kind resumes true before after ending = EndsAll kind resumes before after ending
+  abbrev pub EndsRecords : Sheet → Bool → Bool → Option Text → DeskView K → DeskView K → Option Text → Option Text → Ending → Type 0
+  EndsRecords kind resumes false known before after old new ending = EndsSheet holds kind resumes known before after old new ending
+  EndsRecords kind resumes true known before after old new ending = EndsAll kind resumes known before after old new ending

@@ -1,11 +1,12 @@
 //! Whether an inventory is what its log makes.
 
-ghost use Rattle.std.specs.Prelude.{◌≡◌, ◌⊎◌, IfOk, IfErr};
+ghost use Rattle.std.specs.Prelude.{◌≡◌, IfOk, IfErr};
+ghost use Rattle.std.specs.Io.KnownBytes.{Appends};
 ghost use Rattle.lrs_measure.specs.Limits.{most_assets, most_edits, most_routes};
 ghost use Rattle.lrs_machine.specs.Image.{nothing};
 ghost use Rattle.lrs_image.specs.OpenLists.{image_of};
 ghost use Rattle.lrs_sheet_log.specs.Differences.{IsFirstDifference};
-ghost use Rattle.lrs_cli_sheets.specs.Audits.{EndsAudit, IsAudited, IsMadeBy, log_of};
+ghost use Rattle.lrs_cli_sheets.specs.Audits.{EndsAudit, IsAudited, IsMadeBy, log_of, sound_line};
 
 use crate::difference::tell_row;
 use crate::sheets::{Pace, Way, run};
@@ -17,6 +18,7 @@ use lrs_sheet::{Desk, Keeper, Sheet, SheetFault};
 use lrs_sheet_log::{first_difference, write_log};
 use std::alloc::Global;
 use std::io;
+use std::io::Write;
 use std::rt::Runtime;
 
 // The whole log of an inventory.
@@ -151,25 +153,39 @@ fn audit<R: Runtime<A = Global>>(
     }
 }
 
-// Says that an inventory is as its log says, and how the program ends with that.
-fn say_sound<R: Runtime<A = Global>>(rt: &R) -> Ending
-    ensures { (result ≡ Ending.Done) ⊎ (result ≡ Ending.Stopped ProgramFault.Write) }
+// Says that an inventory is as its log says.
+fn say_sound<W: Write + Drop>(to: W) -> Result<W, ProgramFault>
+    ensures said { IfOk result (λ done. Appends (W.contents to) (W.contents done) sound_line) }
+    ensures failed { IfErr result (λ e. e ≡ ProgramFault.Write) }
 {
-    match println!(rt; "sound, and as its log says") {
-        Ok(()) => Ending::Done,
-        Err(_) => Ending::Stopped(ProgramFault::Write),
+    let mut to = to;
+    match writeln!(to, "sound, and as its log says") {
+        Ok(()) => Ok(to),
+        Err(_) => Err(ProgramFault::Write),
     }
 }
 
 /// Does the log of a desk's inventory again on the empty inventory in memory, and compares what it makes with the
 /// inventory, table by table. It changes nothing. Of a table that differs, its first row that is another is told on
-/// standard error: as it is kept, and as the log makes it.
-pub fn do_audit<R: Runtime<A = Global>, K: Keeper>(rt: &R, desk: &Desk<K>) -> Ending
-    ensures { EndsAudit desk.now.image result }
+/// standard error: as it is kept, and as the log makes it. The writer is given back with how the program ends.
+///
+/// # Errors
+/// `Write` where it cannot be written that none differs.
+pub fn do_audit<R: Runtime<A = Global>, W: Write + Drop, K: Keeper>(
+    rt: &R,
+    desk: &Desk<K>,
+    to: W,
+) -> Result<(W, Ending), ProgramFault>
+    ensures ended { IfOk result (λ done. EndsAudit desk.now.image
+        (W.contents to) (W.contents done.0) done.1) }
+    ensures failed { IfErr result (λ e. e ≡ ProgramFault.Write) }
 {
     match audit(rt, desk.inventory()) {
-        Ok(None) => say_sound(rt),
-        Ok(Some(table)) => Ending::Differs(table),
-        Err(fault) => Ending::Stopped(fault),
+        Ok(None) => match say_sound(to) {
+            Ok(to) => Ok((to, Ending::Done)),
+            Err(fault) => Err(fault),
+        },
+        Ok(Some(table)) => Ok((to, Ending::Differs(table))),
+        Err(fault) => Ok((to, Ending::Stopped(fault))),
     }
 }

@@ -9,9 +9,11 @@ mod progress;
 mod question_sheets;
 mod sheets;
 mod trial;
+mod world;
 
 pub use audit::do_audit;
 pub use progress::ProgressDisplay;
 pub use question_sheets::{QuestionPace, answer_sheet, do_questions};
 pub use sheets::Pace;
 pub use trial::{do_check, do_records};
+pub use world::{Sheets, SystemSheet, SystemSheets, World};

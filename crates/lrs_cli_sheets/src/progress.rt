@@ -53,6 +53,22 @@ impl<'a, W: Write + Drop, R: Eprint + Clock> Progress<'a, W, R> {
         }
     }
 
+    /// The writer, once the count is taken away.
+    pub fn into_writer(mut self) -> W
+        ensures { result ≡ self.entry.to }
+    {
+        self.clear();
+        let Self {
+            to,
+            rt: _,
+            shown: _,
+            lines: _,
+            last: _,
+            is_standing: _,
+        } = self;
+        to
+    }
+
     fn is_due(&self) -> bool {
         match self.last {
             None => self.lines >= FIRST_LINES,

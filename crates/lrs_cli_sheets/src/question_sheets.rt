@@ -2,16 +2,16 @@
 
 ghost use Rattle.std.specs.Prelude.{◌≡◌, ◌⊎◌, IfOk, IfErr, false};
 ghost use Rattle.lrs_sheet_questions.specs.SheetAnswers.{HasAsked};
-ghost use Rattle.lrs_cli_sheets.specs.QuestionSheets.{EndsAsked, EndsQuestions, ending_of_questions};
+ghost use Rattle.lrs_cli_sheets.specs.QuestionSheets.{EndsAsAsked, EndsQuestions, ending_of_questions};
 
-use crate::sheets::{is_whole, unopened};
+use crate::sheets::unopened;
+use crate::world::{Sheets, World};
 use lrs_cli_tasks::{Ending, ProgramFault, behind, buffered};
 use lrs_sheet::{Desk, Keeper, SheetFault};
 use lrs_sheet_questions::{QuestionTally, ask_all, ask_arriving};
 use std::alloc::Global;
 use std::io::{Read, Write};
 use std::rt::Runtime;
-use std::{fs, io};
 
 /// When the answers to a sheet of questions are handed to the operating system.
 #[derive(Clone, Copy, PartialEq, Eq)]
@@ -73,41 +73,54 @@ fn ending_of(outcome: Result<QuestionTally, SheetFault>) -> Ending
     }
 }
 
-// Answers the questions that a reader gives on standard output.
-fn print_answers<R: Runtime<A = Global>, S: Read + Drop, K: Keeper>(
-    rt: &R,
+// Answers the questions that a reader gives. The writer is given back with how the program ends.
+fn print_answers<S: Read + Drop, W: Write + Drop, K: Keeper>(
+    alloc: Global,
     desk: &Desk<K>,
     pace: QuestionPace,
     sheet: S,
-) -> Ending
+    to: W,
+) -> Result<(W, Ending), ProgramFault>
     requires behind { desk.now.is_ahead ≡ false }
-    ensures { EndsAsked desk.now.image (S.remaining sheet) result }
+    ensures ended { IfOk result (λ done. EndsAsAsked desk.now.image (S.remaining sheet)
+        (W.contents to) (W.contents done.0) done.1) }
+    ensures failed { IfErr result (λ e. (e ≡ ProgramFault.Memory) ⊎ (e ≡ ProgramFault.Write)) }
 {
-    match answer_sheet(rt.alloc(), desk, pace, sheet, io::writer(rt)) {
-        Ok((_, outcome)) => ending_of(outcome),
-        Err(fault) => Ending::Stopped(fault),
+    match answer_sheet(alloc, desk, pace, sheet, to) {
+        Ok((to, outcome)) => Ok((to, ending_of(outcome))),
+        Err(fault) => Err(fault),
     }
 }
 
-// On a pipe or a terminal questions may come one by one.
-fn pace_of<R: Runtime<A = Global>>(rt: &R, sheet: &str) -> QuestionPace {
-    if is_whole(rt, sheet) {
+fn pace_of<S: Sheets>(sheets: &S, name: &str) -> QuestionPace {
+    if sheets.is_whole(name) {
         QuestionPace::InPieces
     } else {
         QuestionPace::AsTheyArrive
     }
 }
 
-/// Answers a sheet of questions, a file or the standard input, on standard output. It changes nothing.
-pub fn do_questions<R: Runtime<A = Global>, K: Keeper>(rt: &R, desk: &Desk<K>, from: &str) -> Ending
+/// Answers a sheet of questions, a file or the standard input. The writer is given back with all of the answers, and how
+/// the program ends. It changes nothing.
+///
+/// # Errors
+/// `Write` where not all answers were written, and `Memory` where there is none for the buffer.
+pub fn do_questions<R: Runtime<A = Global>, S: Sheets, W: Write + Drop, K: Keeper>(
+    world: &World<'_, R, S>,
+    desk: &Desk<K>,
+    name: &str,
+    to: W,
+) -> Result<(W, Ending), ProgramFault>
     requires behind { desk.now.is_ahead ≡ false }
-    ensures { EndsQuestions desk.now.image result }
+    ensures ended { IfOk result (λ done. EndsQuestions desk.now.image
+        (S.text_of world.now.sheets.now name.now) (W.contents to) (W.contents done.0) done.1) }
+    ensures failed { IfErr result (λ e. (e ≡ ProgramFault.Memory) ⊎ (e ≡ ProgramFault.Write)) }
 {
-    if from == "stdin" {
-        return print_answers(rt, desk, QuestionPace::AsTheyArrive, rt.reader());
-    }
-    match fs::open(rt, from) {
-        Ok(file) => print_answers(rt, desk, pace_of(rt, from), file),
-        Err(error) => unopened(rt, from, error),
+    match world.sheets.open(name) {
+        Ok(sheet) => {
+            let pace = pace_of(world.sheets, name);
+            print_answers(world.rt.alloc(), desk, pace, sheet, to)
+        }
+        Err(error) => Ok((to, unopened(world.rt, name, error))),
     }
 }

@@ -1,21 +1,22 @@
 //! Sheets, from a file or the standard input, and their replies.
 
-ghost use Rattle.std.specs.Prelude.{◌≡◌, ◌⊎◌, false, true};
+ghost use Rattle.std.specs.Prelude.{◌≡◌, ◌⊎◌, IfErr, IfOk, IfSome, false, true};
 ghost use Rattle.lrs_machine.specs.Image.{state_of};
 ghost use Rattle.lrs_sheet.specs.Runs.{IsWholeRun};
 ghost use Rattle.lrs_sheet.specs.Sheets.{IsAfterCommands};
-ghost use Rattle.lrs_cli_sheets.specs.Sheets.{EndsRun, EndsSheet, HasRun, WritesReplies, ending_of_sheet, run_of, together_at};
+ghost use Rattle.lrs_cli_sheets.specs.Sheets.{EndsAsRun, EndsSheet, HasRun, IsUnwritten, WritesReplies, ending_of_sheet, run_of, together_at};
 
-use crate::progress::{Progress, ProgressDisplay};
+use crate::progress::Progress;
+use crate::world::{Sheets, World};
 use lrs_cli_tasks::{Ending, ProgramFault, behind, buffered};
 use lrs_sheet::{
     Decided, Desk, Keeper, RECORDS_TOGETHER, Run, Sheet, SheetFault, Tally, last_edit,
     run_arriving, run_behind, run_edits, run_survey,
 };
 use std::alloc::Global;
+use std::io;
 use std::io::{ErrorKind, LineWriter, Read, Write};
 use std::rt::Runtime;
-use std::{fs, io};
 
 // How many records are done together, and when their reply lines are handed to the operating system.
 #[derive(Clone, Copy, PartialEq, Eq)]
@@ -167,22 +168,30 @@ pub(crate) fn ending_of(outcome: Result<Tally, SheetFault>) -> Ending
     }
 }
 
-// Does the sheet that a reader gives, and prints its replies.
-pub(crate) fn print_replies<R: Runtime<A = Global>, S: Read + Drop, K: Keeper>(
-    rt: &R,
+// Does the sheet that a reader gives, and writes its replies. The writer is given back with how the program ends.
+pub(crate) fn print_replies<
+    R: Runtime<A = Global>,
+    N: Sheets,
+    S: Read + Drop,
+    W: Write + Drop,
+    K: Keeper,
+>(
+    world: &World<'_, R, N>,
     way: Way,
     sheet: S,
     desk: &mut Desk<K>,
-    shown: ProgressDisplay,
-) -> Ending
-    ensures ended { EndsRun K.may_hold way (S.remaining sheet) desk.old desk.new result }
+    to: W,
+) -> Result<(W, Ending), ProgramFault>
+    ensures ended { IfOk result (λ done. EndsAsRun K.may_hold way (S.remaining sheet)
+        desk.old desk.new (W.contents to) (W.contents done.0) done.1) }
+    ensures failed { IfErr result (IsUnwritten K.may_hold desk.old desk.new) }
     ensures left { IsAfterCommands desk.old.limits (state_of desk.old.image)
         (state_of desk.new.image) }
 {
-    let progress = Progress::new(io::writer(rt), rt, shown);
-    match write_replies(rt.alloc(), way, sheet, progress, desk) {
-        Ok((_, outcome)) => ending_of(outcome),
-        Err(fault) => Ending::Stopped(fault),
+    let progress = Progress::new(to, world.rt, world.shown);
+    match write_replies(world.rt.alloc(), way, sheet, progress, desk) {
+        Ok((progress, outcome)) => Ok((progress.into_writer(), ending_of(outcome))),
+        Err(fault) => Err(fault),
     }
 }
 
@@ -194,16 +203,8 @@ fn pace_of_sent(of_file: Pace) -> Pace {
     }
 }
 
-// Only a file has all its records already; on a pipe or a terminal they may come one by one.
-pub(crate) fn is_whole<R: Runtime<A = Global>>(rt: &R, sheet: &str) -> bool {
-    match fs::metadata(rt, sheet) {
-        Ok(metadata) => metadata.is_file(),
-        Err(_) => false,
-    }
-}
-
-fn pace_of<R: Runtime<A = Global>>(rt: &R, sheet: &str, of_file: Pace) -> Pace {
-    if is_whole(rt, sheet) {
+fn pace_of<S: Sheets>(sheets: &S, name: &str, of_file: Pace) -> Pace {
+    if sheets.is_whole(name) {
         of_file
     } else {
         pace_of_sent(of_file)
@@ -211,11 +212,11 @@ fn pace_of<R: Runtime<A = Global>>(rt: &R, sheet: &str, of_file: Pace) -> Pace {
 }
 
 // Why a sheet is not read. Who wrote `-` for the standard input is told how it is written.
-pub(crate) fn unopened<R: Runtime<A = Global>>(rt: &R, sheet: &str, error: io::Error) -> Ending
+pub(crate) fn unopened<R: Runtime<A = Global>>(rt: &R, name: &str, error: io::Error) -> Ending
     ensures { (result ≡ Ending.Stopped ProgramFault.Read)
         ⊎ (result ≡ Ending.Stopped ProgramFault.Memory) }
 {
-    if sheet == "-" {
+    if name == "-" {
         let _ = eprintln!(rt; "hint: standard input is written stdin");
     }
     if error.kind() == ErrorKind::OutOfMemory {
@@ -227,39 +228,42 @@ pub(crate) fn unopened<R: Runtime<A = Global>>(rt: &R, sheet: &str, error: io::E
 
 // Does a whole sheet.
 #[tactic(auto, using(crate::proofs::Between::none_done))]
-fn do_whole<R: Runtime<A = Global>, K: Keeper>(
-    rt: &R,
+fn do_whole<R: Runtime<A = Global>, S: Sheets, W: Write + Drop, K: Keeper>(
+    world: &World<'_, R, S>,
     desk: &mut Desk<K>,
     kind: Sheet,
-    sheet: &str,
+    name: &str,
     of_file: Pace,
-    shown: ProgressDisplay,
-) -> Ending
-    ensures ended { EndsSheet K.may_hold kind false desk.old desk.new result }
+    to: W,
+) -> Result<(W, Ending), ProgramFault>
+    ensures ended { IfOk result (λ done. EndsSheet K.may_hold kind false
+        (S.text_of world.now.sheets.now name.now) desk.old desk.new
+        (W.contents to) (W.contents done.0) done.1) }
+    ensures failed { IfErr result (IsUnwritten K.may_hold desk.old desk.new) }
     ensures left { IsAfterCommands desk.old.limits (state_of desk.old.image)
         (state_of desk.new.image) }
 {
-    let passed = 0;
-    if sheet == "stdin" {
-        let pace = pace_of_sent(of_file);
-        return print_replies(rt, Way { kind, pace, passed }, rt.reader(), desk, shown);
-    }
-    match fs::open(rt, sheet) {
-        Ok(file) => {
-            let pace = pace_of(rt, sheet, of_file);
-            print_replies(rt, Way { kind, pace, passed }, file, desk, shown)
+    match world.sheets.open(name) {
+        Ok(sheet) => {
+            let pace = pace_of(world.sheets, name, of_file);
+            let passed = 0;
+            print_replies(world, Way { kind, pace, passed }, sheet, desk, to)
         }
-        Err(error) => unopened(rt, sheet, error),
+        Err(error) => Ok((to, unopened(world.rt, name, error))),
     }
 }
 
-// The bytes of a sheet.
-pub(crate) fn read_whole<R: Runtime<A = Global>>(rt: &R, sheet: &str) -> io::Result<Vec<u8>> {
-    if sheet != "stdin" {
-        return fs::read(rt, sheet);
-    }
-    let mut text = Vec::new(rt.alloc());
-    rt.reader().read_to_end(&mut text)?;
+// The bytes of the sheet of a name.
+pub(crate) fn read_whole<R: Runtime<A = Global>, S: Sheets>(
+    world: &World<'_, R, S>,
+    name: &str,
+) -> io::Result<Vec<u8>>
+    ensures { IfOk result (λ text.
+        IfSome (S.text_of world.now.sheets.now name.now) (λ known. text.items ≡ known)) }
+{
+    let mut sheet = world.sheets.open(name)?;
+    let mut text = Vec::new(world.rt.alloc());
+    sheet.read_to_end(&mut text)?;
     Ok(text)
 }
 
@@ -273,50 +277,59 @@ pub(crate) fn tell<R: Runtime<A = Global>>(rt: &R, decided: &Decided) {
 
 // Goes on with a sheet behind its last record that is an edit. It is read as a whole before.
 #[tactic(auto, using(crate::proofs::Between::none_done))]
-fn go_on<R: Runtime<A = Global>, K: Keeper>(
-    rt: &R,
+fn go_on<R: Runtime<A = Global>, S: Sheets, W: Write + Drop, K: Keeper>(
+    world: &World<'_, R, S>,
     desk: &mut Desk<K>,
     kind: Sheet,
-    sheet: &str,
+    name: &str,
     pace: Pace,
-    shown: ProgressDisplay,
-) -> Ending
-    ensures ended { EndsSheet K.may_hold kind true desk.old desk.new result }
+    to: W,
+) -> Result<(W, Ending), ProgramFault>
+    ensures ended { IfOk result (λ done. EndsSheet K.may_hold kind true
+        (S.text_of world.now.sheets.now name.now) desk.old desk.new
+        (W.contents to) (W.contents done.0) done.1) }
+    ensures failed { IfErr result (IsUnwritten K.may_hold desk.old desk.new) }
     ensures left { IsAfterCommands desk.old.limits (state_of desk.old.image)
         (state_of desk.new.image) }
 {
-    let text = match read_whole(rt, sheet) {
+    let text = match read_whole(world, name) {
         Ok(text) => text,
-        Err(error) => return unopened(rt, sheet, error),
+        Err(error) => return Ok((to, unopened(world.rt, name, error))),
     };
-    let decided = match last_edit(rt.alloc(), kind, text.as_slice(), desk) {
+    let decided = match last_edit(world.rt.alloc(), kind, text.as_slice(), desk) {
         Ok(decided) => decided,
-        Err(fault) => return Ending::Stopped(ProgramFault::from(fault)),
+        Err(fault) => return Ok((to, Ending::Stopped(ProgramFault::from(fault)))),
     };
-    tell(rt, &decided);
+    tell(world.rt, &decided);
     let passed = decided.records;
-    print_replies(rt, Way { kind, pace, passed }, text.as_slice(), desk, shown)
+    print_replies(world, Way { kind, pace, passed }, text.as_slice(), desk, to)
 }
 
-/// Does a sheet of this kind at a desk, or goes on with it behind its last record that is an edit, and prints its replies:
+/// Does a sheet of this kind at a desk, or goes on with it behind its last record that is an edit, and writes its replies:
 /// those to a sheet in a file at the pace `of_file`. Whatever fails, the desk's image stands for the state after some
 /// commands in order, and its keeper goes along, unless a commit failed.
-pub fn do_sheet<R: Runtime<A = Global>, K: Keeper>(
-    rt: &R,
+///
+/// # Errors
+/// `Memory` where there is none for the replies, and nothing is done; `Write` where not all of them were written.
+pub fn do_sheet<R: Runtime<A = Global>, S: Sheets, W: Write + Drop, K: Keeper>(
+    world: &World<'_, R, S>,
     desk: &mut Desk<K>,
     kind: Sheet,
     resumes: bool,
-    sheet: &str,
+    name: &str,
     of_file: Pace,
-    shown: ProgressDisplay,
-) -> Ending
-    ensures ended { EndsSheet K.may_hold kind resumes desk.old desk.new result }
+    to: W,
+) -> Result<(W, Ending), ProgramFault>
+    ensures ended { IfOk result (λ done. EndsSheet K.may_hold kind resumes
+        (S.text_of world.now.sheets.now name.now) desk.old desk.new
+        (W.contents to) (W.contents done.0) done.1) }
+    ensures failed { IfErr result (IsUnwritten K.may_hold desk.old desk.new) }
     ensures left { IsAfterCommands desk.old.limits (state_of desk.old.image)
         (state_of desk.new.image) }
 {
     if resumes {
-        go_on(rt, desk, kind, sheet, of_file, shown)
+        go_on(world, desk, kind, name, of_file, to)
     } else {
-        do_whole(rt, desk, kind, sheet, of_file, shown)
+        do_whole(world, desk, kind, name, of_file, to)
     }
 }

@@ -1,22 +1,22 @@
 //! Sheets that are tried at a copy of the inventory, in memory.
 
-ghost use Rattle.std.specs.Prelude.{◌≡◌, ◌⊎◌, IfOk, IfErr, Ok, Some, [], true};
+ghost use Rattle.std.specs.Prelude.{◌≡◌, ◌⊎◌, IfOk, IfErr, IfSome, Ok, Some, [], true};
+ghost use Rattle.std.specs.Io.KnownBytes.{Appends};
 ghost use Rattle.lrs_machine.specs.Image.{state_of};
 ghost use Rattle.lrs_sheet.specs.Sheets.{IsAfterCommands};
-ghost use Rattle.lrs_cli_sheets.specs.Sheets.{ending_of_sheet};
-ghost use Rattle.lrs_cli_sheets.specs.Trials.{ArePassed, EndsAll, EndsCheck, EndsRecords, EndsTried, IsFull, IsTried};
+ghost use Rattle.lrs_cli_sheets.specs.Sheets.{IsUnwritten, ending_of_sheet};
+ghost use Rattle.lrs_cli_sheets.specs.Trials.{ArePassed, EndsAll, EndsCheck, EndsRecords, EndsTried, HasTried, IsFull, IsTried};
 
 use crate::advice::{Trial, advise};
-use crate::progress::ProgressDisplay;
 use crate::sheets::{
     Pace, Way, do_sheet, ending_of, print_replies, read_whole, tell, unopened, write_replies,
 };
+use crate::world::{Sheets, World};
 use lrs_cli_tasks::{Ending, ProgramFault, open_full};
 use lrs_image_plain::Plain;
 use lrs_inventory::Inventory;
 use lrs_sheet::{Desk, Keeper, Sheet, SheetFault, Tally, last_edit};
 use std::alloc::Global;
-use std::io;
 use std::io::Write;
 use std::rt::Runtime;
 
@@ -95,26 +95,36 @@ fn try_sheet<K: Keeper>(
     }
 }
 
-// Prints the replies to a sheet that was tried, and advises on what is refused.
-fn print_trial<R: Runtime<A = Global>>(rt: &R, trial: &Trial<'_>) -> Ending
-    ensures { (result ≡ ending_of_sheet trial.now.outcome)
-        ⊎ (result ≡ Ending.Stopped ProgramFault.Write) }
+// Writes the replies to a sheet that was tried, and advises on what is refused.
+fn print_trial<R: Runtime<A = Global>, W: Write + Drop>(
+    rt: &R,
+    trial: &Trial<'_>,
+    to: W,
+) -> Result<(W, Ending), ProgramFault>
+    ensures written { IfOk result (λ done. Appends (W.contents to) (W.contents done.0)
+        trial.now.replies.now) }
+    ensures ended { IfOk result (λ done. done.1 ≡ ending_of_sheet trial.now.outcome) }
+    ensures failed { IfErr result (λ e. e ≡ ProgramFault.Write) }
 {
-    if io::writer(rt).write_all(trial.replies).is_err() {
-        return Ending::Stopped(ProgramFault::Write);
+    let mut to = to;
+    if to.write_all(trial.replies).is_err() {
+        return Err(ProgramFault::Write);
     }
     advise(rt, trial);
-    ending_of(trial.outcome)
+    Ok((to, ending_of(trial.outcome)))
 }
 
-// Prints what a sheet of these bytes would be answered at a desk, and advises on what would be refused.
-fn check_text<R: Runtime<A = Global>, K: Keeper>(
+// Writes what a sheet of these bytes would be answered at a desk, and advises on what would be refused.
+fn check_text<R: Runtime<A = Global>, W: Write + Drop, K: Keeper>(
     rt: &R,
     desk: &Desk<K>,
     kind: Sheet,
     text: &[u8],
-) -> Ending
-    ensures { EndsCheck kind desk.now.image result }
+    to: W,
+) -> Result<(W, Ending), ProgramFault>
+    ensures ended { IfOk result (λ done. EndsCheck kind (Some text.now) desk.now.image
+        (W.contents to) (W.contents done.0) done.1) }
+    ensures failed { IfErr result (λ e. e ≡ ProgramFault.Write) }
 {
     match try_sheet(rt.alloc(), desk, kind, 0, text) {
         Ok((replies, outcome)) => {
@@ -125,26 +135,33 @@ fn check_text<R: Runtime<A = Global>, K: Keeper>(
                 replies: replies.as_slice(),
                 outcome,
             };
-            print_trial(rt, &trial)
+            print_trial(rt, &trial, to)
         }
         // of a trial, whose replies go into memory, that alone can run out
-        Err(_) => Ending::Stopped(ProgramFault::Memory),
+        Err(_) => Ok((to, Ending::Stopped(ProgramFault::Memory))),
     }
 }
 
-/// Prints what a sheet would be answered at a desk, and on standard error what to do about each record that would be
+/// Writes what a sheet would be answered at a desk, and on standard error what to do about each record that would be
 /// refused. Nothing is done: the sheet is tried at a copy of the inventory.
-pub fn do_check<R: Runtime<A = Global>, K: Keeper>(
-    rt: &R,
+///
+/// # Errors
+/// `Write` where not all replies were written.
+pub fn do_check<R: Runtime<A = Global>, S: Sheets, W: Write + Drop, K: Keeper>(
+    world: &World<'_, R, S>,
     desk: &Desk<K>,
     kind: Sheet,
-    sheet: &str,
-) -> Ending
-    ensures { EndsCheck kind desk.now.image result }
+    name: &str,
+    to: W,
+) -> Result<(W, Ending), ProgramFault>
+    ensures ended { IfOk result (λ done. EndsCheck kind
+        (S.text_of world.now.sheets.now name.now) desk.now.image
+        (W.contents to) (W.contents done.0) done.1) }
+    ensures failed { IfErr result (λ e. e ≡ ProgramFault.Write) }
 {
-    match read_whole(rt, sheet) {
-        Ok(text) => check_text(rt, desk, kind, text.as_slice()),
-        Err(error) => unopened(rt, sheet, error),
+    match read_whole(world, name) {
+        Ok(text) => check_text(world.rt, desk, kind, text.as_slice(), to),
+        Err(error) => Ok((to, unopened(world.rt, name, error))),
     }
 }
 
@@ -169,16 +186,18 @@ fn passed_of<R: Runtime<A = Global>, K: Keeper>(
 
 // Does a sheet that was tried, if no record of it was refused. Else nothing is done, and standard error says what to do
 // about it.
-fn do_tried<R: Runtime<A = Global>, K: Keeper>(
-    rt: &R,
+fn do_tried<R: Runtime<A = Global>, S: Sheets, W: Write + Drop, K: Keeper>(
+    world: &World<'_, R, S>,
     desk: &mut Desk<K>,
     trial: &Trial<'_>,
     pace: Pace,
-    shown: ProgressDisplay,
-) -> Ending
-    ensures ended { EndsTried K.may_hold
+    to: W,
+) -> Result<(W, Ending), ProgramFault>
+    ensures ended { IfOk result (λ done. EndsTried K.may_hold
         (record { kind = trial.now.kind; pace = pace; passed = trial.now.passed })
-        trial.now.text.now trial.now.outcome desk.old desk.new result }
+        trial.now.text.now trial.now.outcome desk.old desk.new
+        (W.contents to) (W.contents done.0) done.1) }
+    ensures failed { IfErr result (IsUnwritten K.may_hold desk.old desk.new) }
     ensures left { IsAfterCommands desk.old.limits (state_of desk.old.image)
         (state_of desk.new.image) }
 {
@@ -189,34 +208,36 @@ fn do_tried<R: Runtime<A = Global>, K: Keeper>(
                 pace,
                 passed: trial.passed,
             };
-            print_replies(rt, way, trial.text, desk, shown)
+            print_replies(world, way, trial.text, desk, to)
         }
         _ => {
-            advise(rt, trial);
-            ending_of(trial.outcome)
+            advise(world.rt, trial);
+            Ok((to, ending_of(trial.outcome)))
         }
     }
 }
 
 // Does the bytes of a sheet, or goes on with them, only if no record of them is refused.
-fn do_text<R: Runtime<A = Global>, K: Keeper>(
-    rt: &R,
+fn do_text<R: Runtime<A = Global>, S: Sheets, W: Write + Drop, K: Keeper>(
+    world: &World<'_, R, S>,
     desk: &mut Desk<K>,
     kind: Sheet,
     resumes: bool,
     text: &[u8],
     of_file: Pace,
-    shown: ProgressDisplay,
-) -> Ending
-    ensures ended { EndsAll K.may_hold kind resumes desk.old desk.new result }
+    to: W,
+) -> Result<(W, Ending), ProgramFault>
+    ensures ended { IfOk result (λ done. EndsAll K.may_hold kind resumes (Some text.now)
+        desk.old desk.new (W.contents to) (W.contents done.0) done.1) }
+    ensures failed { IfErr result (IsUnwritten K.may_hold desk.old desk.new) }
     ensures left { IsAfterCommands desk.old.limits (state_of desk.old.image)
         (state_of desk.new.image) }
 {
-    let passed = match passed_of(rt, desk, kind, resumes, text) {
+    let passed = match passed_of(world.rt, desk, kind, resumes, text) {
         Ok(passed) => passed,
-        Err(fault) => return Ending::Stopped(ProgramFault::from(fault)),
+        Err(fault) => return Ok((to, Ending::Stopped(ProgramFault::from(fault)))),
     };
-    match try_sheet(rt.alloc(), desk, kind, passed, text) {
+    match try_sheet(world.rt.alloc(), desk, kind, passed, text) {
         Ok((replies, outcome)) => {
             let trial = Trial {
                 kind,
@@ -225,52 +246,62 @@ fn do_text<R: Runtime<A = Global>, K: Keeper>(
                 replies: replies.as_slice(),
                 outcome,
             };
-            do_tried(rt, desk, &trial, of_file, shown)
+            do_tried(world, desk, &trial, of_file, to)
         }
         // of a trial memory alone can run out
-        Err(_) => Ending::Stopped(ProgramFault::Memory),
+        Err(_) => Ok((to, Ending::Stopped(ProgramFault::Memory))),
     }
 }
 
 /// Does a sheet of this kind at a desk, or goes on with it, only if no record of it is refused: it is tried first at a
 /// copy of the inventory. Where something is refused, nothing is done, and standard error says what to do about it.
-fn do_all<R: Runtime<A = Global>, K: Keeper>(
-    rt: &R,
+fn do_all<R: Runtime<A = Global>, S: Sheets, W: Write + Drop, K: Keeper>(
+    world: &World<'_, R, S>,
     desk: &mut Desk<K>,
     kind: Sheet,
     resumes: bool,
-    sheet: &str,
+    name: &str,
     of_file: Pace,
-    shown: ProgressDisplay,
-) -> Ending
-    ensures ended { EndsAll K.may_hold kind resumes desk.old desk.new result }
+    to: W,
+) -> Result<(W, Ending), ProgramFault>
+    ensures ended { IfOk result (λ done. EndsAll K.may_hold kind resumes
+        (S.text_of world.now.sheets.now name.now) desk.old desk.new
+        (W.contents to) (W.contents done.0) done.1) }
+    ensures failed { IfErr result (IsUnwritten K.may_hold desk.old desk.new) }
     ensures left { IsAfterCommands desk.old.limits (state_of desk.old.image)
         (state_of desk.new.image) }
 {
-    match read_whole(rt, sheet) {
-        Ok(text) => do_text(rt, desk, kind, resumes, text.as_slice(), of_file, shown),
-        Err(error) => unopened(rt, sheet, error),
+    match read_whole(world, name) {
+        Ok(text) => do_text(world, desk, kind, resumes, text.as_slice(), of_file, to),
+        Err(error) => Ok((to, unopened(world.rt, name, error))),
     }
 }
 
-/// Does a sheet of this kind at a desk: with `all` only if no record of it is refused, and else each record by itself.
-pub fn do_records<R: Runtime<A = Global>, K: Keeper>(
-    rt: &R,
+/// Does a sheet of this kind at a desk: with `all` only if no record of it is refused, and else each record by itself. Its
+/// replies are written, and the writer is given back with how the program ends.
+///
+/// # Errors
+/// `Memory` where there is none for the replies, and nothing is done; `Write` where not all of them were written.
+pub fn do_records<R: Runtime<A = Global>, S: Sheets, W: Write + Drop, K: Keeper>(
+    world: &World<'_, R, S>,
     desk: &mut Desk<K>,
     kind: Sheet,
     resumes: bool,
     all: bool,
-    sheet: &str,
+    name: &str,
     of_file: Pace,
-    shown: ProgressDisplay,
-) -> Ending
-    ensures ended { EndsRecords K.may_hold kind resumes all desk.old desk.new result }
+    to: W,
+) -> Result<(W, Ending), ProgramFault>
+    ensures ended { IfOk result (λ done. EndsRecords K.may_hold kind resumes all
+        (S.text_of world.now.sheets.now name.now) desk.old desk.new
+        (W.contents to) (W.contents done.0) done.1) }
+    ensures failed { IfErr result (IsUnwritten K.may_hold desk.old desk.new) }
     ensures left { IsAfterCommands desk.old.limits (state_of desk.old.image)
         (state_of desk.new.image) }
 {
     if all {
-        do_all(rt, desk, kind, resumes, sheet, of_file, shown)
+        do_all(world, desk, kind, resumes, name, of_file, to)
     } else {
-        do_sheet(rt, desk, kind, resumes, sheet, of_file, shown)
+        do_sheet(world, desk, kind, resumes, name, of_file, to)
     }
 }

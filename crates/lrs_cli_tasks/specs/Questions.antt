@@ -1,5 +1,5 @@
 -- What the program prints for a question that is asked of an inventory, and how it ends.
-use Rattle.std.specs.Prelude.{◌≡◌, ◌⊎◌, ⊤, ℕ, List, [], Option, Result, Ok, Err}
+use Rattle.std.specs.Prelude.{◌≡◌, ⊤, ℕ, List, [], Option, Result, Ok, Err}
 use Rattle.std.specs.Io.KnownBytes.{Appends, Keeps}
 use Rattle.std.specs.Option.{option_map_or}
 use Rattle.lrs_machine.specs.declared.image.Image.{Image}
@@ -39,12 +39,6 @@ pub record HasAnswered (i : Image) (q : Question) (old new : Option (List ℕ)) 
   pub is_told : IsTold i q said
   pub written : Appends old new (output_of said)
   pub ends : ending ≡ ending_of said
-
--- The program ends as what the inventory tells says, whatever it was written to; or there was no memory for it, or it was not written.
-abbrev pub EndsTold : Image → Question → Ending → Type 0
-EndsTold i q ending =
-    ((old : Option (List ℕ)) × (new : Option (List ℕ)) × HasAnswered i q old new ending)
-    ⊎ ((ending ≡ Stopped program.Memory) ⊎ (ending ≡ Stopped program.Write))
 
 -- an answer that passes was written, or nothing was and this fault passes; where the writer failed, nothing is said
 abbrev pub IsPrinted : {A U : Type 0} → (Result A AskFault → Type 0) → (A → Text) → Option (List ℕ) → Option (List ℕ) → Result U Unanswered → Type 0

@@ -17,5 +17,5 @@ pub use endings::{Ending, status};
 pub use fault::{ProgramFault, table_name};
 pub use page::do_page;
 pub use page_file::{PAGE, write_page};
-pub use questions::{answer, do_question};
+pub use questions::answer;
 pub use task::{Task, Work, task_of};

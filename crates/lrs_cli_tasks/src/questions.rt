@@ -3,7 +3,7 @@
 ghost use Rattle.std.specs.Prelude.{◌≡◌, ◌⊎◌, IfOk, IfErr, Err, false};
 ghost use Rattle.lrs_report_answers.specs.ToldAnswers.{IsTold};
 ghost use Rattle.lrs_cli_tasks.specs.Lines.{told_text};
-ghost use Rattle.lrs_cli_tasks.specs.Questions.{EndsTold, HasAnswered, IsPrinted, ending_of, stop_of};
+ghost use Rattle.lrs_cli_tasks.specs.Questions.{HasAnswered, IsPrinted, ending_of, stop_of};
 
 use crate::buffer::{behind, buffered};
 use crate::endings::Ending;
@@ -12,9 +12,7 @@ use crate::lines::write_told;
 use lrs_desk::{AskFault, Desk, Keeper, Question, Told};
 use lrs_report_answers::cause_of;
 use std::alloc::Global;
-use std::io;
 use std::io::Write;
-use std::rt::Runtime;
 
 /// Why no answer was printed.
 #[derive(Clone, Copy)]
@@ -89,19 +87,4 @@ pub fn answer<K: Keeper, W: Write + Drop>(
         Err(Unanswered::Write) => return Err(ProgramFault::Write),
     };
     Ok((behind(writer)?, ending))
-}
-
-/// Answers a question on standard output.
-pub fn do_question<R: Runtime<A = Global>, K: Keeper>(
-    rt: &R,
-    desk: &Desk<K>,
-    question: Question,
-) -> Ending
-    requires behind { desk.now.is_ahead ≡ false }
-    ensures { EndsTold desk.now.image question result }
-{
-    match answer(rt.alloc(), desk, question, io::writer(rt)) {
-        Ok((_, ending)) => ending,
-        Err(fault) => Ending::Stopped(fault),
-    }
 }
