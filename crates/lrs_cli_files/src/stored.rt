@@ -11,7 +11,7 @@ use lrs_store_image::Reader;
 use lrs_store_questions::{Questions, open_for_questions};
 use lrs_store_tables::StoreFault;
 use lrs_store_tables::stored_rows::ReadImage;
-use sqlite::{FileFrom, FileStore, Start};
+use sqlite::{Alter, FileFrom, FileStore, Start};
 use sqlite_disk::Disk;
 use std::rt::HostRuntime;
 
@@ -21,7 +21,7 @@ fn close_tables<D: Disk + Drop, R: ReadImage + Drop>(tables: Tables<FileStore<D>
 }
 
 /// The tables of a keeper.
-fn tables_of<S: Start>(keeper: FileKeeper<S>) -> Tables<FileStore<FileFrom<S>>, Reader> {
+fn tables_of<A: Alter>(keeper: FileKeeper<A>) -> Tables<A, Reader> {
     let FileKeeper { inner } = keeper;
     let FileTables { tables } = inner.into_inner();
     tables
@@ -46,7 +46,7 @@ impl<S: Start, T: Start> StoredFiles<S, T> {
 }
 
 impl<S: Start, T: Start> Files for StoredFiles<S, T> {
-    type Kept = FileKeeper<S>;
+    type Kept = FileKeeper<FileStore<FileFrom<S>>>;
 
     type Seen = Questions<FileStore<FileFrom<T>>>;
 

@@ -30,6 +30,7 @@ pub trait Sheets {
 }
 
 /// What is outside of the program while it does a job.
+#[derive(Drop)]
 pub struct World<'a, R: Runtime<A = Global>, S: Sheets> {
     /// The system: its memory, its clock, and standard error.
     pub rt: &'a R,

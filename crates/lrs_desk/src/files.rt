@@ -4,8 +4,8 @@ use crate::desk::OpenFault;
 use lrs_image::Keeper;
 use std::rt::HostRuntime;
 
-/// Opens the keepers of inventories in files, for all work or for questions alone.
-pub trait Files {
+/// Opens the keeper of an inventory in a file: once for all work, and before that once for questions alone.
+pub trait Files: Drop {
     ghost use Rattle.std.specs.Prelude.{◌≡◌, IfErr, IfOk, IfSome, Result};
     ghost use Rattle.lrs_machine.specs.declared.image.Image.{Image};
     ghost use Rattle.lrs_machine.specs.declared.table.Table.{Table};
@@ -27,31 +27,31 @@ pub trait Files {
     ///
     /// # Errors
     /// `Memory` if memory runs out, and `Keep` if the file cannot be opened for another cause.
-    fn open(
-        &self,
-        rt: &HostRuntime,
-        path: &str,
-        new_has_sums: bool,
-    ) -> Result<Self::Kept, OpenFault>
+    fn open(self, rt: &HostRuntime, path: &str, new_has_sums: bool) -> Result<Self::Kept, OpenFault>
         ensures opened { IfOk result (λ keeper. (c : Result Image Table)
             → Self.Kept.may_hold keeper c → has_opened c) };
 
     /// Opens the file of an inventory for questions. What is kept is what the file held, and nothing else. There is
-    /// nothing where this opening does not take the file, as one that is new or of version 1: it is left to `open`.
+    /// nothing where this opening does not take the file, as one that is new or of version 1, or where it was looked at
+    /// before: it is left to `open`.
     ///
     /// # Errors
     /// `Memory` if memory runs out.
-    fn open_to_look(&self, rt: &HostRuntime, path: &str) -> Result<Option<Self::Seen>, OpenFault>
+    fn open_to_look(
+        &mut self,
+        rt: &HostRuntime,
+        path: &str,
+    ) -> Result<Option<Self::Seen>, OpenFault>
         ensures read { IfOk result (λ found. IfSome found (λ keeper. (c : Result Image Table)
             → Self.Seen.may_hold keeper c → has_read c)) }
         ensures fault { IfErr result (λ e. e ≡ OpenFault.Memory) };
 
     /// Closes a keeper, and drops it. Where that fails, its log still has what was committed.
-    fn close(&self, keeper: Self::Kept);
+    fn close(keeper: Self::Kept);
 
     /// Lets a keeper go, which is not closed: what was committed may be in its log alone, where the next opening finds it.
-    fn discard(&self, keeper: Self::Kept);
+    fn discard(keeper: Self::Kept);
 
     /// Drops a keeper for questions.
-    fn discard_seen(&self, keeper: Self::Seen);
+    fn discard_seen(keeper: Self::Seen);
 }
