@@ -15,6 +15,8 @@ from stores import as_first, edit, is_whole, make, rows_of
 RECORDS = ["e1,enter,10,SPEED,A1,B,abs,3000,9000,80,0", "e4,split,A1,5000,A2", "e5,join,A1,A2"]
 SHEET = FIRST + b"".join(map(record, RECORDS))
 REPLIES = FIRST_REPLIES + lines("e1,done,8", "e4,done,9", "e5,done,10")
+# what leaves a gap in an asset, and a part of it abandoned
+REALIGNED = ["e1,enter,10,SPEED,A1,B,abs,3000,9000,80,0", "e6,recalibrate,A1,0:0 8000:8000", "e8,realign,A1,4000,6000,3:0:2000:+,0:0 8000:8000"]
 ENDS = ["program", "tearing", "power"]
 
 
@@ -111,20 +113,22 @@ def test_a_sheet_in_a_file_is_stopped_at_each_change(by):
 
 
 @pytest.mark.parametrize("by", ENDS)
-def test_bringing_up_a_store_is_stopped_at_each_change(by):
+@pytest.mark.parametrize("records", [RECORDS, REALIGNED])
+def test_bringing_up_a_store_is_stopped_at_each_change(by, records):
     """A store of version 1 is opened, and brought up to version 2: an opening after the stop finds the same inventory."""
     with tempfile.TemporaryDirectory() as folder:
         top = pathlib.Path(folder)
-        make(top / "whole.db", *RECORDS)
+        make(top / "whole.db", *records)
         wanted = rows_of(top / "whole.db")
         as_first(copied(top / "whole.db", top / "first.db"))
-        again = REPLIES.replace(b",done,", b",again,")
+        sheet = FIRST + b"".join(map(record, records))
+        again = lines(*(f"s{n},again,{n}" for n in range(1, 8)), *(f"{text.partition(',')[0]},again,{n}" for n, text in enumerate(records, 8)))
 
         def test(stop):
             path = copied(top / "first.db", top / f"{stop.number}.db")
-            ended = stop.run(BUILT, "edit", path, "stdin", given=SHEET)
+            ended = stop.run(BUILT, "edit", path, "stdin", given=sheet)
             assert ended.status == (137 if stop.was_reached else 0), (stop.number, ended)
-            ends(edit(path, SHEET), again, 0)
+            ends(edit(path, sheet), again, 0)
             assert rows_of(path) == wanted, stop.number
             is_whole(path)
 

@@ -352,6 +352,32 @@ def test_the_first_unsound_table_is_named():
             refuses(path, f"Unsound:{table}")
 
 
+# the same of an inventory with one asset, on both sides of A1 from 2,500 to 8,000
+UNSOUND_WITH_ONE_ASSET = (
+    ("version", "UPDATE version SET v = 7"),
+    ("link", "INSERT INTO link VALUES (4, 0)"),
+    ("class", "UPDATE class SET kind = 3 WHERE name = 'SIGN'"),
+    ("asset", "UPDATE asset SET lateral = 100001 WHERE number = 10"),
+    ("piece", "UPDATE piece SET n = 2 WHERE route = 'A1' AND n = 1"),
+    ("mark", "UPDATE mark SET chainage = 7999 WHERE route = 'A1' AND chainage = 8000"),
+    ("ref", "INSERT INTO ref VALUES ('KM2', 'A1', 8000)"),
+    ("span", "INSERT INTO span VALUES (10, 'A1', 7000, 8000, 2)"),
+    ("entered", "UPDATE entered SET hi = 5001 WHERE link = 1 AND side = 0"),
+    ("gone", "DELETE FROM entered WHERE asset = 10"),
+    ("gone", "INSERT INTO gone VALUES (9, 0, 10, 1, 0, 1, 0)"),
+    ("edit", "DELETE FROM edit WHERE number = 8"),
+    ("origin", "UPDATE origin SET edit = 7 WHERE asset = 10"),
+)
+
+
+def test_the_first_unsound_table_of_an_inventory_with_one_asset_is_named():
+    for table, text in UNSOUND_WITH_ONE_ASSET:
+        with folder() as path:
+            make(path, "e1,enter,10,SPEED,A1,B,abs,3000,9000,80,0")
+            change(path, text)
+            refuses(path, f"Unsound:{table}")
+
+
 def test_the_first_unsound_table_of_the_first_version_is_named():
     """The rows stay as they are, whether the store has the table of origins or not; a reference to a row that is gone is told like any other."""
     for table, text in UNSOUND:

@@ -289,6 +289,17 @@ def test_turned_route():
     )
 
 
+def test_turned_route_with_a_sign():
+    """A sign on the left at its end is one on the right at its start, over the same millimetre of the link; a second turn undoes that."""
+    example(
+        SIGN_AT_THE_END,
+        does("j2,turn,A1", "j2,done,9", rows={20: "A1 0 1 R"}, **TURNED),
+        says("at A1 abs 0", "A1 0 2 0 +", "20 SIGN R 0 STOP 8"),
+        does("j3,turn,A1", "j3,done,10", rows={20: "A1 7999 8000 L"}, **NOT_TURNED),
+        says("at A1 abs 9000", "A1 7999 2 0 -", "20 SIGN L 0 STOP 8"),
+    )
+
+
 def test_turned_route_with_a_millimetre_on_each_side():
     """Millimetre 2 becomes 7,997, and each row there changes its side; the millimetres beside it have nothing before and after."""
     example(

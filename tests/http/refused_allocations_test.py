@@ -158,24 +158,85 @@ ANSWERS = lines(
 )
 
 
-def test_a_server_goes_on_after_a_refused_growth_in_each_question():
-    """It is answered in full, or 503; and the next time in full."""
-    asked = [request("POST /v1/questions", QUESTIONS, "Content-Type: text/csv"), *map(get, ["rows?route=A&from=3&to=7", "diagram?route=A", "totals"])]
+def goes_on(asked, step):
+    """A server whose allocations behind the first sheet are refused, each step-th in turn, answers these requests as they are to be answered, or
+    503; and the next time so. How often each was refused."""
     servers, refused = Servers(), collections.Counter()
-    with servers.start(Refusal("ALLOCATION", 0)) as (port, _):
-        answers = [answer(port, sent) for sent in asked]
-    assert answers[0] == sheet_reply(ANSWERS) and all(answered.startswith(b"HTTP/1.1 200 OK") for answered in answers)
 
     def test(port, note):
-        for sent, answered in zip(asked, answers):
+        for sent, answered in asked.items():
             got = answer(port, sent)
             if got != answered:
                 assert got in (reply(503), b""), got
                 refused[sent] += 1
                 assert answer(port, sent) == answered
 
-    servers.with_each_refused(test, 7)
+    servers.with_each_refused(test, step)
+    return refused
+
+
+def answered_without_a_refusal(asked):
+    with Servers().start(Refusal("ALLOCATION", 0)) as (port, _):
+        answers = {sent: answer(port, sent) for sent in asked}
+    assert all(answered.startswith(b"HTTP/1.1 200 OK") for answered in answers.values())
+    return answers
+
+
+def test_a_server_goes_on_after_a_refused_growth_in_each_question():
+    """It is answered in full, or 503; and the next time in full."""
+    asked = {request("POST /v1/questions", QUESTIONS, "Content-Type: text/csv"): sheet_reply(ANSWERS)}
+    asked.update(answered_without_a_refusal(map(get, ["rows?route=A&from=3&to=7", "diagram?route=A", "totals"])))
+    refused = goes_on(asked, 7)
     assert all(refused[sent] > 10 for sent in asked), refused
+
+
+# The route runs over link 3 from 0 to 4 and from 9 to 10 and 20 to 25, over link 7 from 5 to 20 and from 30 to 40. Its proportion 7/35 is
+# chainage 7, three millimetres behind the start of its second piece; its measure 40 is chainage 20, that of KM1.
+HITS = b'{"asset":4,"class":"SIGN","entry":8,"offset":0,"side":"L","value":"x"},{"asset":7,"class":"SIGN","entry":9,"offset":0,"side":"B","value":"x"},'
+HITS += b'{"asset":8,"class":"SPEED","entry":10,"offset":0,"side":"B","value":"80"}'
+PIECES = b'"3:0:4:+","7:5:20:+","3:9:10:+","7:30:40:+","3:20:25:+"'
+GETS = {
+    "at?route=A&method=int&pos=7/35": b'{"at":7,"dir":"+","hits":[' + HITS + b'],"link":7,"mm":8,"route":"A"}',
+    "translate?route=A&method=abs&pos=40&to=rel:KM1": b'{"method":"rel","pos":"KM1+0","route":"A"}',
+    "translate?route=A&method=abs&pos=40&to=link": b'{"method":"link","pos":"7:30","route":"A"}',
+    "segments?route=A&side=L&class=SPEED": b'{"route":"A","segments":[{"from":0,"to":35,"values":["80"]}],"side":"L"}',
+    "route/A": b'{"length":35,"marks":[[0,10],[20,40],[35,100]],"name":"A","pieces":[' + PIECES + b'],"refs":[{"at":20,"name":"KM1"}]}',
+    "find?asset=4": b'{"rows":[{"from":6,"route":"A","side":"L","to":35}]}',
+    "routes": b'{"routes":[{"length":35,"name":"A"}]}',
+}
+
+
+def test_a_server_goes_on_after_a_refused_growth_in_each_query():
+    """The same of queries, with each allocation of theirs refused."""
+    asked = {get(target): reply(200, body) for target, body in GETS.items()}
+    refused = goes_on(asked, 1)
+    assert all(refused[sent] > 5 for sent in asked), refused
+
+
+SURVEY = b"""key,asset,class,route,side,method,from,to,value,offset
+v1,20,SIGN,A,R,int,0/1,3/35,x,0
+v2,20,SIGN,A,R,int,0/1,3/35,x,0
+v3,21,SIGN,A,B,rel,KM1+1,KM1-1,x,0
+"""
+
+
+def test_a_server_goes_on_after_a_refused_growth_in_a_survey():
+    """It is done, or answered 503; sent again it is answered by the numbers under which its records were accepted."""
+    sent, found = request("POST /v1/surveys", SURVEY, "Content-Type: text/csv"), collections.Counter()
+    first = sheet_reply(lines("v1,done,11", "v2,refused,AssetKnown", "v3,refused,Empty"))
+    again = sheet_reply(lines("v1,again,11", "v2,refused,AssetKnown", "v3,refused,Empty"))
+
+    def test(port, note):
+        got = answer(port, sent)
+        found[got[:12]] += 1
+        if got != first:
+            assert got in (reply(503), b""), got
+            assert answer(port, sent) in (first, again)
+        # (the refusal may be of an allocation of the second)
+        assert again in [answer(port, sent), answer(port, sent)]
+
+    Servers().with_each_refused(test)
+    assert found[b"HTTP/1.1 503"] > 20, found
 
 
 # ---- a file that is looked at as a whole

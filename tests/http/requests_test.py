@@ -94,6 +94,8 @@ QUERIES = {
     "/v1/translate?route=A1&method=rel&pos=KM2%2B1&to=abs": TRANSLATED % (b"abs", b"18/5"),
     "/v1/translate?route=A1&method=rel&pos=KM2%2b1&to=int": TRANSLATED % (b"int", b"3/8000"),
     "/v1/translate?route=A1&method=rel&pos=KM2-2&to=abs": TRANSLATED % (b"abs", b"0"),
+    "/v1/translate?route=A1&method=rel&pos=KM2-0&to=rel:KM2": TRANSLATED % (b"rel", b"KM2+0"),
+    "/v1/translate?route=A1&method=int&pos=0000001/2&to=int": TRANSLATED % (b"int", b"1/2"),
     "/v1/translate?route=A1&method=abs&pos=3&to=rel:KM2": TRANSLATED % (b"rel", b"KM2+1/2"),
     "/v1/translate?route=A1&method=abs&pos=3&to=rel%3AKM2": TRANSLATED % (b"rel", b"KM2+1/2"),
     "/v1/translate?route=A1&method=int&pos=1/3&to=link": TRANSLATED % (b"link", b"1:8000/3"),
@@ -124,7 +126,7 @@ GOOD = {"route": "A1", "method": "rel", "pos": "KM2%2B0", "to": "abs", "side": "
 BAD = {
     "route": ["", "a1", "A1+", "A%2f1", "ABCDEFGHIJKLM", "%c3%a9", "%ff", "-A"],
     "method": ["", "Rel", "rel+", "measure", "rel%00"],
-    "pos": ["", "KM2", "KM2+0", "KM2%200", "3000", "KM2%2B10000000001", "KM2%2B1/2", "km2%2B0"],
+    "pos": ["", "KM2", "KM2+0", "KM2%200", "3000", "KM2%2B10000000001", "KM2%2B1/2", "KM2%2B%2B1", "km2%2B0"],
     "to": ["", "ABS", "rel", "rel:", "rel:km2", "rel+KM2", "links"],
     "side": ["", "r", "LR", "N"],
     "class": ["", "speed", "SPEED+", "ABCDEFGHI", "SPEED,RAIL"],
@@ -140,6 +142,11 @@ def test_the_first_malformed_parameter_is_named(desk, path):
         for wrong in [[], [name], *([f"{name}={text}"] for text in BAD[name])]:
             for pairs in [before + wrong + behind, behind + wrong + before]:
                 gets(desk, path + "&".join(pairs), error(400, f"Malformed:{name}"))
+
+
+@pytest.mark.parametrize("text", ["1/0", "3/2", "1000001/1000001", "1/", "-1/2", ""])
+def test_a_text_that_is_no_proportion(desk, text):
+    gets(desk, f"/v1/at?route=A1&method=int&pos={text}", error(400, "Malformed:pos"))
 
 
 @pytest.mark.parametrize("query", ["class=SPEED&class=speed", "class=&class=SPEED", "class=SPEED&class"])

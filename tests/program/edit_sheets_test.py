@@ -124,6 +124,32 @@ def test_routes_that_are_malformed():
     )
 
 
+UNREADABLE = {
+    "int": ["1/0", "3/2", "1000001/1000001", "1/", "-1/2", ""],
+    "abs": ["+5", "5.0", "100000000001", ""],
+    "rel": ["KM2", "KM2++1", "km2+1", "KM2+10000000001", ""],
+}
+
+
+@pytest.mark.parametrize("method", UNREADABLE)
+def test_texts_that_are_no_position(method):
+    after_first(*((f"n{n},ref,KM3,A1,{method},{text}", f"n{n},refused,Malformed:d") for n, text in enumerate(UNREADABLE[method])))
+
+
+def test_texts_of_one_position():
+    """Zeros before a number, terms that are not the lowest and the sign of a zero distance make no other command."""
+    after_first(
+        ("r1,ref,KM2,A1,abs,0000000000000000000000003", "r1,done,8"),
+        ("r1,ref,KM2,A1,abs,3", "r1,again,8"),
+        ("r2,ref,KM3,A1,int,0000001/2", "r2,done,9"),
+        ("r2,ref,KM3,A1,int,1/2", "r2,again,9"),
+        ("r2,ref,KM3,A1,int,500000/1000000", "r2,again,9"),
+        ("r3,ref,KM4,A1,rel,KM2-0", "r3,done,10"),
+        ("r3,ref,KM4,A1,rel,KM2+0", "r3,again,10"),
+        ("r3,ref,KM4,A1,rel,KM2+1", "r3,refused,KeyUsed:10"),
+    )
+
+
 def test_longest_route():
     links = [(f"k{n},link,{n},1000000000", f"k{n},done,{n - 10}") for n in range(11, 22)]
     pieces = [f"{n}:0:1000000000:+" for n in range(11, 22)]

@@ -66,6 +66,32 @@ def test_a_worked_row_bears_a_refused_growth(name):
     assert with_each_refused("ALLOCATION", test) > 100
 
 
+def test_a_survey_bears_a_refused_growth():
+    """Over an inventory in memory, without a class; and, each 29th allocation, over a file, its records one by one."""
+    replies = SURVEY_REPLIES
+    for n, key in enumerate([b"e1", b"p1", b"t1"], 8):
+        replies = replies.replace(b"%b,done,%d" % (key, n), b"%b,refused,NoClass" % key)
+
+    def in_memory(refusal):
+        ended = refusal.run(BUILT, "survey", ":memory:", "stdin", given=SURVEY)
+        is_answered_in_part(ended, replies, 1, {"Memory"})
+
+    assert with_each_refused("ALLOCATION", in_memory) > 50
+    with tempfile.TemporaryDirectory() as folder:
+        first = pathlib.Path(folder) / "first.db"
+        make(first)
+        made = first.read_bytes()
+
+        def in_a_file(refusal):
+            path = first.with_name(f"{refusal.number}.db")
+            path.write_bytes(made)
+            ended = refusal.run(BUILT, "survey", path, "stdin", given=SURVEY.replace(b"key", b'"key"', 1))
+            is_answered_in_part(ended, SURVEY_REPLIES, 1, {"Memory", "Open"})
+            path.unlink()
+
+        assert with_each_refused("ALLOCATION", in_a_file, step=29) > 10
+
+
 def at_all_verbs(kind, faults, step, one_by_one=True):
     """The sheet of all verbs over a file with each step-th call of a kind refused; and then once more. Behind a quote in the header its
     records are done one by one; else those are kept together that have arrived."""

@@ -84,14 +84,14 @@ def test_methods_that_cannot_be_read():
 def test_positions_that_cannot_be_read():
     unreadable = {
         "abs": ["", "x", "+3", "3.0", "9600/7", "1/3", "KM2+5", "100000000001", " 3", "3 "],
-        "rel": ["", "3000", "KM2", "KM2+", "+5", "km2+5", "KM2+1/2", "KM2+10000000001", "KM2*5", "ABCDEFGHIJKLM+1"],
-        "int": ["", "1", "1/", "/3", "1/0", "4/3", "1/1000001", "1/3/1"],
+        "rel": ["", "3000", "KM2", "KM2+", "+5", "km2+5", "km2+1", "KM2+1/2", "KM2++1", "KM2+10000000001", "KM2*5", "ABCDEFGHIJKLM+1"],
+        "int": ["", "1", "1/", "/3", "1/0", "3/2", "4/3", "1/1000001", "1000001/1000001", "1/3/1"],
     }
     for method, texts in unreadable.items():
         for text in texts:
             is_unreadable("at", ["A1", method, text], "POS is no position by this method")
             is_unreadable("translate", ["A1", method, text, "abs"], "POS is no position by this method")
-    readable = [("abs", "0"), ("abs", "100000000000"), ("abs", "007"), ("rel", "KM2+0"), ("rel", "KM2-10000000000"), ("int", "0/1"), ("int", "1000000/1000000")]
+    readable = [("abs", "0"), ("abs", "100000000000"), ("abs", "007"), ("rel", "KM2+0"), ("rel", "KM2-0"), ("rel", "KM2-10000000000"), ("int", "0/1"), ("int", "0000001/2"), ("int", "1000000/1000000")]
     for method, text in readable:
         refuses(ask("at", "A1", method, text), "NoRoute")
 

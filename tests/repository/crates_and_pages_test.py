@@ -174,6 +174,11 @@ def test_the_readme_is_short_and_leads_to_the_architecture():
     assert any("](docs/ARCHITECTURE.md)" in line for line in README.read_text().splitlines()[:10])
 
 
+def test_the_pages_stay_short():
+    for pages, most in [(TOP.glob("docs/*.md"), 165_000), (TOP.glob("crates/*/README.md"), 110 * 1024)]:
+        assert sum(page.stat().st_size for page in pages) <= most
+
+
 def test_few_clauses_are_longer_than_a_line():
     clauses = [line for path in sources() for line in path.read_text().splitlines() if re.match(r" *(requires|ensures)\b", line)]
     long = [line for line in clauses if len(line) > 100]

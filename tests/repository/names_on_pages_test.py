@@ -1,10 +1,11 @@
-"""What the page of forms says of the sources: each name that it gives as standing is one of theirs."""
+"""What the pages of forms and of wrong bodies say of the sources: each name that they give is one of theirs."""
 
 import re
 
 from program import TOP
 
 PAGE = TOP / "docs" / "FORMS.md"
+WRONG_BODIES = TOP / "docs" / "WRONG_BODIES.md"
 CRATES = TOP / "crates"
 HEAD = ["Call", "As it was asked for", "As it stands, and why"]
 
@@ -57,3 +58,11 @@ def test_each_name_that_stands_is_in_the_sources():
         assert words(named) <= everywhere, (named, words(named) - everywhere)
         for owner, member in re.findall(r"\b([A-Z]\w*)(?:::|\.)([A-Za-z_]\w*)", named):
             assert any({owner, member} <= names for names in known), named
+
+
+def test_each_wrong_body_that_is_named_stands():
+    """By its crate and its name, as `lrs_measure/floor_goes_up`."""
+    named = re.findall(r"`(lrs_\w+)/(\w+)`", WRONG_BODIES.read_text())
+    assert named
+    for crate, name in named:
+        assert [path for path in CRATES.glob(f"{crate}/*/{name}.edit") if path.parent.name in ("must-fail", "wrong-bodies")], (crate, name)
