@@ -1,10 +1,13 @@
 -- Whatever a run does, it does commands in order.
-use Rattle.std.proofs.Common.{ℕ, List, [], ◌∷◌, ◌++◌, Option, Result, Ok, Err, ap, ◌∙◌, inl, inr, take}
+use Rattle.std.proofs.Common.{◌≡◌, ◌⊎◌, ℕ, List, [], ◌∷◌, ◌++◌, Option, Result, Ok, Err, ap, sym, ◌∙◌, inl, inr, take}
 use Rattle.csv.specs.declared.reader.Reader.{Reader}
 use Rattle.lrs_machine.specs.Lines.{Text}
 use Rattle.lrs_machine.specs.Machine.{Record, state_after}
 use Rattle.lrs_machine.specs.State.{State}
 use Rattle.lrs_machine.specs.declared.answer.Limits.{Limits}
+use Rattle.lrs_machine.specs.declared.image.Image.{Image}
+use Rattle.lrs_machine.specs.declared.table.Table.{Table}
+use Rattle.lrs_machine.proofs.Stop.Stopping.{one_after_another}
 use Rattle.lrs_machine.specs.declared.stops.fault.Fault.TheVariants as stop
 use Rattle.lrs_sheet_records.specs.declared.sheet.Sheet.{Sheet}
 use Rattle.lrs_sheet_records.specs.declared.fault.SheetFault.{SheetFault}
@@ -12,8 +15,8 @@ use Rattle.lrs_sheet_records.specs.declared.fault.SheetFault.TheVariants as faul
 use Rattle.lrs_sheet.specs.declared.reply.Reply.{Reply}
 use Rattle.lrs_sheet.specs.declared.reply.Tally.{Tally}
 use Rattle.lrs_sheet.specs.Replies.{Replied}
-use Rattle.lrs_sheet.specs.Rows.{DoesRows, FailsToKeep}
-use Rattle.lrs_sheet.specs.Sheets.{IsAfterCommands}
+use Rattle.lrs_sheet.specs.Rows.{BreaksAfter, DoesRows, FailsToKeep}
+use Rattle.lrs_sheet.specs.Sheets.{IsAfterCommands, StandsAmid, StandsForEither}
 use Rattle.lrs_sheet.proofs.Waits.{replied-append}
 
 -- records that are answered are commands that are done, but for those that are malformed
@@ -38,6 +41,24 @@ done_failed sheet together rem rows limits before after old new failed = elim fa
   | inr ahead ↦ rw ahead (done_replied sheet limits before failed.flight.next (failed.records ++ take failed.flight.flying failed.further) (failed.replies ++ failed.flight.replies)
       (replied-append sheet limits failed.records (take failed.flight.flying failed.further) failed.replies failed.flight.replies before failed.settled failed.flight.next failed.answered.replied failed.flight.replied))
 ]
+
+-- ... and what is found then stands amid the commands that are done
+pub amid_rows : {R : Type 0} (sheet : Sheet) (together : ℕ) (rem : R → Option Text) (rows : Reader R) (limits : Limits) (before after : State) (old new : Option Text) (content : Result Image Table)
+    → BreaksAfter sheet together rem rows limits before after old new content → StandsAmid limits before after content
+amid_rows sheet together rem rows limits before after old new content (failed, stands) =
+    let (kept, one) = done_replied sheet limits before failed.settled failed.records failed.replies failed.answered.replied in
+    let (flying, more) = done_replied sheet limits failed.settled failed.flight.next (take failed.flight.flying failed.further) failed.flight.replies failed.flight.replied in
+    let all : failed.flight.next ≡ state_after limits (kept ++ flying) before = more ∙ ap (state_after limits flying) one ∙ sym (one_after_another limits kept flying before) in
+    record {
+      kept = kept;
+      flying = flying;
+      known = by one all failed.flight.image;
+      found = coe 0 1 (k. StandsForEither content (one k) (all k)) stands;
+    }
+  where
+    by : {settled next s t : State} {n : ℕ} → settled ≡ s → next ≡ t → ((n ≡ 1) × (after ≡ settled)) ⊎ (after ≡ next) → (after ≡ s) ⊎ (after ≡ t)
+    by s t (inl (alone, same)) = inl (same ∙ s)
+    by s t (inr same) = inr (same ∙ t)
 
 -- what doing the records under a header leaves
 pub done_rows : {R : Type 0} (sheet : Sheet) (together : ℕ) (rem : R → Option Text) (rows : Reader R) (limits : Limits) (before after : State) (old new : Option Text) (result : Result Tally SheetFault)

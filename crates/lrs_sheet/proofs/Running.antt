@@ -8,6 +8,7 @@ use Rattle.lrs_machine.specs.Lines.{Text}
 use Rattle.lrs_machine.specs.declared.image.Image.{Image}
 use Rattle.lrs_machine.specs.declared.table.Table.{Table}
 use Rattle.lrs_machine.specs.declared.stops.fault.Fault.TheVariants as stop
+use Rattle.lrs_desk.specs.Desk.{KeepsImage}
 use Rattle.lrs_desk.specs.DeskView.{DeskView}
 use Rattle.lrs_sheet_records.specs.Kinds.{IsHeader}
 use Rattle.lrs_sheet_records.specs.Rows.{EndsAfter, Gave, HasRead, IsReadFault}
@@ -23,52 +24,56 @@ use Rattle.lrs_sheet.specs.Rows.{IsRunOfRows}
 use Rattle.lrs_sheet.specs.Runs.{IsResumedRun, IsRunBehind, IsWholeRun}
 use Rattle.lrs_sheet.specs.Sheets.{LeavesDesk, RunsBehind, StandAtFront}
 use Rattle.lrs_sheet.proofs.Done.{no_commit, read_leaves, same_fault, stays}
-use Rattle.lrs_sheet.proofs.Left.{done_rows}
+use Rattle.lrs_sheet.proofs.Left.{amid_rows, done_rows}
 use Rattle.lrs_sheet.proofs.Whole.{bad-header, broke-under, empty-sheet, keeps-same, under-header, unread, whole}
 
 module _ {K : Type 0} {holds : K → Result Image Table → Type 0} {R : Type 0} (run : Run) (rem : R → Option Text) (known : Option Text) where
-  nothing-done : (desk : DeskView K) (text : Option Text) (result : Result Tally SheetFault)
+  nothing-done : (desk : DeskView K) (text : Option Text) (result : Result Tally SheetFault) → KeepsImage holds desk
       → IfSome known (λ input. (front : List (List Text)) → StandAtFront input front → length front ≡ run.passed → RunsBehind front run.sheet run.together desk.limits input (state_of desk.image) (state_of desk.image) text text result)
       → LeavesDesk holds desk desk result → (result ≡ Err (fault.Desk stop.Keep) → ⊥) → IsRunBehind holds run known desk desk text text result
-  nothing-done desk text result runs leaves never = record {
+  nothing-done desk text result kept runs leaves never = record {
     runs = runs;
     desk = leaves;
     broken = λ is. absurd (never is);
     still = λ is. absurd (never is);
     left = ([], refl);
+    kept = kept;
+    amid = λ is. absurd (never is);
   }
 
   -- the first read failed
-  pub unread-run : (rows : Reader R) (desk : DeskView K) (text : Option Text) (e : SheetFault) → expected_len rows ≡ None → IsReadFault rem rows e → IsRunBehind holds run known desk desk text text (Err e)
-  unread-run rows desk text e first why =
-      nothing-done desk text (Err e) (unread run.sheet run.together rem rows known desk.limits (state_of desk.image) text run.passed e first why) (read_leaves rem rows desk desk e why (stays desk)) (no_commit rem rows e why)
+  pub unread-run : (rows : Reader R) (desk : DeskView K) (text : Option Text) (e : SheetFault) → KeepsImage holds desk → expected_len rows ≡ None → IsReadFault rem rows e → IsRunBehind holds run known desk desk text text (Err e)
+  unread-run rows desk text e kept first why =
+      nothing-done desk text (Err e) kept (unread run.sheet run.together rem rows known desk.limits (state_of desk.image) text run.passed e first why) (read_leaves rem rows desk desk e why (stays desk)) (no_commit rem rows e why)
 
   -- there are not so many records as are passed over, or no memory for them
-  pub unskipped-run : (rows : Reader R) (desk : DeskView K) (text : Option Text) (e : SheetFault) → expected_len rows ≡ None → (e ≡ fault.Read) ⊎ (e ≡ fault.Memory) → IsRunBehind holds run known desk desk text text (Err e)
-  unskipped-run rows desk text e first (inl is) = rw is (unread-run rows desk text fault.Read first tt)
-  unskipped-run rows desk text e first (inr is) = rw is (unread-run rows desk text fault.Memory first tt)
+  pub unskipped-run : (rows : Reader R) (desk : DeskView K) (text : Option Text) (e : SheetFault) → KeepsImage holds desk → expected_len rows ≡ None → (e ≡ fault.Read) ⊎ (e ≡ fault.Memory) → IsRunBehind holds run known desk desk text text (Err e)
+  unskipped-run rows desk text e kept first (inl is) = rw is (unread-run rows desk text fault.Read kept first tt)
+  unskipped-run rows desk text e kept first (inr is) = rw is (unread-run rows desk text fault.Memory kept first tt)
 
   -- a sheet with no record
-  pub empty-run : (rows : Reader R) (desk : DeskView K) (text : Option Text) (tally : Tally) → IfSome known (λ input. HasRead rem rows input []) → EndsAfter rem rows [] → tally ≡ tally_of [] → IsRunBehind holds run known desk desk text text (Ok tally)
-  empty-run rows desk text tally start ends none =
-      nothing-done desk text (Ok tally) (empty-sheet run.sheet run.together rem rows known desk.limits (state_of desk.image) text tally run.passed start ends none) (stays desk) (λ is. absurd (cc is))
+  pub empty-run : (rows : Reader R) (desk : DeskView K) (text : Option Text) (tally : Tally) → KeepsImage holds desk → IfSome known (λ input. HasRead rem rows input []) → EndsAfter rem rows [] → tally ≡ tally_of [] → IsRunBehind holds run known desk desk text text (Ok tally)
+  empty-run rows desk text tally kept start ends none =
+      nothing-done desk text (Ok tally) kept (empty-sheet run.sheet run.together rem rows known desk.limits (state_of desk.image) text tally run.passed start ends none) (stays desk) (λ is. absurd (cc is))
 
   -- a sheet of another header
-  pub headless-run : (rows next : Reader R) (desk : DeskView K) (text : Option Text) (fields : List Text) → IfSome known (λ input. HasRead rem rows input []) → Gave rem rows next (fields ∷ []) → (IsHeader run.sheet fields → ⊥)
+  pub headless-run : (rows next : Reader R) (desk : DeskView K) (text : Option Text) (fields : List Text) → KeepsImage holds desk → IfSome known (λ input. HasRead rem rows input []) → Gave rem rows next (fields ∷ []) → (IsHeader run.sheet fields → ⊥)
       → IsRunBehind holds run known desk desk text text (Err fault.BadHeader)
-  headless-run rows next desk text fields start gave other =
-      nothing-done desk text (Err fault.BadHeader) (bad-header run.sheet run.together rem rows next known desk.limits (state_of desk.image) text fields run.passed start gave other) (stays desk, refl) (λ is. absurd (cc is))
+  headless-run rows next desk text fields kept start gave other =
+      nothing-done desk text (Err fault.BadHeader) kept (bad-header run.sheet run.together rem rows next known desk.limits (state_of desk.image) text fields run.passed start gave other) (stays desk, refl) (λ is. absurd (cc is))
 
   -- the records behind those that are passed over
-  pub run-under : (rows mid next : Reader R) (before after : DeskView K) (old new : Option Text) (fields : List Text) (result : Result Tally SheetFault)
+  pub run-under : (rows mid next : Reader R) (before after : DeskView K) (old new : Option Text) (fields : List Text) (result : Result Tally SheetFault) → KeepsImage holds after
       → IfSome known (λ input. HasRead rem rows input []) → Gave rem rows mid (fields ∷ []) → IsHeader run.sheet fields → ((read : List (List Text)) × (length read ≡ run.passed) × Gave rem mid next read)
       → IsRunOfRows holds run rem next before after old new result → IsRunBehind holds run known before after old new result
-  run-under rows mid next before after old new fields result start gave header skipped does = record {
+  run-under rows mid next before after old new fields result now-kept start gave header skipped does = record {
     runs = under-header run.sheet run.together rem rows mid next known before.limits (state_of before.image) (state_of after.image) old new fields run.passed result start gave header skipped does.rows;
     desk = does.desk;
     broken = λ is kept found. broke-under run.sheet run.together rem rows mid next known before.limits (state_of before.image) (state_of after.image) old new kept fields run.passed start gave header skipped (does.broken is kept found);
     still = does.still;
     left = done_rows run.sheet run.together rem next before.limits (state_of before.image) (state_of after.image) old new result does.rows;
+    kept = now-kept;
+    amid = λ is c found. amid_rows run.sheet run.together rem next before.limits (state_of before.image) (state_of after.image) old new c (does.broken is c found);
   }
 
 -- where a search fails, a desk stays, and no commit has failed
@@ -95,16 +100,20 @@ module _ {K : Type 0} {holds : K → Result Image Table → Type 0} (sheet : She
     broken = λ is kept found. whole _ known (ran.broken is kept found);
     still = ran.still;
     left = ran.left;
+    kept = ran.kept;
+    amid = ran.amid;
   }
 
   -- a search failed, and nothing is gone on with
-  pub unsearched-run : (input : Text) (desk : DeskView K) (text : Option Text) (e : SheetFault) → IsSearchFault desk.must_reopen e → IsResumedRun holds sheet together input desk desk text text (Err e)
-  unsearched-run input desk text e is = record {
+  pub unsearched-run : (input : Text) (desk : DeskView K) (text : Option Text) (e : SheetFault) → KeepsImage holds desk → IsSearchFault desk.must_reopen e → IsResumedRun holds sheet together input desk desk text text (Err e)
+  unsearched-run input desk text e kept is = record {
     runs = inl (is, refl, keeps-same text);
     desk = search-leaves holds desk e is;
     broken = λ same. absurd (never-broken desk.must_reopen e is same);
     still = λ same. absurd (never-broken desk.must_reopen e is same);
     left = ([], refl);
+    kept = kept;
+    amid = λ same. absurd (never-broken desk.must_reopen e is same);
   }
 
   -- a sheet is gone on with behind the decided records
@@ -116,4 +125,6 @@ module _ {K : Type 0} {holds : K → Result Image Table → Type 0} (sheet : She
     broken = λ is kept found. (d, front, by, ran.broken is kept found front by.at_front (sym by.number));
     still = ran.still;
     left = ran.left;
+    kept = ran.kept;
+    amid = ran.amid;
   }

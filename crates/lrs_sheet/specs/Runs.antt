@@ -5,6 +5,7 @@ use Rattle.lrs_machine.specs.Lines.{Text}
 use Rattle.lrs_machine.specs.declared.image.Image.{Image}
 use Rattle.lrs_machine.specs.declared.table.Table.{Table}
 use Rattle.lrs_machine.specs.declared.stops.fault.Fault.TheVariants as stop
+use Rattle.lrs_desk.specs.Desk.{KeepsImage}
 use Rattle.lrs_desk.specs.DeskView.{DeskView}
 use Rattle.lrs_sheet_records.specs.declared.fault.SheetFault.{SheetFault}
 use Rattle.lrs_sheet_records.specs.declared.fault.SheetFault.TheVariants as fault
@@ -12,7 +13,7 @@ use Rattle.lrs_sheet_records.specs.declared.sheet.Sheet.{Sheet}
 use Rattle.lrs_sheet.specs.declared.reply.Tally.{Tally}
 use Rattle.lrs_sheet.specs.declared.run.Run.{Run}
 use Rattle.lrs_sheet.specs.Resumption.{BreaksOffResumed, Resumes}
-use Rattle.lrs_sheet.specs.Sheets.{BreaksOff, BreaksOffBehind, IsAfterCommands, LeavesDesk, Runs, RunsBehind, StandAtFront}
+use Rattle.lrs_sheet.specs.Sheets.{BreaksOff, BreaksOffBehind, IsAfterCommands, LeavesDesk, Runs, RunsBehind, StandAtFront, StandsAmid}
 
 -- Each run is told by what may be kept, the bytes that the reader has, if it tells them, the desk before and after, what the writer was given before and after, and how the run ended.
 module _ {K : Type 0} (holds : K → Result Image Table → Type 0) where
@@ -29,6 +30,10 @@ module _ {K : Type 0} (holds : K → Result Image Table → Type 0) where
     pub still : result ≡ Err (fault.Desk stop.Keep) → together ≡ 1 → after.is_ahead ≡ false
     -- whatever bytes the reader gives, commands are done in order
     pub left : IsAfterCommands before.limits (state_of before.image) (state_of after.image)
+    -- ... while no commit has failed the keeper has the image that they made, and nothing else
+    pub kept : KeepsImage holds after
+    -- ... and after a failed commit what it has stands amid them
+    pub amid : result ≡ Err (fault.Desk stop.Keep) → (c : Result Image Table) → holds after.keeper c → StandsAmid before.limits (state_of before.image) (state_of after.image) c
 
   -- A sheet is run behind the records that are passed over: the same of the others.
   pub record IsRunBehind (run : Run) (known : Option Text) (before after : DeskView K) (old new : Option Text) (result : Result Tally SheetFault) : Type 0 where
@@ -40,6 +45,8 @@ module _ {K : Type 0} (holds : K → Result Image Table → Type 0) where
         → BreaksOffBehind front run.sheet run.together before.limits input (state_of before.image) (state_of after.image) old new c)
     pub still : result ≡ Err (fault.Desk stop.Keep) → run.together ≡ 1 → after.is_ahead ≡ false
     pub left : IsAfterCommands before.limits (state_of before.image) (state_of after.image)
+    pub kept : KeepsImage holds after
+    pub amid : result ≡ Err (fault.Desk stop.Keep) → (c : Result Image Table) → holds after.keeper c → StandsAmid before.limits (state_of before.image) (state_of after.image) c
 
   -- A sheet is gone on with, whose bytes are these: the same of the records behind those that are decided; or it is not begun.
   pub record IsResumedRun (sheet : Sheet) (together : ℕ) (input : Text) (before after : DeskView K) (old new : Option Text) (result : Result Tally SheetFault) : Type 0 where
@@ -49,3 +56,5 @@ module _ {K : Type 0} (holds : K → Result Image Table → Type 0) where
         → BreaksOffResumed sheet together before.limits input (state_of before.image) (state_of after.image) old new c
     pub still : result ≡ Err (fault.Desk stop.Keep) → together ≡ 1 → after.is_ahead ≡ false
     pub left : IsAfterCommands before.limits (state_of before.image) (state_of after.image)
+    pub kept : KeepsImage holds after
+    pub amid : result ≡ Err (fault.Desk stop.Keep) → (c : Result Image Table) → holds after.keeper c → StandsAmid before.limits (state_of before.image) (state_of after.image) c

@@ -162,6 +162,13 @@ StandsFor content state = (image : Image) × (content ≡ Ok image) × (state_of
 abbrev pub StandsForEither : Result Image Table → State → State → Type 0
 StandsForEither content one other = StandsFor content one ⊎ StandsFor content other
 
+-- Some commands are kept, and others stand behind them in flight: what is found stands for the state before those in flight or for that after them, and so does the image.
+pub record StandsAmid (limits : Limits) (before image : State) (content : Result Image Table) : Type 0 where
+  pub kept : List Record
+  pub flying : List Record
+  pub known : (image ≡ state_after limits kept before) ⊎ (image ≡ state_after limits (kept ++ flying) before)
+  pub found : StandsForEither content (state_after limits kept before) (state_after limits (kept ++ flying) before)
+
 -- A commit failed: what the keeper has stands for the state of the records that have lines, or for that after all in flight.
 abbrev pub BreaksOffBehind : List (List Text) → Sheet → ℕ → Limits → Text → State → State → Option Text → Option Text → Result Image Table → Type 0
 BreaksOffBehind passed sheet together limits input before after old new content =

@@ -115,9 +115,9 @@ fn act_together<W: Write, K: Keeper>(
         (W.contents writer.old) (W.contents writer.new)) }
     ensures desk { LeavesDesk K.may_hold desk.old desk.new result }
 {
-    let answers = desk.act_on_first(commands)?;
-    write_answers(commands, &answers, writer, tally)?;
-    Ok(answers.len())
+    let done = desk.act_on_first(commands)?;
+    write_answers(commands, &done.answers, writer, tally)?;
+    Ok(done.answers.len())
 }
 
 /// Does the first of these commands, one at least, writes their lines and counts them. Says how many they are.

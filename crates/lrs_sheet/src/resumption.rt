@@ -152,6 +152,7 @@ pub fn resume_sheet<W: Write, K: Keeper>(
     ensures { IsResumedRun K.may_hold sheet together text.now desk.old desk.new
         (W.contents writer.old) (W.contents writer.new) result }
 {
+    desk.prove_kept();
     let found = last_edit(alloc, sheet, text, desk)?;
     let run = Run {
         sheet,

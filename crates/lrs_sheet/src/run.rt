@@ -118,6 +118,7 @@ fn run_groups<R: Read + Arrival + Drop, W: Write, K: Keeper>(
     ensures { IsRunBehind K.may_hold run (R.remaining reader) desk.old desk.new
         (W.contents writer.old) (W.contents writer.new) result }
 {
+    desk.prove_kept();
     let mut rows = open(alloc, reader);
     let mut row = ByteRecord::new(alloc);
     if !next_row(&mut rows, &mut row)? {
@@ -127,7 +128,9 @@ fn run_groups<R: Read + Arrival + Drop, W: Write, K: Keeper>(
         return Err(SheetFault::BadHeader);
     }
     skip_rows(&mut rows, &mut row, run.passed)?;
-    do_rows(alloc, run, &mut rows, &mut row, writer, desk)
+    let ended = do_rows(alloc, run, &mut rows, &mut row, writer, desk);
+    desk.prove_kept();
+    ended
 }
 
 /// Does the records of a sheet behind those that are passed over, in order, some together: they are kept together, and
