@@ -73,8 +73,8 @@ module _ (i : Image) (sound : IsSound i) (a : Asset) (known : In a i.assets) whe
 
   module _ (r : RouteRow) (m : In r i.routes) where
     -- a row of the asset is of its class
-    of_class : (q : Span) → In q r.spans → nat_eq q.asset a.number ≡ is_of a.class a.number q
-    of_class q n = by (cases_Bool (nat_eq q.asset a.number))
+    pub row_of_class : (q : Span) → In q r.spans → nat_eq q.asset a.number ≡ is_of a.class a.number q
+    row_of_class q n = by (cases_Bool (nat_eq q.asset a.number))
       where
         by : (nat_eq q.asset a.number ≡ true) ⊎ (nat_eq q.asset a.number ≡ false) → nat_eq q.asset a.number ≡ is_of a.class a.number q
         by (inl e) =
@@ -105,7 +105,7 @@ module _ (i : Image) (sound : IsSound i) (a : Asset) (known : In a i.assets) whe
         let ends : end_within (length r.route.course) r.spans ≡ true =
         all_weaker (is_span i.assets (length r.route.course)) (λ q. nat_le q.to (length r.route.course)) r.spans
         (λ q t. (and_parts (nat_le q.to (length r.route.course)) (list_any (λ (b : Asset). nat_eq b.number q.asset && same_name b.class q.class) i.assets) t).0) (rows_fit i r sound m) in
-        ap (map row_run) (sym (filter_alike (λ q. nat_eq q.asset a.number) (is_of a.class a.number) r.spans of_class))
+        ap (map row_run) (sym (filter_alike (λ q. nat_eq q.asset a.number) (is_of a.class a.number) r.spans row_of_class))
         ∙ rows_are_canonical r.route.course r.spans it.once rows ends a.number
         ∙ ap (λ sides. filter_map held_run (runs_of (same_option same_side) sides)) held_alike
         ∙ ap (λ o. option_map_or (λ (al : Alignment). canonical_rows ((state_of i).holds a.number) al.course) o []) (sym route_get)

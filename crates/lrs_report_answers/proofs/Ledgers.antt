@@ -65,13 +65,13 @@ step : (v c : ℕ) (b : Bool) → cond b v 0 + v * c ≡ v * (cond b 1 0 + c)
 step v c true = omega arith
 step v c false = omega arith
 
-sum-gate : {X : Type 0} (f : X → Bool) (v : ℕ) (xs : List X) → sum_by (λ x. cond (f x) v 0) xs ≡ v * count_by f xs
+pub sum-gate : {X : Type 0} (f : X → Bool) (v : ℕ) (xs : List X) → sum_by (λ x. cond (f x) v 0) xs ≡ v * count_by f xs
 sum-gate f v [] = omega arith
 sum-gate f v (x ∷ xs) =
     sum_by-cons (λ x. cond (f x) v 0) x xs ∙ ap (λ n. cond (f x) v 0 + n) (sum-gate f v xs) ∙ step v (count_by f xs) (f x)
     ∙ ap (λ n. v * n) (sym (sum_by-cons (λ x. cond (f x) 1 0) x xs))
 
-sum-if : {X : Type 0} (b : Bool) (f : X → ℕ) (xs : List X) → sum_by (λ x. cond b (f x) 0) xs ≡ cond b (sum_by f xs) 0
+pub sum-if : {X : Type 0} (b : Bool) (f : X → ℕ) (xs : List X) → sum_by (λ x. cond b (f x) 0) xs ≡ cond b (sum_by f xs) 0
 sum-if true f xs = refl
 sum-if false f xs = sum-none xs
 
@@ -139,7 +139,7 @@ module _ (part : Part) (some : part.from < part.to) where
 
 -- ---- the rows of a ledger
 
-any_counted : {X : Type 0} (f : X → Bool) (xs : List X) → count_by f xs ≤ 1 → cond (list_any f xs) 1 0 ≡ count_by f xs
+pub any_counted : {X : Type 0} (f : X → Bool) (xs : List X) → count_by f xs ≤ 1 → cond (list_any f xs) 1 0 ≡ count_by f xs
 any_counted f [] few = refl
 any_counted f (x ∷ xs) few = by (cases_Bool (f x)) (any_counted f xs)
   where
@@ -175,7 +175,7 @@ gated true true h places = refl
 gated true false h places = sum-none places
 gated false c h places = sum-none places
 
-own_side : (x : LinkSide) → same_link_side x x ≡ true
+pub own_side : (x : LinkSide) → same_link_side x x ≡ true
 own_side Left = refl
 own_side Right = refl
 

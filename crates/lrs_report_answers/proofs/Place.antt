@@ -3,4 +3,5 @@ pub mod Names
 pub mod Spots
 pub mod Targets
 pub mod Ways
+pub mod Exact
 pub mod Links

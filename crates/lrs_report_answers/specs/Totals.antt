@@ -1,6 +1,7 @@
 -- What there is of each class, and totals of a class by the rows of the ledgers.
-use Rattle.std.specs.Prelude.{◌≡◌, ℕ, ◌+◌, ◌-◌, Bool, false, if◌then◌else◌, List, map, filter, sum_by}
+use Rattle.std.specs.Prelude.{◌≡◌, ℕ, ◌+◌, ◌-◌, Bool, true, false, if◌then◌else◌, List, map, filter, sum_by}
 use Rattle.std.specs.Option.{option_map_or}
+use Rattle.lrs_measure.specs.Lists.{each_two}
 use Rattle.lrs_measure.specs.Texts.{Name, same_name}
 use Rattle.lrs_events.specs.declared.part.Part.{Part}
 use Rattle.lrs_events.specs.declared.part.Gone.{Gone}
@@ -9,8 +10,9 @@ use Rattle.lrs_machine.specs.Image.{state_of, reason_of}
 use Rattle.lrs_machine.specs.declared.total.Total.{Total}
 use Rattle.lrs_machine.specs.Readings.{total_entered, total_gone, total_present}
 use Rattle.lrs_machine.specs.Register.{get, entries}
-use Rattle.lrs_machine.specs.Sound.{IsSound}
+use Rattle.lrs_machine.specs.Sound.{IsSound, asset_before, class_before}
 use Rattle.lrs_machine.specs.State.{State, Reason, Retired, Abandoned, same_reason}
+use Rattle.lrs_report.specs.ListTotals.{list_totals}
 
 -- what the state has of a class, in side millimetres
 abbrev pub total_of_class : State → Name → Total
@@ -48,3 +50,12 @@ pub record HasTotals (i : Image) (class : Name) : Type 0 where
 
 abbrev pub LedgersTotal : Type 0
 LedgersTotal = (i : Image) → IsSound i → (class : Name) → HasTotals i class
+
+-- The lists of an image are in the order in which their totals are counted, and what is counted over them is what its state has.
+pub record HasListTotals (i : Image) : Type 0 where
+  pub classes_order : each_two class_before i.classes ≡ true
+  pub assets_order : each_two asset_before i.assets ≡ true
+  pub totals : list_totals i.classes i.assets (map (λ e. e.spans) i.routes) i.entered i.gone ≡ totals_of (state_of i)
+
+abbrev pub ListsTotal : Type 0
+ListsTotal = (i : Image) → IsSound i → HasListTotals i

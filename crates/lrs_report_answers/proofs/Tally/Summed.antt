@@ -29,7 +29,7 @@ use Rattle.lrs_report_answers.specs.declared.tallies.tally.Count.{Count}
 use Rattle.lrs_report_answers.specs.declared.tallies.tally.CountedSum.{CountedSum}
 use Rattle.lrs_report_answers.specs.declared.tallies.tally.CountedSum.TheVariants as column
 use Rattle.lrs_report_answers.specs.Tally.Counts.{no_count, raised, raised_of, with_part, with_rows, with_entered, with_gone, column_of, total_counted}
-use Rattle.lrs_report.specs.ListTally.{kept_sum}
+use Rattle.lrs_report.specs.ListTotals.{kept_sum}
 use Rattle.lrs_report_answers.specs.Tally.RunningCounts.{count_in, counts_in}
 use Rattle.lrs_report_answers.specs.Totals.{is_of_class, ledger_total, total_of_class, totals_of}
 use Rattle.lrs_report_answers.proofs.AllRows.{sought, asset_is}
@@ -115,7 +115,7 @@ module _ (assets : List Asset) (of_class : Name → ℕ → Bool) (is : (n : ℕ
 none_more : (n : ℕ) → 0 + n ≡ n
 none_more n = omega arith
 
-sum-filtered : {X Y : Type 0} (q : X → Bool) (view : X → Y) (f : Y → ℕ) (xs : List X) → sum_by (λ x. cond (q x) (f (view x)) 0) xs ≡ sum_by f (map view (filter q xs))
+pub sum-filtered : {X Y : Type 0} (q : X → Bool) (view : X → Y) (f : Y → ℕ) (xs : List X) → sum_by (λ x. cond (q x) (f (view x)) 0) xs ≡ sum_by f (map view (filter q xs))
 sum-filtered q view f [] = refl
 sum-filtered q view f (x ∷ xs) = sum_by-cons (λ x. cond (q x) (f (view x)) 0) x xs ∙ by (q x) (sum-filtered q view f xs)
   where
@@ -195,7 +195,7 @@ no_more false n = omega arith
 fits : (n m few : ℕ) → n ≤ few * 20_000_000_000 → few ≤ 1_000_000 → m ≤ n → m ≤ 20_000_000_000_000_000
 fits n m few h l s = omega (arith, h, l, s)
 
-kept_is : (m x : ℕ) → x ≡ m → m ≤ 20_000_000_000_000_000 → kept_sum x ≡ m
+pub kept_is : (m x : ℕ) → x ≡ m → m ≤ 20_000_000_000_000_000 → kept_sum x ≡ m
 kept_is m x e l = omega (arith, e, l)
 
 present_is : (e r a p : ℕ) → p + r + a ≡ e → e ≤ 20_000_000_000_000_000 → e - kept_sum (r + a) ≡ p
@@ -207,10 +207,10 @@ of_first a b t e z = omega (arith, e, z)
 of_second : (a b t : ℕ) → a ≡ 0 → b ≡ t → (0 + a) + b ≡ t
 of_second a b t z e = omega (arith, e, z)
 
-second_less : (p r a e n : ℕ) → p + r + a ≡ e → e ≤ n → r ≤ n
+pub second_less : (p r a e n : ℕ) → p + r + a ≡ e → e ≤ n → r ≤ n
 second_less p r a e n h l = omega (arith, h, l)
 
-third_less : (p r a e n : ℕ) → p + r + a ≡ e → e ≤ n → a ≤ n
+pub third_less : (p r a e n : ℕ) → p + r + a ≡ e → e ≤ n → a ≤ n
 third_less p r a e n h l = omega (arith, h, l)
 
 no_sum : 0 ≡ kept_sum 0
@@ -233,7 +233,7 @@ module _ (i : Image) (sound : IsSound i) where
   of_class : (n : ℕ) (class : Name) → class_is (sought i n) class ≡ is_of_class s class n
   of_class n class = of_entry (sought i n) class ∙ ap (λ (o : Option state.Asset). option_map_or (λ (a : state.Asset). same_name a.class class) o false) (sym (asset_is i n))
 
-  few_entered : (class : Name) → total_entered class s ≤ 20_000_000_000_000_000
+  pub few_entered : (class : Name) → total_entered class s ≤ 20_000_000_000_000_000
   few_entered class =
       let e = (ledgers_total i sound class).entered in
       let less = sum-less (λ (p : Part). cond (is_of_class s class p.asset) (reach p) 0) reach i.entered (λ p m. no_more (is_of_class s class p.asset) (reach p)) in

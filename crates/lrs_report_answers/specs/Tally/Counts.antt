@@ -10,7 +10,7 @@ use Rattle.lrs_events.specs.declared.class.Class.{Class}
 use Rattle.lrs_events.specs.declared.part.Part.{Part}
 use Rattle.lrs_events.specs.declared.part.Gone.{Gone}
 use Rattle.lrs_machine.specs.declared.total.Total.{Total}
-use Rattle.lrs_report.specs.ListTally.{kept_sum}
+use Rattle.lrs_report.specs.ListTotals.{kept_sum}
 use Rattle.lrs_report_answers.specs.declared.tallies.tally.Count.{Count}
 use Rattle.lrs_report_answers.specs.declared.tallies.tally.CountedSum.{CountedSum}
 use Rattle.lrs_report_answers.specs.declared.tallies.tally.CountedSum.TheVariants.{Entered, Retired, Abandoned}
