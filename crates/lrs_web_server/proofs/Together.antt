@@ -1,9 +1,34 @@
 -- Visits, and others after them.
-use Rattle.std.proofs.Common.{◌≡◌, ℕ, ◌+◌, List, [], ◌∷◌, ◌++◌, Result, refl, sym, subst, append_assoc, append-nil, length-append, arith}
+use Rattle.std.proofs.Common.{◌≡◌, ℕ, ◌+◌, List, [], ◌∷◌, ◌++◌, Option, Some, None, IfOk, IfSome, Result, Ok, Err, refl, sym, ap, subst, ◌∙◌, append_assoc, append-nil, length-append, map, arith}
+use Rattle.std.specs.Prelude.{OnErr}
+use Rattle.std.proofs.lemmas.List.{map-append}
+use Rattle.lrs_machine.specs.Lines.{Text}
 use Rattle.lrs_machine.specs.declared.image.Image.{Image}
 use Rattle.lrs_machine.specs.declared.table.Table.{Table}
 use Rattle.lrs_web.specs.DeskView.{DeskView}
-use Rattle.lrs_web.specs.Visits.{Exchange, HasVisited, Visits, nobody, full_visit, cut_visit}
+use Rattle.lrs_web.specs.Visits.{Connection, Exchange, HasVisited, Visited, Visits, back_as, exchange_of, given_as, nobody, full_visit, cut_visit}
+use Rattle.lrs_web.specs.declared.door.Served.{Served}
+use Rattle.lrs_web.proofs.Visiting.{has_visited}
+
+-- ---- connections of the list of a door
+
+module _ {R W : Type 0} where
+  -- those that were taken off it, and others after them
+  taken_both : (w l m : Option (List (R × W))) (some more : List (Connection R W)) → IfSome w (λ all. (rest : List (R × W)) × (all ≡ map given_as some ++ rest) × (l ≡ Some rest))
+      → IfSome l (λ all. (rest : List (R × W)) × (all ≡ map given_as more ++ rest) × (m ≡ Some rest)) → IfSome w (λ all. (rest : List (R × W)) × (all ≡ map given_as (some ++ more) ++ rest) × (m ≡ Some rest))
+  taken_both None l m some more first later = tt
+  taken_both (Some all) l m some more (left, is, now) later =
+      let (rest, are, end) = subst (λ list. IfSome list (λ all. (rest : List (R × W)) × (all ≡ map given_as more ++ rest) × (m ≡ Some rest))) now later in
+      let both = sym (append_assoc (map given_as some) (map given_as more) rest) ∙ ap (λ given. given ++ rest) (sym (map-append given_as some more)) in
+      (rest, is ∙ ap (λ list. map given_as some ++ list) are ∙ both, end)
+
+  -- those that it has back, and others behind them
+  back_both : (e b p : Option (List W)) (some more : List (Connection R W)) → IfSome e (λ earlier. b ≡ Some (earlier ++ map back_as some)) → IfSome b (λ earlier. p ≡ Some (earlier ++ map back_as more))
+      → IfSome e (λ earlier. p ≡ Some (earlier ++ map back_as (some ++ more)))
+  back_both None b p some more first later = tt
+  back_both (Some earlier) b p some more first later =
+      subst (λ list. IfSome list (λ earlier. p ≡ Some (earlier ++ map back_as more))) first later
+      ∙ ap Some (append_assoc earlier (map back_as some) (map back_as more) ∙ ap (λ back. earlier ++ back) (sym (map-append back_as some more)))
 
 module _ {K : Type 0} (holds : K → Result Image Table → Type 0) where
   moved : {xs ys : List Exchange} {f g c d : ℕ} {old new : DeskView K} → xs ≡ ys → f ≡ g → c ≡ d → Visits holds xs f c old new → Visits holds ys g d old new
@@ -26,8 +51,27 @@ module _ {K : Type 0} (holds : K → Result Image Table → Type 0) where
       moved (append_assoc before inputs (input ∷ [])) refl same_cut
       (cut_visit (before ++ inputs) input (full + f) (cut + c) old by to (together earlier before full cut old first) done)
 
-  -- what was visited, and then more
-  pub has_visited_more : (full cut more_full more_cut : ℕ) (old mid new : DeskView K) → HasVisited holds full cut old mid → HasVisited holds more_full more_cut mid new
-      → HasVisited holds (full + more_full) (cut + more_cut) old new
-  has_visited_more full cut more_full more_cut old mid new (inputs, number, visits) (more, counted, visited) =
-      (inputs ++ more, simp length-append (omega (arith, number, counted)), together visited inputs full cut old visits)
+  module _ {R W : Type 0} (remaining : R → Option Text) (contents : W → Option Text) where
+    -- connections that were visited, and then more
+    pub visited_more : (w l m : Option (List (R × W))) (e b p : Option (List W)) (full cut more_full more_cut : ℕ) (old mid new : DeskView K) → Visited holds remaining contents w l e b full cut old mid
+        → Visited holds remaining contents l m b p more_full more_cut mid new → Visited holds remaining contents w m e p (full + more_full) (cut + more_cut) old new
+    visited_more w l m e b p full cut more_full more_cut old mid new first more = record {
+      served = first.served ++ more.served;
+      taken = taken_both w l m first.served more.served first.taken more.taken;
+      returned = back_both e b p first.served more.served first.returned more.returned;
+      number = simp length-append (omega (arith, first.number, more.number));
+      visits = subst (λ list. Visits holds list (full + more_full) (cut + more_cut) old new) (sym (map-append (exchange_of remaining contents) first.served more.served))
+          (together more.visits (map (exchange_of remaining contents) first.served) full cut old first.visits);
+    }
+
+    -- what connections tell may be forgotten, however a service ends
+
+    pub ended_so : {E : Type 0} (w l : Option (List (R × W))) (e b : Option (List W)) (old new : DeskView K) (r : Result Served E) → IfOk r (λ s. Visited holds remaining contents w l e b s.full s.cut old new)
+        → IfOk r (λ s. HasVisited holds s.full s.cut old new)
+    ended_so w l e b old new (Ok s) visited = has_visited holds remaining contents w l e b s.full s.cut old new visited
+    ended_so w l e b old new (Err fault) visited = tt
+
+    pub stopped_so : {E : Type 0} (w l : Option (List (R × W))) (e b : Option (List W)) (old new : DeskView K) (r : Result Served E) → OnErr r ((full : ℕ) × (cut : ℕ) × Visited holds remaining contents w l e b full cut old new)
+        → OnErr r ((full : ℕ) × (cut : ℕ) × HasVisited holds full cut old new)
+    stopped_so w l e b old new (Ok s) visited = tt
+    stopped_so w l e b old new (Err fault) (full, cut, visited) = (full, cut, has_visited holds remaining contents w l e b full cut old new visited)

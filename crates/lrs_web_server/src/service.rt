@@ -1,7 +1,8 @@
 //! A desk, served on a port.
 
 ghost use Rattle.std.specs.Prelude.{ℕ, ◌≡◌, ◌+◌, IfOk, OnErr, IsTrue, true, false, Err, Result};
-ghost use Rattle.lrs_web.specs.Visits.{HasVisited};
+ghost use Rattle.lrs_web.specs.Door.{HasRisen};
+ghost use Rattle.lrs_web.specs.Visits.{HasVisited, Visited};
 
 use crate::hall::WaitingRoom;
 use crate::listener::Listening;
@@ -61,10 +62,14 @@ fn serve_each<D: Door, K: Keeper>(
     ends_on_fault: bool,
 ) -> Result<Served, ServiceFault>
     ensures count { IfOk result (λ served. served.full + served.cut ≡ max) }
-    ensures visited { IfOk result (λ served.
-        HasVisited K.may_hold served.full served.cut desk.old desk.new) }
+    ensures visited { IfOk result (λ served. Visited K.may_hold D.Reader.remaining
+        D.Writer.contents (D.waiting door.old) (D.waiting door.new) (D.ended door.old)
+        (D.ended door.new) served.full served.cut desk.old desk.new) }
     ensures stopped { OnErr result ((full : ℕ) × (cut : ℕ)
-        × HasVisited K.may_hold full cut desk.old desk.new) }
+        × Visited K.may_hold D.Reader.remaining D.Writer.contents (D.waiting door.old)
+        (D.waiting door.new) (D.ended door.old) (D.ended door.new) full cut desk.old desk.new) }
+    ensures failed { result ≡ Err ServiceFault.Door
+        → HasRisen (D.failures door.old) (D.failures door.new) }
     ensures desk { result ≡ Err ServiceFault.Desk → desk.new.must_reopen ≡ true }
     ensures open { IfOk result (λ _. ends_on_fault ≡ true → desk.new.must_reopen ≡ false) }
     ensures never { ends_on_fault ≡ false → result ≡ Err ServiceFault.Desk → ⊥ }
