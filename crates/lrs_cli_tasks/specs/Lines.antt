@@ -1,11 +1,12 @@
 -- Answers as they are printed: words with a space between them, a line for each place, asset, row or class.
-use Rattle.std.specs.Prelude.{ℕ, List, [], ◌∷◌, ◌++◌}
+use Rattle.std.specs.Prelude.{ℕ, List, [], ◌∷◌, ◌++◌, length}
 use Rattle.std.specs.List.{flat_map}
 use Rattle.std.specs.Fmt.{decimal}
 use Rattle.lrs_measure.specs.Fraction.{Fraction}
-use Rattle.lrs_measure.specs.FractionTexts.{fraction_text}
+use Rattle.lrs_measure.specs.FractionTexts.{fraction_text, metres_text}
 use Rattle.lrs_measure.specs.Texts.{Name}
 use Rattle.lrs_position.specs.declared.expression.Expr.{Expr}
+use Rattle.lrs_position.specs.declared.route.Route.{Route}
 use Rattle.lrs_position.specs.Readings.{expression_text}
 use Rattle.lrs_events.specs.Names.{side_text}
 use Rattle.lrs_machine.specs.declared.total.Total.{Total}
@@ -68,6 +69,10 @@ expression_line e = expression_text e ++ 10 ∷ []
 abbrev pub link_position_text : ℕ → Fraction → Text
 link_position_text link distance = decimal link ++ 58 ∷ fraction_text distance ++ 10 ∷ []
 
+-- a route and its length in metres
+abbrev pub route_text : Route → Text
+route_text r = line_of (r.name ∷ metres_text (length r.course) ∷ [])
+
 -- a position: its method, a space, and the position as it is told by itself
 abbrev pub position_line : Expr → Text
 position_line e = method_text e ++ 32 ∷ expression_line e
@@ -88,10 +93,10 @@ listing_text i (listing.Gone edit) = gone_text edit i
 listing_text i (listing.Log from) = log_text (edits_from from (state_of i).done)
 listing_text i (listing.LogOfKey key) = log_text (edits_under key (state_of i).done)
 
--- What is told to a question, in lines; lists as CSV, and a diagram as a picture. Of one route and of the health, which no command asks for, there are none.
+-- What is told to a question, in lines; lists as CSV, and a diagram as a picture.
 abbrev pub told_text : Told → Text
 told_text (told.At route found) = at_text route found
-told_text (told.Route route) = []
+told_text (told.Route route) = route_text route
 told_text (told.Segments route side len classes segments) = strip_text route side len classes segments
 told_text (told.Translated route e) = expression_line e
 told_text (told.OnLink route link distance) = link_position_text link distance
@@ -101,4 +106,4 @@ told_text (told.Found rows) = found_text rows
 told_text (told.Where w) = whereabouts_text w
 told_text (told.Lengths lengths) = lengths_text lengths
 told_text (told.Listing l inventory) = listing_text inventory.now l
-told_text (told.Health edits) = []
+told_text (told.Health edits) = decimal edits ++ 10 ∷ []

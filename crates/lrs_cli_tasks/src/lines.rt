@@ -4,12 +4,12 @@ ghost use Rattle.std.specs.Prelude.{◌≡◌, OnOk};
 ghost use Rattle.std.specs.List.{flat_map};
 ghost use Rattle.std.specs.Io.KnownBytes.{Appends};
 ghost use Rattle.lrs_machine.specs.Lines.{method_text};
-ghost use Rattle.lrs_cli_tasks.specs.Lines.{at_text, expression_line, found_text, hit_text, link_position_text, listing_text, place_text, position_line, row_text, told_text, total_text, totals_text, whereabouts_text};
+ghost use Rattle.lrs_cli_tasks.specs.Lines.{at_text, expression_line, found_text, hit_text, link_position_text, listing_text, place_text, position_line, route_text, row_text, told_text, total_text, totals_text, whereabouts_text};
 
 use lrs_desk::Inventory;
 use lrs_machine::{Hit, Listing, Total};
-use lrs_measure::Frac;
-use lrs_position::{Expr, RouteName};
+use lrs_measure::{Frac, Metres};
+use lrs_position::{Expr, Route, RouteName};
 use lrs_report::{strip_of, write_diagram};
 use lrs_report_answers::{AtAnswer, FoundRow, Told, Whereabouts};
 use lrs_report_lists::{
@@ -130,6 +130,16 @@ fn write_link_position<W: Write>(writer: &mut W, link: u32, distance: Frac) -> i
     writeln!(writer, "{link}:{distance}")
 }
 
+/// Writes the line of a route: its name, and its length in metres.
+fn write_route<W: Write>(writer: &mut W, route: &Route) -> io::Result<()>
+    ensures { OnOk result (Appends (W.contents writer.old) (W.contents writer.new)
+        (route_text route.now)) }
+{
+    let length = Metres::new(route.length());
+    writer.write_all(route.name.bytes())?;
+    writeln!(writer, " {length}")
+}
+
 /// The word for the method of a position.
 fn method_of(position: Expr) -> &'static str
     ensures { result.now ≡ method_text position }
@@ -170,6 +180,14 @@ fn write_whereabouts<W: Write>(writer: &mut W, found: &Whereabouts) -> io::Resul
     write_positions(writer, found.positions.as_slice())
 }
 
+/// Writes how many edits were accepted.
+fn write_health<W: Write>(writer: &mut W, edits: u64) -> io::Result<()>
+    ensures { OnOk result (Appends (W.contents writer.old) (W.contents writer.new)
+        (told_text (Told.Health edits))) }
+{
+    writeln!(writer, "{edits}")
+}
+
 /// Writes a list of an inventory: a header, and a line for each entry; of the log, an edit sheet.
 fn write_listing<W: Write>(
     writer: &mut W,
@@ -207,6 +225,7 @@ pub(crate) fn write_told<W: Write>(writer: &mut W, told: Told<'_>) -> io::Result
 {
     match told {
         Told::At { route, found } => write_at(writer, &route, &found),
+        Told::Route(route) => write_route(writer, &route),
         Told::Segments {
             route,
             side,
@@ -222,7 +241,6 @@ pub(crate) fn write_told<W: Write>(writer: &mut W, told: Told<'_>) -> io::Result
         Told::Where(found) => write_whereabouts(writer, &found),
         Told::Lengths(rows) => write_lengths(writer, rows.as_slice()),
         Told::Listing { listing, inventory } => write_listing(writer, inventory, &listing),
-        // No command asks for one route or for the health.
-        Told::Route(_) | Told::Health(_) => Ok(()),
+        Told::Health(edits) => write_health(writer, edits),
     }
 }
