@@ -56,8 +56,8 @@ module _ {K : Type 0} (holds : K → Result Image Table → Type 0) (text_of : T
   HasWorked (work.Question question) before after old (Err fault) = (after ≡ before) × IsUnprinted fault
   HasWorked (work.Questions from) before after old (Ok done) = (after ≡ before) × EndsQuestions before.image (text_of from.now) old done.0 done.1
   HasWorked (work.Questions from) before after old (Err fault) = (after ≡ before) × IsUnprinted fault
-  HasWorked (work.Service service) before after old (Ok done) = EndsService holds service before after done.1
-  HasWorked (work.Service service) before after old (Err fault) = ⊥
+  HasWorked (work.Service service) before after old (Ok done) = EndsService holds service before after old done.0 done.1
+  HasWorked (work.Service service) before after old (Err fault) = (after ≡ before) × (fault ≡ Write)
 
   -- Work was done at a desk that begins so.
   pub record HasWorkedFrom (Begins : DeskView K → Type 0) (w : Work) (old : Option Text) (given : Printed) : Type 0 where

@@ -135,6 +135,7 @@ impl<S: Alter, R: ReadImage + Drop> Tables<S, R> {
     pub fn give_up(&mut self)
         ensures given_up { self.new.is_broken ≡ true }
         ensures risen { HasRisen self.old.failures self.new.failures }
+        ensures counts { self.old.failures ≤ self.new.failures }
         ensures kept { self.new.conn ≡ self.old.conn }
         ensures loaded { self.new.is_loaded ≡ self.old.is_loaded }
     {

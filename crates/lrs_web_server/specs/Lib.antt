@@ -1,2 +1,3 @@
 pub mod Room
 pub mod Visits
+pub mod Announcements

@@ -1,8 +1,10 @@
 //! A desk, served on a port.
 
-ghost use Rattle.std.specs.Prelude.{ℕ, ◌≡◌, ◌+◌, IfOk, OnErr, IsTrue, true, false, Err, Result};
+ghost use Rattle.std.specs.Prelude.{ℕ, ◌≡◌, ◌+◌, IfOk, OnErr, OnOk, IsTrue, true, false, Err, Result};
+ghost use Rattle.std.specs.Io.KnownBytes.{Appends};
 ghost use Rattle.lrs_web.specs.Door.{HasRisen};
 ghost use Rattle.lrs_web.specs.Visits.{HasVisited, Visited};
+ghost use Rattle.lrs_web_server.specs.Announcements.{listening_line};
 
 use crate::hall::WaitingRoom;
 use crate::listener::Listening;
@@ -34,10 +36,13 @@ pub enum ServiceFault {
     Desk,
 }
 
-fn say<R: Runtime<A = Global>>(rt: &R, port: u16) -> io::Result<()> {
-    let mut output = io::writer(rt);
-    writeln!(output, "listening {port}")?;
-    output.flush()
+// Says that a port is listened on.
+fn say<W: Write>(to: &mut W, port: u16) -> io::Result<()>
+    ensures { OnOk result (Appends (W.contents to.old) (W.contents to.new)
+        (listening_line port)) }
+{
+    writeln!(to, "listening {port}")?;
+    to.flush()
 }
 
 // Whether the service ends at this desk.
@@ -95,21 +100,25 @@ fn serve_each<D: Door, K: Keeper>(
     Ok(Served { full, cut })
 }
 
-/// Listens on a port of 127.0.0.1, says so on standard output, and serves a number of connections at a desk, one after
+/// Listens on a port of 127.0.0.1, says so to `to`, and serves a number of connections at a desk, one after
 /// another as their requests are whole. Before it ends, the replies that are left are sent as far as their clients take
 /// them in time.
 ///
 /// # Errors
 /// `Door` where the port cannot be listened on, and then nothing is said; or where it fails later, when the connections
-/// before are served. `Write` where standard output takes nothing. `Desk` once a commit has failed, where the service is
+/// before are served. `Write` where `to` takes nothing, and nobody is served. `Desk` once a commit has failed, where the service is
 /// to end then.
-pub fn serve<R: Runtime<A = Global> + Net, K: Keeper>(
+pub fn serve<R: Runtime<A = Global> + Net, K: Keeper, W: Write>(
     rt: &R,
     port: u16,
     max: u32,
     manner: ServiceOptions,
     desk: &mut Desk<K>,
+    to: &mut W,
 ) -> Result<Served, ServiceFault>
+    ensures said { IfOk result (λ _. Appends (W.contents to.old) (W.contents to.new)
+        (listening_line port)) }
+    ensures silent { result ≡ Err ServiceFault.Write → desk.new ≡ desk.old }
     ensures count { IfOk result (λ served. served.full + served.cut ≡ max) }
     ensures visited { IfOk result (λ served.
         HasVisited K.may_hold served.full served.cut desk.old desk.new) }
@@ -127,7 +136,7 @@ pub fn serve<R: Runtime<A = Global> + Net, K: Keeper>(
     let Ok(hall) = WaitingRoom::open(rt, rt.alloc(), address, max, manner.logs, &returns) else {
         return Err(ServiceFault::Door);
     };
-    if say(rt, port).is_err() {
+    if say(to, port).is_err() {
         return Err(ServiceFault::Write);
     }
     let mut door = Listening::new(hall, rt);
