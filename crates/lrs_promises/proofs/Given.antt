@@ -152,7 +152,7 @@ module _ {K : Type 0} (holds : K → Result Image Table → Type 0) where
         along = decided_goes old new ended d run.desk;
       }
 
-  asked_gave : (asked : Asked) (answer : Answer) (old new : DeskView K) → Does holds asked old answer new → (answer.status ≡ 503 → ⊥) → DeskGave (GivesAsked asked (state_of old.image)) old new
+  pub asked_gave : (asked : Asked) (answer : Answer) (old new : DeskView K) → Does holds asked old answer new → (answer.status ≡ 503 → ⊥) → DeskGave (GivesAsked asked (state_of old.image)) old new
   asked_gave (refused status) answer old new does served = desk_stays (GivesAsked (refused status) (state_of old.image)) old new refl does.0
   asked_gave (not_allowed verb) answer old new does served = desk_stays (GivesAsked (not_allowed verb) (state_of old.image)) old new refl does.0
   asked_gave (query resource argument) answer old new does served = desk_stays (GivesAsked (query resource argument) (state_of old.image)) old new refl does.0

@@ -20,4 +20,6 @@ pub mod Ends
 pub mod Fewest
 pub mod Trips
 pub mod Leaving
+pub mod FirstCommands
+pub mod Connections
 pub mod DeskLaws

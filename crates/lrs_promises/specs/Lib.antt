@@ -5,5 +5,6 @@ pub mod Rows
 pub mod RoundTrip
 pub mod Stops
 pub mod Safe
+pub mod Services
 pub mod Replay
 pub mod DeskLaws
