@@ -86,6 +86,14 @@ fn run_failure(rt: &HostRuntime, words: &[String], failure: Failure) -> Option<(
     Some(())
 }
 
+/// Does the calls of `lost:` at a desk over what a keeper has, where the first commit fails and what is kept is as before.
+pub fn run_lost(rt: &HostRuntime, words: &[String], plain: Plain) -> Option<()> {
+    let keeper = Failing::over(plain, 1, 0, Failure::Old);
+    let (keeper, done) = run_broken(rt, words, "lost:", keeper);
+    keeper.discard();
+    done
+}
+
 /// Whether a desk is opened over a keeper, which is given back.
 fn is_opened<K: Keeper>(rt: &HostRuntime, keeper: K) -> (K, bool) {
     match open(rt, Limits::full(), keeper) {

@@ -50,12 +50,15 @@ fn show(
     }
 }
 
-/// Prints the strip that a word names, as `A1:L:SPEED`.
+/// Prints the strip that a word names, as `A1:L:SPEED`; of no class, as `A1:L:`.
 pub fn show_strip<K: Keeper>(rt: &HostRuntime, desk: &Desk<K>, words: &str) -> Option<()> {
     let (route, rest) = words.split_once(':')?;
     let (side, class) = rest.split_once(':')?;
     let name = RouteName::new(route.as_bytes())?;
     let side = read_side(side.as_bytes())?;
+    if class.is_empty() {
+        return show(rt, desk.inventory(), &name, side, &[]);
+    }
     let wanted = [ClassName::new(class.as_bytes())?];
     show(rt, desk.inventory(), &name, side, &wanted)
 }

@@ -2,28 +2,35 @@
 //! disks in memory, which are closed then; and over these files again. Each word names a call and the file that it
 //! reads, as `edits:first.csv`, or a position to translate and back, as `trip:int:1/3:abs` on route A1. What each writes
 //! is printed, and then how many edits there are. `strip:A1:L:SPEED` prints a strip, and `asks:A1:SPEED:10` what the single
-//! questions of a desk find.
+//! questions of a desk find; `meets:`, `covers:`, `link:` and `measure:` ask routes. What was made in memory is copied, and
+//! all is done over the copy too; then `lost:` calls, over a keeper of it whose first commit fails.
 //!
 //! Behind it connections of a door in memory are served at a desk of its own. A word lets one more connection wait, with
 //! the request of a file, as `waits:totals.http`, or with a first read that fails, as `fails:totals.http`; or so many are
 //! served, as `serves:3`. What is written to each connection is printed, and then how the service ended.
 //!
 //! At the end desks of few limits do the calls of words as `few:edits:few.csv`, and of `group:`; and desks whose keeper
-//! fails those of `broken:`, and of `split:`, before and after an opening.
+//! fails those of `broken:`, and of `split:`, before and after an opening. `ends:` says how calls end whose reader or writer
+//! fails, and `acts:` what commands are answered by each call of a desk that does them.
 #![tactic(auto)]
 
 mod door;
+mod ends;
 mod failure;
+mod ground;
 mod keeper;
 mod limits;
 mod lists;
 mod services;
+mod steps;
 mod words;
 
-use failure::run_failing;
+use ends::run_ends;
+use failure::{run_failing, run_lost};
+use ground::{show_covers, show_link, show_located, show_meets};
 use limits::run_limited;
 use lists::{show_asked, show_strip};
-use lrs_desk::{Desk, Keeper, Plain, Staged};
+use lrs_desk::{Desk, Inventory, Keeper, Plain, Staged};
 use lrs_machine::Limits;
 use lrs_position::{EnteredPosition, RouteName, read_expr, read_method, read_target};
 use lrs_promises::{round_trip, rows};
@@ -34,6 +41,7 @@ use sqlite::{Alter, FileStore, Files, Options};
 use sqlite_disk::{Disk, Memory};
 use std::env;
 use std::process::ExitCode;
+use steps::run_all;
 use words::{do_calls, open};
 
 /// Translates a position on A1 by the words of a trip, and back, and prints both.
@@ -48,20 +56,27 @@ fn take_trip<K: Keeper>(rt: &HostRuntime, desk: &Desk<K>, words: &str) -> Option
     println!(rt; "{} {}", trip.there, trip.back).ok()
 }
 
-/// Does the calls, and then the trips.
+/// Prints what a word asks of a desk; any other word asks nothing here.
+fn ask<K: Keeper>(rt: &HostRuntime, desk: &Desk<K>, word: &str) -> Option<()> {
+    let (kind, rest) = word.split_once(':')?;
+    match kind {
+        "trip" => take_trip(rt, desk, rest),
+        "strip" => show_strip(rt, desk, rest),
+        "asks" => show_asked(rt, desk, rest),
+        "meets" => show_meets(rt, desk, rest),
+        "covers" => show_covers(rt, desk, rest),
+        "link" => show_link(rt, desk, rest),
+        "measure" => show_located(rt, desk, rest),
+        _ => Some(()),
+    }
+}
+
+/// Does the calls, and then what is asked.
 fn take<K: Keeper>(rt: &HostRuntime, desk: &mut Desk<K>, words: &[String]) -> Option<()> {
     do_calls(rt, words, "", desk)?;
     rows(desk);
     for word in words {
-        if let Some(trip) = word.as_str().strip_prefix("trip:") {
-            take_trip(rt, desk, trip)?;
-        }
-        if let Some(strip) = word.as_str().strip_prefix("strip:") {
-            show_strip(rt, desk, strip)?;
-        }
-        if let Some(asked) = word.as_str().strip_prefix("asks:") {
-            show_asked(rt, desk, asked)?;
-        }
+        ask(rt, desk, word.as_str())?;
     }
     println!(rt; "{}", desk.inventory().edits()).ok()
 }
@@ -143,11 +158,47 @@ fn run_files<D: Disk + Drop>(rt: &HostRuntime, words: &[String], files: Files<D>
     }
 }
 
-/// Over an inventory in memory.
+/// A keeper of a copy of what another keeps, which is given back.
+fn copied(rt: &HostRuntime, plain: Plain) -> (Plain, Option<Plain>) {
+    match open(rt, Limits::full(), plain) {
+        Ok(desk) => {
+            let copy = copy_of(rt, desk.inventory());
+            (desk.into_keeper(), copy)
+        }
+        Err(plain) => (plain, None),
+    }
+}
+
+/// A keeper of a copy of this image.
+fn copy_of(rt: &HostRuntime, inventory: &Inventory) -> Option<Plain> {
+    let image = inventory.image(rt.alloc()).ok()?;
+    let copy = image.copy(rt.alloc()).ok()?;
+    Plain::new(copy, rt.alloc()).ok()
+}
+
+/// Over a copy of what was made in memory; and then over a keeper of it that fails.
+fn run_copy(rt: &HostRuntime, words: &[String], copy: Plain) -> Option<()> {
+    let (copy, done) = run(rt, words, copy);
+    if done.is_none() {
+        copy.discard();
+        return None;
+    }
+    run_lost(rt, words, copy)
+}
+
+/// Over an inventory in memory, and over a copy of it.
 fn run_plain(rt: &HostRuntime, words: &[String]) -> Option<()> {
     let (plain, done) = run(rt, words, Plain::empty(rt.alloc()));
+    let (plain, copy) = copied(rt, plain);
     plain.discard();
-    done
+    match (done, copy) {
+        (Some(()), Some(copy)) => run_copy(rt, words, copy),
+        (None, Some(copy)) => {
+            copy.discard();
+            None
+        }
+        (_, None) => None,
+    }
 }
 
 /// Over tables in memory.
@@ -191,7 +242,9 @@ fn run_each(rt: &HostRuntime, words: &[String]) -> Option<()> {
     run_disks(rt, words)?;
     run_services(rt, words)?;
     run_limited(rt, words)?;
-    run_failing(rt, words)
+    run_failing(rt, words)?;
+    run_ends(rt, words)?;
+    run_all(rt, words)
 }
 
 fn main(rt: HostRuntime) -> ExitCode {
