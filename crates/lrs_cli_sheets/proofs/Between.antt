@@ -113,6 +113,8 @@ module _ {K : Type 0} (holds : K → Result Image Table → Type 0) (way : Way) 
     broken = λ is c found. each-front way.passed _ _ known (λ input front. broken-between front way.kind (together_at way.pace) before.limits input (state_of before.image) (state_of after.image) first old new last kept keeps c) (ran.broken is c found);
     still = ran.still;
     left = ran.left;
+    kept = ran.kept;
+    amid = ran.amid;
   }
 
   -- a whole sheet that is run one by one is run behind no record
@@ -123,6 +125,8 @@ module _ {K : Type 0} (holds : K → Result Image Table → Type 0) (way : Way) 
     broken = λ is c found. behind-none way.passed (λ input front. BreaksOffBehind front way.kind 1 before.limits input (state_of before.image) (state_of after.image) old new c) known none (ran.broken is c found);
     still = ran.still;
     left = ran.left;
+    kept = ran.kept;
+    amid = ran.amid;
   })
     where
       at_pace : {n : ℕ} → 1 ≡ n → IsRunBehind holds (record { sheet = way.kind; together = 1; passed = way.passed }) known before after old new outcome → IsRunBehind holds (record { sheet = way.kind; together = n; passed = way.passed }) known before after old new outcome
