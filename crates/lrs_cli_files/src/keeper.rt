@@ -1,15 +1,18 @@
 //! The keeper of an inventory in a file of the system, as a type of its own: what is told of it above is one plain type,
 //! and not all that it is made of, which would be more than the prover can compare. So are its tables.
 
+use crate::place::Place;
 use lrs_desk::{Batches, Change, CommitFault, Holder, Image, Keeper, LoadFault, Staged};
 use lrs_store::Tables;
 use lrs_store_image::Reader;
 use sqlite::Alter;
 use std::alloc::{AllocError, Global};
 
-/// Keeps an inventory in the tables of a file and its log, at a path of the system.
+/// Keeps an inventory in the tables of a file and its log, at a path of the system. A write is done only where these files
+/// still stand there: else it would be acknowledged into nothing.
 pub struct FileTables<A: Alter> {
     pub(crate) tables: Tables<A, Reader>,
+    pub(crate) place: Place,
 }
 
 impl<A: Alter> Holder for FileTables<A> {
@@ -32,7 +35,14 @@ impl<A: Alter> Batches for FileTables<A> {
     }
 
     fn write(&mut self, changes: &[Change]) -> Result<(), CommitFault> {
-        self.tables.write(changes)
+        match self.tables.write(changes) {
+            Ok(()) if self.place.is_same() => Ok(()),
+            Ok(()) => {
+                self.tables.give_up();
+                Err(CommitFault::Store)
+            }
+            Err(fault) => Err(fault),
+        }
     }
 
     ghost finds = { λ k clean opened. finds_left _ _ clean (A.Store.stays k.tables.conn.store opened) };

@@ -2,6 +2,7 @@
 #![tactic(auto)]
 
 mod keeper;
+mod place;
 mod stored;
 
 pub use keeper::FileKeeper;

@@ -1,10 +1,12 @@
 //! Inventories in files of the system.
 
+ghost use Rattle.std.specs.Prelude.{◌≡◌, IfErr, IfOk};
 ghost use Rattle.sqlite_wal.specs.Files.{image_at};
 ghost use Rattle.lrs_store_files.specs.OpenedFiles.{IsContentOf};
 ghost use Rattle.lrs_store_questions.specs.FileAnswers.{HasRead};
 
 use crate::keeper::{FileKeeper, FileTables};
+use crate::place::Place;
 use lrs_desk::{Files, OpenFault, Staged};
 use lrs_store::{Tables, close_files, discard_files, open_file};
 use lrs_store_image::Reader;
@@ -23,8 +25,28 @@ fn close_tables<D: Disk + Drop, R: ReadImage + Drop>(tables: Tables<FileStore<D>
 /// The tables of a keeper.
 fn tables_of<A: Alter>(keeper: FileKeeper<A>) -> Tables<A, Reader> {
     let FileKeeper { inner } = keeper;
-    let FileTables { tables } = inner.into_inner();
+    let FileTables { tables, place: _ } = inner.into_inner();
     tables
+}
+
+/// The keeper of tables whose files stand at a path. Where memory runs out, they are let go.
+fn keep_at<D: Disk + Drop>(
+    rt: &HostRuntime,
+    path: &str,
+    tables: Tables<FileStore<D>, Reader>,
+) -> Result<FileKeeper<FileStore<D>>, OpenFault>
+    ensures kept { IfOk result (λ k. k.inner.batches.tables ≡ tables) }
+    ensures fault { IfErr result (λ e. e ≡ OpenFault.Memory) }
+{
+    match Place::at(rt, path) {
+        Ok(place) => Ok(FileKeeper {
+            inner: Staged::over(FileTables { tables, place }, rt.alloc()),
+        }),
+        Err(fault) => {
+            discard_files(tables);
+            Err(fault)
+        }
+    }
 }
 
 /// Opens a file and its log at a path of the system. `S` stands for what they hold when they are opened for all work, and
@@ -62,9 +84,7 @@ impl<S: Start, T: Start> Files for StoredFiles<S, T> {
     ) -> Result<Self::Kept, OpenFault> {
         let StoredFiles { start, seen: _ } = self;
         match open_file(rt, path, new_has_sums, start, Reader) {
-            Ok(tables) => Ok(FileKeeper {
-                inner: Staged::over(FileTables { tables }, rt.alloc()),
-            }),
+            Ok(tables) => keep_at(rt, path, tables),
             Err(refusal) => Err(OpenFault::from(refusal.into_fault())),
         }
     }
