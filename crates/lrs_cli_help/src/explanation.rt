@@ -106,7 +106,7 @@ pub fn explain_keep(rt: &HostRuntime, job: &Job<'_>) {
     say_of(
         rt,
         inventory_of(job).unwrap_or(""),
-        "the system did not write it: the disk is full, or has failed",
+        "the disk is full or has failed, or the file or its log was moved away",
     );
     say(
         rt,
