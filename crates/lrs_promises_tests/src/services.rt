@@ -2,7 +2,8 @@
 
 use crate::door::{MemoryDoor, MemoryReader};
 use lrs_desk::{Desk, Keeper};
-use lrs_web::{Door, serve_all};
+use lrs_promises::serve;
+use lrs_web::Door;
 use std::fs;
 
 /// One more connection waits at a door, with the request of a file.
@@ -23,7 +24,7 @@ fn serve<D: Door, K: Keeper>(
     desk: &mut Desk<K>,
     max: u32,
 ) -> Option<(u32, u32)> {
-    let served = serve_all(rt.alloc(), door, desk, max).ok()?;
+    let served = serve(rt.alloc(), door, desk, max).ok()?;
     Some((served.full, served.cut))
 }
 
