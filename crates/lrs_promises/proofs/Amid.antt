@@ -1,18 +1,15 @@
 -- What is left of a keeper, whatever ends a sheet or a request.
 use Rattle.std.specs.Prelude.{MatchOption}
-use Rattle.std.proofs.Common.{◌≡◌, ◌⊎◌, inl, inr, ℕ, Bool, true, false, List, [], ◌++◌, take, Option, Some, None, Result, Ok, Err, IfOk, IfSome, refl, sym, ap, subst, ◌∙◌}
+use Rattle.std.proofs.Common.{◌≡◌, ◌⊎◌, inl, inr, ℕ, Bool, true, false, [], Option, Some, None, Result, Ok, Err, IfOk, IfSome, refl, sym, subst}
 use Rattle.lrs_machine.specs.Image.{state_of}
 use Rattle.lrs_machine.specs.Lines.{Text}
-use Rattle.lrs_machine.specs.Machine.{state_after}
-use Rattle.lrs_machine.specs.State.{State}
-use Rattle.lrs_machine.specs.declared.answer.Limits.{Limits}
 use Rattle.lrs_machine.specs.declared.image.Image.{Image}
 use Rattle.lrs_machine.specs.declared.table.Table.{Table}
 use Rattle.lrs_desk.specs.DeskView.{DeskView}
 use Rattle.lrs_machine.specs.declared.stops.fault.Fault.TheVariants as stop
 use Rattle.lrs_sheet_records.specs.declared.sheet.Sheet.{Sheet}
 use Rattle.lrs_sheet.specs.Runs.{IsWholeRun}
-use Rattle.lrs_sheet.specs.Sheets.{BreaksOffBehind, GoesAlong, LeavesDesk, StandsForEither, records_together}
+use Rattle.lrs_sheet.specs.Sheets.{GoesAlong, LeavesDesk, StandsAmid}
 use Rattle.lrs_sheet_records.specs.declared.fault.SheetFault.{SheetFault}
 use Rattle.lrs_sheet_records.specs.declared.fault.SheetFault.TheVariants as fault
 use Rattle.lrs_sheet.specs.declared.reply.Tally.{Tally}
@@ -25,29 +22,9 @@ use Rattle.lrs_web.specs.Sheets.{DoesSheet}
 use Rattle.lrs_web.specs.declared.request.WebFault.{WebFault}
 use Rattle.lrs_web.specs.declared.request.WebFault.TheVariants as web
 use Rattle.lrs_promises.specs.Headline.{SheetLeft}
-use Rattle.lrs_promises.specs.Safe.{HasFailedAmid, RequestLeaves, StandsAmid}
+use Rattle.lrs_promises.specs.Safe.{HasFailedAmid, RequestLeaves}
 use Rattle.lrs_promises.specs.declared.calls.CallFault.TheVariants as why
 use Rattle.lrs_promises.proofs.After.{does_after}
-use Rattle.lrs_promises.proofs.Given.{answered, state_both}
-
--- what is found once a commit of a sheet has failed stands amid its commands
-amid : (passed : List (List Text)) (sheet : Sheet) (together : ℕ) (limits : Limits) (input : Text) (before after : State) (old new : Option Text) (content : Result Image Table)
-    → BreaksOffBehind passed sheet together limits input before after old new content → StandsAmid limits before after content
-amid passed sheet together limits input before after old new content (h, stands) =
-    let done = answered sheet limits before h.settled h.records h.replies h.answered.replied in
-    let flying = answered sheet limits h.settled h.flight.next (take h.flight.flying h.further) h.flight.replies h.flight.replied in
-    let next : h.flight.next ≡ state_after limits (done.said ++ flying.said) before =
-    flying.state ∙ ap (state_after limits flying.said) done.state ∙ sym (state_both limits done.said flying.said before) in
-    record {
-      kept = done.said;
-      flying = flying.said;
-      known = by done.state next h.flight.image;
-      found = coe 0 1 (k. StandsForEither content (done.state k) (next k)) stands;
-    }
-  where
-    by : {one other settled next : State} {n : ℕ} → settled ≡ one → next ≡ other → ((n ≡ 1) × (after ≡ settled)) ⊎ (after ≡ next) → (after ≡ one) ⊎ (after ≡ other)
-    by s t (inl (alone, same)) = inl (same ∙ s)
-    by s t (inr same) = inr (same ∙ t)
 
 module _ {K : Type 0} (holds : K → Result Image Table → Type 0) (old new : DeskView K) where
   abbrev Kept : Type 0
@@ -71,11 +48,8 @@ module _ {K : Type 0} (holds : K → Result Image Table → Type 0) (old new : D
 
   posted_keeps : (kind : Option Sheet) (resumes : Bool) (body : Text) (answer : Answer) → MatchOption kind (AnswersQuestions body old answer new) (λ k. DoesSheet holds k resumes body old answer new) → Kept
   posted_keeps None resumes body answer (same, told, ahead) = same_keeps same
-  posted_keeps (Some kind) false body answer (ended, lines, run, is) = sheet_keeps ended run.desk (λ e c may.
-      amid [] kind records_together old.limits body (state_of old.image) (state_of new.image) (Some []) (Some lines) c (run.broken e c may))
-  posted_keeps (Some kind) true body answer (ended, lines, run, is) = sheet_keeps ended run.desk (λ e c may.
-      let (d, passed, decided, breaks) = run.broken e c may in
-      amid passed kind records_together old.limits body (state_of old.image) (state_of new.image) (Some []) (Some lines) c breaks)
+  posted_keeps (Some kind) false body answer (ended, lines, run, is) = sheet_keeps ended run.desk run.amid
+  posted_keeps (Some kind) true body answer (ended, lines, run, is) = sheet_keeps ended run.desk run.amid
 
   does_keeps : (asked : Asked) (answer : Answer) → Does holds asked old answer new → Kept
   does_keeps (refused status) answer does = same_keeps does.0

@@ -1,5 +1,5 @@
 -- The laws of the ground machine, at each state between the commands of a list.
-use Rattle.std.proofs.Common.{◌≡◌, inl, inr, ℕ, ◌+◌, Bool, true, false, List, [], ◌∷◌, length, map, Option, Some, None, Result, Ok, Err, refl, sym, ap, subst, ◌∙◌, arith}
+use Rattle.std.proofs.Common.{◌≡◌, ◌⊎◌, inl, inr, ℕ, ◌+◌, Bool, true, false, List, [], ◌∷◌, length, map, Option, Some, None, Result, Ok, Err, refl, sym, ap, subst, ◌∙◌, arith}
 use Rattle.std.specs.Prelude.{IfOk, if◌then◌else◌}
 use Rattle.std.specs.Cmp.Lexicographic.{pointwise_decides, bytes_decides}
 use Rattle.std.proofs.lemmas.Bool.{false≢true}
@@ -30,7 +30,10 @@ use Rattle.lrs_machine.proofs.Lawful.{every_step_keeps_the_laws}
 use Rattle.lrs_machine.proofs.Runs.{repeated_key_acts_once}
 use Rattle.lrs_machine.proofs.SoundImages.{sound_is_lawful}
 use Rattle.lrs_machine.proofs.Totals.{totals_add_up}
+use Rattle.lrs_image.specs.KeeperCalls.{HoldsOnly}
+use Rattle.lrs_desk.specs.Desk.{FindsImage, KeepsImage}
 use Rattle.lrs_desk.specs.DeskView.{DeskView}
+use Rattle.lrs_sheet.specs.Sheets.{GoesAlong}
 use Rattle.lrs_promises.specs.declared.calls.Call.{Call}
 use Rattle.lrs_promises.specs.Calls.{DidAll}
 use Rattle.lrs_promises.specs.Headline.{IsCause, IsTheGroundMachines, KeepsTheLaws, RefusalLeaves, SegmentsCover, values_along}
@@ -108,6 +111,7 @@ lawful_after limits (r ∷ commands) s h = lawful_after limits commands (step_re
 
 pub keeps_the_laws : (limits : Limits) (commands : List Record) (start : State) → IsLawful start → KeepsTheLaws limits commands start
 keeps_the_laws limits commands start h = record {
+  lawful = λ front behind is. lawful_after limits front start h;
   balance = λ front behind is. totals_add_up (state_after limits front start) (lawful_after limits front start h);
   exclusive = λ front behind is. (lawful_after limits front start h).exclusive;
   segments = λ front behind is. segments_cover (state_after limits front start);
@@ -121,15 +125,20 @@ pub if_ok : {A E : Type 0} (P Q : A → Type 0) (r : Result A E) → ((x : A) �
 if_ok P Q (Ok x) follows h = follows x h
 if_ok P Q (Err e) follows h = tt
 
-pub headline : {K : Type 0} (holds : K → Result Image Table → Type 0) (calls : List Call) (texts : List (List ℕ)) (old new : DeskView K) → IsSound old.image → DidAll holds calls texts old new
-    → IsTheGroundMachines holds calls texts old new
-headline holds calls texts old new sound did =
+pub headline : {K : Type 0} (holds : K → Result Image Table → Type 0) (clean : K → Type 0) (calls : List Call) (texts : List (List ℕ)) (old new : DeskView K) → IsSound old.image → KeepsImage holds new → FindsImage holds clean new
+    → DidAll holds calls texts old new → IsTheGroundMachines holds clean calls texts old new
+headline holds clean calls texts old new sound kept found did =
     let g = all_gave holds calls texts old new did in
     record {
       replies = did;
       commands = g.gave.commands;
       given = g.gave.gives;
       image = g.gave.state;
-      tables = g.along.kept;
+      tables = by g.along;
+      found = λ shut. found (g.along.reopen ∙ shut);
       laws = keeps_the_laws old.limits g.gave.commands (state_of old.image) (sound_is_lawful old.image sound);
     }
+  where
+    by : GoesAlong holds old new → (old.must_reopen ≡ false) ⊎ HoldsOnly (holds old.keeper) old.image → HoldsOnly (holds new.keeper) new.image
+    by along (inl shut) = kept (along.reopen ∙ shut)
+    by along (inr only) = along.kept only

@@ -10,6 +10,7 @@ use Rattle.lrs_machine.specs.declared.image.Image.{Image}
 use Rattle.lrs_machine.specs.declared.table.Table.{Table}
 use Rattle.lrs_machine.proofs.Keeping.{only_done_changes}
 use Rattle.lrs_image.specs.KeeperCalls.{HoldsOnly}
+use Rattle.lrs_desk.specs.Desk.{FindsImage}
 use Rattle.lrs_desk.specs.DeskView.{DeskView}
 use Rattle.lrs_machine.specs.declared.stops.fault.Fault.{Fault}
 use Rattle.lrs_promises.specs.Safe.{IsAnswered}
@@ -30,13 +31,13 @@ module _ {K : Type 0} (holds : K → Result Image Table → Type 0) (clean : K �
       by (inr same) = inr (state ∙ same)
 
   pub is_answered : (result : Result Answer Fault) → IfOk result (λ a. a ≡ said) → OnOk result (state_of new.image ≡ next) → OnOk result (HoldsOnly (holds new.keeper) new.image)
-      → OnOk result (clean new.keeper → holds new.keeper (Ok new.image)) → OnOk result (new.must_reopen ≡ false) → OnOk result (new.is_ahead ≡ old.is_ahead) → IfOk result (IsAnswered holds clean r old new)
+      → FindsImage holds clean new → OnOk result (new.must_reopen ≡ false) → OnOk result (new.is_ahead ≡ old.is_ahead) → IfOk result (IsAnswered holds clean r old new)
   is_answered (Ok a) answer state kept found goes ahead = record {
     said = answer;
     state = state;
     only_done = only_done a answer state;
     kept = kept;
-    found = found;
+    found = found goes;
     serves = goes;
     ahead = ahead;
   }

@@ -8,7 +8,7 @@ use Rattle.lrs_events.specs.declared.side.LinkSide.{LinkSide}
 use Rattle.lrs_events.specs.Places.{beside}
 use Rattle.lrs_position.specs.Locations.{Alignment}
 use Rattle.lrs_machine.specs.Image.{state_of}
-use Rattle.lrs_machine.specs.Laws.{AddsUp, IsExclusive, SameAssets, is_route_edit, once}
+use Rattle.lrs_machine.specs.Laws.{AddsUp, IsExclusive, IsLawful, SameAssets, is_route_edit, once}
 use Rattle.lrs_machine.specs.Lines.{Text, line_of}
 use Rattle.lrs_machine.specs.Machine.{Record, line_at, next, place_of_key, state_after, step_record}
 use Rattle.lrs_machine.specs.Readings.{asset_list, segments_on}
@@ -75,7 +75,9 @@ RefusalLeaves limits r s = (c : Cause) → (step_record limits r s).answer ≡ R
 
 -- What holds of these commands of the ground machine, from this state on.
 pub record KeepsTheLaws (limits : Limits) (commands : List Record) (start : State) : Type 0 where
-  -- for each class, present is what was entered less what was retired and abandoned
+  -- each state is lawful: of each asset, each place that was entered is held, retired or abandoned, and only one of these
+  pub lawful : Throughout IsLawful limits commands start
+  -- so for each class, present is what was entered less what was retired and abandoned
   pub balance : Throughout AddsUp limits commands start
   -- no place is held by two assets of one exclusive class
   pub exclusive : Throughout IsExclusive limits commands start
@@ -86,15 +88,17 @@ pub record KeepsTheLaws (limits : Limits) (commands : List Record) (start : Stat
   pub keys : state_after limits commands start ≡ state_after limits (once limits commands start) start
 
 -- What a list of calls wrote, and what it left of the desk, is what the ground machine says.
-pub record IsTheGroundMachines {K : Type 0} (holds : K → Result Image Table → Type 0) (calls : List Call) (texts : List Text) (old new : DeskView K) : Type 0 where
+pub record IsTheGroundMachines {K : Type 0} (holds : K → Result Image Table → Type 0) (clean : K → Type 0) (calls : List Call) (texts : List Text) (old new : DeskView K) : Type 0 where
   -- each call wrote the reply to what it read
   pub replies : DidAll holds calls texts old new
   -- the image stands for the fold of all commands that the calls gave
   pub commands : List Record
   pub given : AllGive old.limits (state_of old.image) calls commands
   pub image : state_of new.image ≡ state_after old.limits commands (state_of old.image)
-  -- and the tables hold this image alone
-  pub tables : HoldsOnly (holds old.keeper) old.image → HoldsOnly (holds new.keeper) new.image
+  -- and the tables hold this image alone, unless a commit had failed before and they held another
+  pub tables : (old.must_reopen ≡ false) ⊎ HoldsOnly (holds old.keeper) old.image → HoldsOnly (holds new.keeper) new.image
+  -- ... and do hold it where the device is clean
+  pub found : old.must_reopen ≡ false → clean new.keeper → holds new.keeper (Ok new.image)
   pub laws : KeepsTheLaws old.limits commands (state_of old.image)
 
 -- ---- a list that is not done to its end

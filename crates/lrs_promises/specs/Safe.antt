@@ -1,20 +1,18 @@
 -- Safe and total: what each call leaves, by what it answers.
-use Rattle.std.specs.Prelude.{◌≡◌, ◌⊎◌, ◌↔◌, ◌++◌, ℕ, true, false, List, Option, Result, Ok, Err, IfOk, IfSome}
+use Rattle.std.specs.Prelude.{◌≡◌, ◌⊎◌, ◌↔◌, ℕ, true, false, Option, Result, Ok, Err, IfOk, IfSome}
 use Rattle.lrs_machine.specs.Image.{state_of}
 use Rattle.lrs_machine.specs.Lines.{Text}
-use Rattle.lrs_machine.specs.Machine.{Record, state_after, step_record}
-use Rattle.lrs_machine.specs.State.{State}
+use Rattle.lrs_machine.specs.Machine.{Record, step_record}
 use Rattle.lrs_machine.specs.declared.answer.Answer.{Answer}
 use Rattle.lrs_machine.specs.declared.answer.Answer.TheVariants.{Done}
-use Rattle.lrs_machine.specs.declared.answer.Limits.{Limits}
 use Rattle.lrs_machine.specs.declared.image.Image.{Image}
 use Rattle.lrs_machine.specs.declared.table.Table.{Table}
 use Rattle.lrs_image.specs.KeeperCalls.{HoldsOnly}
-use Rattle.lrs_desk.specs.Desk.{HasBroken, IsUnchanged}
+use Rattle.lrs_desk.specs.Desk.{FindsImage, HasBroken, IsUnchanged}
 use Rattle.lrs_desk.specs.DeskView.{DeskView}
 use Rattle.lrs_machine.specs.declared.stops.fault.Fault.{Fault}
 use Rattle.lrs_machine.specs.declared.stops.fault.Fault.TheVariants as stop
-use Rattle.lrs_sheet.specs.Sheets.{GoesAlong, IsAfterCommands, MustReopen, StandsForEither}
+use Rattle.lrs_sheet.specs.Sheets.{GoesAlong, IsAfterCommands, MustReopen, StandsAmid}
 use Rattle.lrs_web_requests.specs.Request.{Asked}
 use Rattle.lrs_web_requests.specs.Text.{Answer as Reply}
 use Rattle.lrs_web.specs.RequestAnswers.{Responds, Serves, Writes}
@@ -51,16 +49,12 @@ pub record ActLeaves {K : Type 0} (holds : K → Result Image Table → Type 0) 
   -- it asks so exactly where a commit failed before, and nothing has changed
   pub reopen : (result ≡ Err stop.MustReopen) ↔ (old.must_reopen ≡ true)
   pub stays : result ≡ Err stop.MustReopen → IsUnchanged holds old new
+  pub same : result ≡ Err stop.MustReopen → new ≡ old
+  -- whatever is answered, while it need not be opened again a clean device gives this image
+  pub found : FindsImage holds clean new
   pub limits : new.limits ≡ old.limits
 
 -- ---- requests
-
--- Some commands are kept, and others stand behind them in flight: what is found stands for the state before those in flight or for that after them, and so does the image.
-pub record StandsAmid (limits : Limits) (before image : State) (content : Result Image Table) : Type 0 where
-  pub kept : List Record
-  pub flying : List Record
-  pub known : (image ≡ state_after limits kept before) ⊎ (image ≡ state_after limits (kept ++ flying) before)
-  pub found : StandsForEither content (state_after limits kept before) (state_after limits (kept ++ flying) before)
 
 -- A commit failed: the desk asks to be opened again, and whatever an opening finds stands amid the commands that were done.
 pub record HasFailedAmid {K : Type 0} (holds : K → Result Image Table → Type 0) (old new : DeskView K) : Type 0 where

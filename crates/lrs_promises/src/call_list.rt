@@ -40,11 +40,13 @@ pub fn headline<K: Keeper>(
     calls: &[Call],
     desk: &mut Desk<K>,
 ) -> Result<Vec<Vec<u8>>, CallFault>
-    ensures done { IfOk result (λ written. IsTheGroundMachines K.may_hold calls.now
+    ensures done { IfOk result (λ written. IsTheGroundMachines K.may_hold K.is_clean calls.now
         (map (λ text. text.items) written.items) desk.old desk.new) }
     ensures stopped { IfErr result (λ fault. HasStopped K.may_hold calls.now fault
         desk.old desk.new) }
 {
     desk.inventory().prove_sound();
-    do_all(alloc, calls, desk)
+    let written = do_all(alloc, calls, desk);
+    desk.prove_kept();
+    written
 }

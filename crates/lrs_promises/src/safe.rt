@@ -1,6 +1,7 @@
 //! What each call leaves, by what it answers.
 
 ghost use Rattle.std.specs.Prelude.{◌≤◌};
+ghost use Rattle.lrs_desk.specs.Desk.{FindsImage, KeepsImage};
 ghost use Rattle.lrs_sheet.specs.Runs.{IsWholeRun};
 ghost use Rattle.lrs_promises.specs.Safe.{ActLeaves, RequestLeaves};
 
@@ -36,10 +37,14 @@ pub fn sheet<R: Read + Drop, W: Write, K: Keeper>(
     desk: &mut Desk<K>,
 ) -> Result<Tally, SheetFault>
     requires together { 1 ≤ together }
-    ensures { IsWholeRun K.may_hold sheet together (R.remaining reader) desk.old desk.new
+    ensures ran { IsWholeRun K.may_hold sheet together (R.remaining reader) desk.old desk.new
         (W.contents writer.old) (W.contents writer.new) result }
+    // While no commit has failed, an opening finds the image where the device is clean.
+    ensures found { FindsImage K.may_hold K.is_clean desk.new }
 {
-    run_sheet(alloc, sheet, together, reader, writer, desk)
+    let ended = run_sheet(alloc, sheet, together, reader, writer, desk);
+    desk.prove_kept();
+    ended
 }
 
 /// Serves a request, as `serve_one` does. Whatever ends it, over any reader and writer, commands were done in order, and the
@@ -54,8 +59,13 @@ pub fn request<R: Read, W: Write, K: Keeper>(
     writer: &mut W,
     desk: &mut Desk<K>,
 ) -> Result<u16, WebFault>
-    ensures { RequestLeaves K.may_hold (R.remaining reader.old) (W.contents writer.old)
+    ensures leaves { RequestLeaves K.may_hold (R.remaining reader.old) (W.contents writer.old)
         (W.contents writer.new) desk.old desk.new result }
+    // While no commit has failed, an opening finds the image and nothing else, where the device is clean.
+    ensures kept { KeepsImage K.may_hold desk.new }
+    ensures found { FindsImage K.may_hold K.is_clean desk.new }
 {
-    serve_one(alloc, reader, writer, desk)
+    let ended = serve_one(alloc, reader, writer, desk);
+    desk.prove_kept();
+    ended
 }

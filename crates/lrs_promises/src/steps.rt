@@ -12,7 +12,9 @@ ghost use Rattle.lrs_machine.specs.Stop.Laws.{IsMadeBy};
 ghost use Rattle.lrs_desk.specs.Desk.{IsUnchanged, records_of};
 ghost use Rattle.lrs_promises.specs.DeskLaws.Steps.{AreStepsOf, IsAtRest, IsInRun, step_of};
 
-use lrs_desk::{Answer, Command, Desk, Fault, Holder, Keeper, Key, Limits, OpenFault, Plain};
+use lrs_desk::{
+    Answer, Command, Desk, Fault, FirstAnswers, Holder, Keeper, Key, Limits, OpenFault, Plain,
+};
 use std::alloc::Global;
 
 /// Opens a desk, as `Desk::open` does. Where the device gives something back, the desk acts on what is stored:
@@ -73,7 +75,7 @@ pub fn act_in_memory(desk: &mut Desk<Plain>, key: Key, command: &Command) -> Res
 pub fn act_on_first<K: Keeper>(
     desk: &mut Desk<K>,
     commands: &[(Key, Command)],
-) -> Result<Vec<Answer>, Fault>
+) -> Result<FirstAnswers, Fault>
     requires some { 1 ≤ length commands.now }
     ensures step { (limits : DeskLimits) (start : State) (xs : List Step)
         → IsInRun K.may_hold limits start xs desk.old

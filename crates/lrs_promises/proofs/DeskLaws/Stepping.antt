@@ -1,6 +1,5 @@
 -- What the calls of a desk promise makes them steps of a run.
 use Rattle.std.proofs.Common.{◌≡◌, ◌⊎◌, inl, inr, ◌≤◌, ◌<◌, ◌+◌, ℕ, zero, suc, ◌↔◌, Bool, true, false, List, [], ◌∷◌, ◌++◌, length, map, take, Some, None, Result, Ok, Err, refl, sym, ap, subst, ◌∙◌, arith}
-use Rattle.std.specs.Global.{Vec}
 use Rattle.std.specs.List.{AllByRecursion}
 use Rattle.std.specs.Prelude.{IfOk, IfErr, OnOk, IsTrue, Option}
 use Rattle.std.proofs.lemmas.Bool.{false≢true}
@@ -17,6 +16,7 @@ use Rattle.lrs_machine.specs.Stop.Laws.{IsMadeBy}
 use Rattle.lrs_machine.proofs.Stop.Stopping.{joined, stored_is_fold}
 use Rattle.lrs_machine.specs.declared.stops.fault.Fault.{Fault}
 use Rattle.lrs_machine.specs.declared.stops.fault.Fault.TheVariants.{Memory, Keep, MustReopen}
+use Rattle.lrs_desk.specs.declared.group.FirstAnswers.{FirstAnswers}
 use Rattle.lrs_desk.specs.Desk.{IsUnchanged, IsOldOrNext, HasBroken, DoesFirst, BreaksAmid}
 use Rattle.lrs_desk.specs.DeskView.{DeskView}
 use Rattle.lrs_promises.specs.DeskLaws.Steps.{MayFind, AreActs, AreInFlight, AreStepsOf, step_of, IsAtRest, acting, IsInRun}
@@ -25,10 +25,10 @@ use Rattle.lrs_promises.specs.DeskLaws.Steps.{MayFind, AreActs, AreInFlight, Are
 abbrev at_work : State → Moment
 at_work s = record { stored = s; desk = Some s }
 
-answers_are_no_fault : (given : Vec Answer) → ◌≡◌ {A = Result (Vec Answer) Fault} (Ok given) (Err MustReopen) → ⊥
+answers_are_no_fault : (given : FirstAnswers) → ◌≡◌ {A = Result FirstAnswers Fault} (Ok given) (Err MustReopen) → ⊥
 answers_are_no_fault given e = cc e
 
-faults_differ : ◌≡◌ {A = Result (Vec Answer) Fault} (Err Keep) (Err MustReopen) → ⊥
+faults_differ : ◌≡◌ {A = Result FirstAnswers Fault} (Err Keep) (Err MustReopen) → ⊥
 faults_differ e = cc e
 
 an_answer_is_no_fault : (a : Answer) → ◌≡◌ {A = Result Answer Fault} (Ok a) (Err MustReopen) → ⊥
@@ -236,8 +236,8 @@ module _ {K : Type 0} (holds : K → Result Image Table → Type 0) (limits : Li
   act_is_step failures old new r (Err MustReopen) said goes only memory keep reopen stays same open_now h = unchanged old new (r ∷ []) same (stays refl) h
 
   -- Whatever a desk answers to commands, they are steps.
-  pub acts_are_steps : (failures : K → ℕ) (old new : DeskView K) (records : List Record) (result : Result (Vec Answer) Fault)
-      → IfOk result (λ given. DoesFirst old.limits records (state_of old.image) (state_of new.image) given.items)
+  pub acts_are_steps : (failures : K → ℕ) (old new : DeskView K) (records : List Record) (result : Result FirstAnswers Fault)
+      → IfOk result (λ done. DoesFirst old.limits records (state_of old.image) (state_of new.image) done.answers.items)
       → OnOk result (HoldsOnly (holds new.keeper) new.image)
       → (result ≡ Err Memory → IsUnchanged holds old new)
       → (result ≡ Err Keep → BreaksAmid holds failures records old new)
@@ -247,7 +247,7 @@ module _ {K : Type 0} (holds : K → Result Image Table → Type 0) (limits : Li
       → OnOk result (new.must_reopen ≡ false)
       → InRun xs old → (steps : List Step) × AreStepsOf records result steps × InRun (xs ++ steps) new
   acts_are_steps failures old new records (Ok given) does only memory keep reopen stays same open_now h =
-      answered old new records given.items (still_open old.must_reopen (λ t. answers_are_no_fault given (reopen.1 t))) open_now same does only h
+      answered old new records given.answers.items (still_open old.must_reopen (λ t. answers_are_no_fault given (reopen.1 t))) open_now same does only h
   acts_are_steps failures old new records (Err Memory) does only memory keep reopen stays same open_now h = (map Unserved records, refl, unchanged old new records same (memory refl) h)
   acts_are_steps failures old new records (Err Keep) does only memory keep reopen stays same open_now h =
       broken failures old new records (still_open old.must_reopen (λ t. faults_differ (reopen.1 t))) same (keep refl) h

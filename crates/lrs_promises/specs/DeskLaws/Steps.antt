@@ -1,6 +1,5 @@
 -- Which steps of a run the calls of a desk are, and what an opening may find in the course of one.
 use Rattle.std.specs.Prelude.{◌≡◌, ◌≤◌, Bool, false, if◌then◌else◌, List, [], ◌∷◌, ◌++◌, length, map, Option, Some, None, Result, Ok, Err}
-use Rattle.std.specs.Global.{Vec}
 use Rattle.lrs_machine.specs.declared.answer.Answer.{Answer}
 use Rattle.lrs_machine.specs.declared.answer.Limits.{Limits}
 use Rattle.lrs_machine.specs.declared.image.Image.{Image}
@@ -12,6 +11,7 @@ use Rattle.lrs_machine.specs.Stop.StoppedRuns.{Step, Act, Unserved, StopWithin, 
 use Rattle.lrs_machine.specs.declared.stops.fault.Fault.{Fault}
 use Rattle.lrs_machine.specs.declared.stops.fault.Fault.TheVariants.{Memory, Keep, MustReopen}
 use Rattle.lrs_desk.specs.DeskView.{DeskView}
+use Rattle.lrs_desk.specs.declared.group.FirstAnswers.{FirstAnswers}
 
 -- each of the first of these commands gets its answer, one after another
 abbrev pub AreActs : List Record → List Answer → List Step → Type 0
@@ -28,8 +28,8 @@ pub record AreInFlight (records : List Record) (steps : List Step) : Type 0 wher
   pub step : steps ≡ StopWithin front last ∷ []
 
 -- The steps that commands which are sent together are, by what the desk answers: one command at least gets its answer, or the first ones are in flight, or none is served.
-abbrev pub AreStepsOf : List Record → Result (Vec Answer) Fault → List Step → Type 0
-AreStepsOf records (Ok given) steps = (1 ≤ length given.items) × AreActs records given.items steps
+abbrev pub AreStepsOf : List Record → Result FirstAnswers Fault → List Step → Type 0
+AreStepsOf records (Ok done) steps = (1 ≤ length done.answers.items) × AreActs records done.answers.items steps
 AreStepsOf records (Err Memory) steps = steps ≡ map Unserved records
 AreStepsOf records (Err Keep) steps = AreInFlight records steps
 AreStepsOf records (Err MustReopen) steps = steps ≡ map Unserved records

@@ -12,5 +12,7 @@ returns g c =
       broken = e.keep;
       reopen = e.reopen;
       stays = e.stays;
+      same = e.same;
+      found = e.found;
       limits = e.limits;
     }
