@@ -105,9 +105,9 @@ fn do_first<K: Keeper>(
         return None;
     }
     match act_on_first(desk, commands) {
-        Ok(answers) => {
-            show_answers(rt, answers.as_slice())?;
-            Some(answers.len())
+        Ok(given) => {
+            show_answers(rt, given.answers.as_slice())?;
+            Some(given.answers.len())
         }
         Err(fault) => {
             println!(rt; "{}", name_of(fault)).ok()?;
