@@ -21,6 +21,7 @@ MAP = TOP / "docs" / "MAP.md"
 
 # The calls: a letter, the crate, the module, the function, and what it does.
 CALLS = [
+    ("J", "lrs_cli_jobs", "jobs", "do_job", "does what the words of the program ask for"),
     ("P", "lrs_promises", "call_list", "headline", "does a list of sheets, surveys and requests, mixed"),
     ("D", "lrs_promises", "safe", "act", "does a command, and says what each answer leaves"),
     ("R", "lrs_promises", "canonical_rows", "rows", "says what the rows of an inventory are"),
