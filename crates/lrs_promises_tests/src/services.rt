@@ -2,7 +2,6 @@
 
 use crate::door::{MemoryDoor, MemoryReader};
 use lrs_desk::{Desk, Keeper};
-use lrs_promises::serve;
 use lrs_web::Door;
 use std::fs;
 
@@ -24,7 +23,7 @@ fn serve<D: Door, K: Keeper>(
     desk: &mut Desk<K>,
     max: u32,
 ) -> Option<(u32, u32)> {
-    let served = serve(rt.alloc(), door, desk, max).ok()?;
+    let served = lrs_promises::serve(rt.alloc(), door, desk, max).ok()?;
     Some((served.full, served.cut))
 }
 
