@@ -41,6 +41,7 @@ pub struct World<'a, R: Runtime<A = Global>, S: Sheets> {
 }
 
 /// Sheets in files of the system, by their paths; `stdin` is the standard input.
+#[derive(Drop)]
 pub struct SystemSheets<'a, R: Runtime<A = Global>> {
     rt: &'a R,
 }
