@@ -3,13 +3,8 @@
 
 use lrs_cli_files::StoredFiles;
 use lrs_cli_jobs::{SystemSheets, run};
-use sqlite::Unknown;
 use std::process::ExitCode;
 
 fn main(rt: HostRuntime) -> ExitCode {
-    run(
-        &rt,
-        StoredFiles::new(Unknown, Unknown),
-        &SystemSheets::new(&rt),
-    )
+    run(&rt, StoredFiles::new(), &SystemSheets::new(&rt))
 }

@@ -13,7 +13,7 @@ use lrs_store_image::Reader;
 use lrs_store_questions::{Questions, open_for_questions};
 use lrs_store_tables::StoreFault;
 use lrs_store_tables::stored_rows::ReadImage;
-use sqlite::{Alter, FileFrom, FileStore, Start};
+use sqlite::{FileFrom, FileStore, Start, Unknown};
 use sqlite_disk::Disk;
 use std::rt::HostRuntime;
 
@@ -23,18 +23,18 @@ fn close_tables<D: Disk + Drop, R: ReadImage + Drop>(tables: Tables<FileStore<D>
 }
 
 /// The tables of a keeper.
-fn tables_of<A: Alter>(keeper: FileKeeper<A>) -> Tables<A, Reader> {
+fn tables_of(keeper: FileKeeper) -> Tables<FileStore<FileFrom<Unknown>>, Reader> {
     let FileKeeper { inner } = keeper;
     let FileTables { tables, place: _ } = inner.into_inner();
     tables
 }
 
 /// The keeper of tables whose files stand at a path. Where memory runs out, they are let go.
-fn keep_at<D: Disk + Drop>(
+fn keep_at(
     rt: &HostRuntime,
     path: &str,
-    tables: Tables<FileStore<D>, Reader>,
-) -> Result<FileKeeper<FileStore<D>>, OpenFault>
+    tables: Tables<FileStore<FileFrom<Unknown>>, Reader>,
+) -> Result<FileKeeper, OpenFault>
     ensures kept { IfOk result (λ k. k.inner.batches.tables ≡ tables) }
     ensures fault { IfErr result (λ e. e ≡ OpenFault.Memory) }
 {
@@ -49,32 +49,27 @@ fn keep_at<D: Disk + Drop>(
     }
 }
 
-/// Opens a file and its log at a path of the system. `S` stands for what they hold when they are opened for all work, and
-/// `T` when they are opened for questions: each is used once, and what is proved holds for every such content.
+/// Opens a file and its log at a path of the system: once for all work, and before that once for questions.
 #[derive(Drop)]
-pub struct StoredFiles<S: Start, T: Start> {
-    start: S,
-    seen: Option<T>,
+pub struct StoredFiles {
+    is_seen: bool,
 }
 
-impl<S: Start, T: Start> StoredFiles<S, T> {
+impl StoredFiles {
     /// Files that have not been opened.
-    pub fn new(start: S, seen: T) -> StoredFiles<S, T> {
-        StoredFiles {
-            start,
-            seen: Some(seen),
-        }
+    pub fn new() -> StoredFiles {
+        StoredFiles { is_seen: false }
     }
 }
 
-impl<S: Start, T: Start> Files for StoredFiles<S, T> {
-    type Kept = FileKeeper<FileStore<FileFrom<S>>>;
+impl Files for StoredFiles {
+    type Kept = FileKeeper;
 
-    type Seen = Questions<FileStore<FileFrom<T>>>;
+    type Seen = Questions<FileStore<FileFrom<Unknown>>>;
 
-    ghost has_opened = { IsContentOf (image_at S.Start) };
+    ghost has_opened = { IsContentOf (image_at ⟦<Unknown as Start>⟧) };
 
-    ghost has_read = { HasRead (image_at T.Start) };
+    ghost has_read = { HasRead (image_at ⟦<Unknown as Start>⟧) };
 
     fn open(
         self,
@@ -82,8 +77,7 @@ impl<S: Start, T: Start> Files for StoredFiles<S, T> {
         path: &str,
         new_has_sums: bool,
     ) -> Result<Self::Kept, OpenFault> {
-        let StoredFiles { start, seen: _ } = self;
-        match open_file(rt, path, new_has_sums, start, Reader) {
+        match open_file(rt, path, new_has_sums, Unknown, Reader) {
             Ok(tables) => keep_at(rt, path, tables),
             Err(refusal) => Err(OpenFault::from(refusal.into_fault())),
         }
@@ -94,10 +88,11 @@ impl<S: Start, T: Start> Files for StoredFiles<S, T> {
         rt: &HostRuntime,
         path: &str,
     ) -> Result<Option<Self::Seen>, OpenFault> {
-        let Some(seen) = self.seen.take() else {
+        if self.is_seen {
             return Ok(None);
-        };
-        match open_for_questions(rt, path, seen) {
+        }
+        self.is_seen = true;
+        match open_for_questions(rt, path, Unknown) {
             Ok(keeper) => Ok(Some(keeper)),
             Err(refusal) => match refusal.into_fault() {
                 StoreFault::Memory => Err(OpenFault::Memory),
