@@ -13,6 +13,7 @@ use Rattle.lrs_measure.specs.Limits.{longest_route}
 use Rattle.lrs_measure.proofs.Members.{any_found, any_of, In-take, In-drop}
 use Rattle.lrs_measure.proofs.Places.{in_three}
 use Rattle.lrs_measure.proofs.Filters.{filter_all, filter_none}
+use Rattle.lrs_events.specs.declared.side.Side.{Side}
 use Rattle.lrs_events.specs.declared.side.Side.TheVariants.{L, R, B}
 use Rattle.lrs_events.specs.declared.side.LinkSide.{LinkSide}
 use Rattle.lrs_events.specs.declared.side.LinkSide.TheVariants.{Left, Right}
@@ -185,6 +186,10 @@ module _ (rows : List Span) (class : Name) (side : LinkSide) (lane : List Span) 
 
 pub least_nothing : (rows : List Span) (class : Name) (side : LinkSide) (from to : ℕ) → are_rows rows ≡ true → from < to → IsLaneOf rows class side [] → IsLeastOver rows class from to (one_side side) None
 least_nothing rows class side from to h f t = least_over rows class side [] from to h t f None refl
+
+-- an empty stretch has no millimetre that is held
+pub none_over : (rows : List Span) (class : Name) (from to : ℕ) (side : Side) → to ≤ from → IsLeastOver rows class from to side None
+none_over rows class from to side h asset held = let low = held.low in let high = held.high in omega (arith, h, low, high)
 
 -- ---- on either side
 

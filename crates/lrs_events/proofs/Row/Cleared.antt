@@ -1,20 +1,23 @@
 -- What is found on a stretch goes.
-use Rattle.std.proofs.Common.{◌≡◌, ℕ, ◌<◌, Bool, true, false, cond, ◌⊎◌, inl, inr, List, [], ◌∷◌, refl, sym, ap, ◌∙◌, arith}
+use Rattle.std.proofs.Common.{◌≡◌, ℕ, ◌<◌, ◌≤◌, Bool, true, false, cond, ◌⊎◌, inl, inr, List, [], ◌∷◌, refl, sym, ap, subst, ◌∙◌, arith}
 use Rattle.std.specs.Prelude.{◌||◌, ◌&&◌, not, nat_lt, nat_le, nat_eq}
 use Rattle.std.specs.List.{list_any, filter, flat_map}
+use Rattle.std.proofs.lemmas.Bool.Decides.{nat_tests}
 use Rattle.std.proofs.lemmas.Bool.{both_ways, cases_Bool, and_parts, and_from, leb-true, ltb-true, lt-ltb}
 use Rattle.lrs_measure.specs.Texts.{Name, same_name}
 use Rattle.lrs_measure.specs.Lists.{In}
 use Rattle.lrs_measure.proofs.Members.{any_found, In-filter}
+use Rattle.lrs_measure.proofs.Filters.{filter_all}
 use Rattle.lrs_events.specs.declared.side.LinkSide.{LinkSide}
 use Rattle.lrs_events.specs.declared.span.Span.{Span}
-use Rattle.lrs_events.specs.Spans.{are_rows}
+use Rattle.lrs_events.specs.Spans.{are_rows, span_before}
+use Rattle.lrs_events.specs.Changes.{changed, changed_rows, has_row}
 use Rattle.lrs_events.specs.Members.{has_member, is_member}
 use Rattle.lrs_events.specs.declared.rows.removals.Removal.{Removal}
 use Rattle.lrs_events.specs.Row.Members.{is_of}
-use Rattle.lrs_events.specs.Row.Changes.{missing}
+use Rattle.lrs_events.specs.Row.Changes.{IsChange, missing}
 use Rattle.lrs_events.specs.Row.Clips.{clip, outside}
-use Rattle.lrs_events.specs.Row.Removals.{IsRemoval, is_within, of_within, Finds, is_met}
+use Rattle.lrs_events.specs.Row.Removals.{IsRemoval, is_within, of_within, Finds, Clears, is_met}
 use Rattle.lrs_events.proofs.Row.Unique.{over}
 use Rattle.lrs_events.proofs.Row.Rows.{AreRows, rows_from}
 use Rattle.lrs_events.proofs.Row.Pieces.{outside_pieces, all_parts, outside_holds, clips_rows, clips_hold, rests_rows}
@@ -116,3 +119,37 @@ finds_asset_met class asset low high rows = record {
   only = λ r m e. (and_parts (is_of class asset r) (is_met low high r) e).0;
   each = λ r m e a b. and_from (is_of class asset r) (is_met low high r) e (and_from (nat_lt r.from high) (nat_lt low r.to) (lt-ltb r.from high a) (lt-ltb low r.to b));
 }
+
+-- where a stretch has no millimetre, nothing goes
+pub none_cleared : (found : List Span) (low high : ℕ) (removal : Removal) → high ≤ low → removal.left.items ≡ [] → removal.change.gone.items ≡ [] → removal.change.come.items ≡ [] → Clears found low high removal
+none_cleared found low high removal h l g c rows test of k e f = record {
+  kept = ap are_rows same ∙ k;
+  change = subst (IsChange rows removal.change.gone.items removal.change.come.items) (sym same)
+      (subst (λ (z : List Span). IsChange rows z removal.change.come.items rows) (sym g) (subst (λ (z : List Span). IsChange rows [] z rows) (sym c) unchanged));
+  rest = λ class asset j s. (λ i. is_member (same i) class asset j s) ∙ all_stay (is_member rows class asset j s) (of class asset) ∙ (λ i. is_member rows class asset j s && not (of class asset && nowhere j i));
+  left_rows = ap are_rows l;
+  left = λ class asset j s. (λ i. is_member (l i) class asset j s) ∙ none_go (is_member rows class asset j s) (of class asset) ∙ (λ i. is_member rows class asset j s && (of class asset && nowhere j i));
+}
+  where
+    same : changed_rows removal.change rows ≡ rows
+    same = (λ i. changed span_before (g i) (c i) rows) ∙ filter_all (λ r. not (has_row [] r)) rows (λ r m. refl)
+
+    back : (r : Span) → (In r rows × (In r [] → ⊥)) ⊎ In r [] → In r rows
+    back r (inl m) = m.0
+    back r (inr m) = absurd m
+
+    unchanged : IsChange rows [] [] rows
+    unchanged = record { rows = λ r. (λ m. inl (m, λ n. n), back r); were = λ r m. absurd m; fresh = λ r m n. m }
+
+    nowhere : (j : ℕ) → false ≡ is_within low high j
+    nowhere j = grind (arith, nat_tests)
+
+    all_stay : (b o : Bool) → b ≡ (b && not (o && false))
+    all_stay true true = refl
+    all_stay true false = refl
+    all_stay false o = refl
+
+    none_go : (b o : Bool) → false ≡ (b && (o && false))
+    none_go true true = refl
+    none_go true false = refl
+    none_go false o = refl

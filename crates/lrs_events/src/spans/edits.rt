@@ -1,6 +1,6 @@
 //! Changes of what lies on a route: each is planned, room is made for it, and then it is made.
 
-ghost use Rattle.std.specs.Prelude.{◌≡◌, ◌<◌, ◌&&◌, nat_eq, IsTrue, IfOk, OnOk, OnErr};
+ghost use Rattle.std.specs.Prelude.{◌≡◌, ◌&&◌, nat_eq, IsTrue, IfOk, OnOk, OnErr};
 ghost use Rattle.lrs_measure.specs.Texts.{same_name};
 ghost use Rattle.lrs_events.specs.Spans.{are_rows, is_row};
 ghost use Rattle.lrs_events.specs.Row.Changes.{IsChange};
@@ -34,7 +34,7 @@ impl Spans {
         Ok(change)
     }
 
-    /// Takes away everything from chainage low up to high, and hands it back.
+    /// Takes away everything from chainage low up to high, and hands it back: nothing of an empty stretch.
     ///
     /// # Errors
     /// When memory runs out; nothing has changed then.
@@ -44,7 +44,6 @@ impl Spans {
         low: u64,
         high: u64,
     ) -> Result<Removal, AllocError>
-        requires { low < high }
         ensures rest { OnOk result (IsLess (λ class asset j s.
             is_within low high j) self.old self.new) }
         ensures left { IfOk result (λ removal. IsThat (λ class asset j s.
@@ -59,7 +58,8 @@ impl Spans {
         Ok(removal)
     }
 
-    /// Takes away everything of an asset of a class from chainage low up to high, and hands it back.
+    /// Takes away everything of an asset of a class from chainage low up to high, and hands it back: nothing of an
+    /// empty stretch.
     ///
     /// # Errors
     /// When memory runs out; nothing has changed then.

@@ -1,6 +1,6 @@
 //! An asset gives up what it holds on a part of a route.
 
-ghost use Rattle.std.specs.Prelude.{◌≡◌, ◌<◌, IsTrue, IfOk, true};
+ghost use Rattle.std.specs.Prelude.{◌≡◌, IsTrue, IfOk, true};
 ghost use Rattle.lrs_inventory.specs.Prelude.{each_two, differs, are_rows, IsRemoval, Retired, IsPlan};
 ghost use Rattle.lrs_measure.specs.Lists.{is_nothing};
 ghost use Rattle.lrs_machine.specs.declared.command.Command.TheVariants as verb;
@@ -74,7 +74,6 @@ fn removal_of(
     asset: Asset,
     stretch: RouteStretch,
 ) -> Result<Removal, AllocError>
-    requires filled { stretch.from < stretch.to }
     ensures plan { IfOk result (λ removal. IsPlan route_row.now.spans removal.change) }
     ensures removal { IfOk result (λ removal. IsRemoval
         (of_asset_within asset stretch) route_row.now.spans removal) }
