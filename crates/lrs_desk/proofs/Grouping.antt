@@ -255,10 +255,10 @@ module _ (may found : Result Image Table → Type 0) (i j : Image) (changes : Li
       let by = changed c h in
       by.2 ∙ ap (λ (image : Image). let r : Result Image Table = Ok (apply_all changes image) in r) (image_is by.0 by.1) ∙ ap (λ (image : Image). let r : Result Image Table = Ok image in r) (sym made)
 
-module _ {K : Type 0} (holds : K → Result Image Table → Type 0) (failures : K → ℕ) (records : List Record) (old new : DeskView K) (given : List Answer) (changes : List Change) where
+module _ {K : Type 0} (holds : K → Result Image Table → Type 0) (records : List Record) (old new : DeskView K) (given : List Answer) (changes : List Change) where
   pub breaks_amid : IsGroup old.limits records old.image new.image given changes → HoldsOnly (holds old.keeper) old.image
       → ((c : Result Image Table) → holds new.keeper c → holds old.keeper c ⊎ IsChangedBy (holds old.keeper) changes c)
-      → (length new.image.edits ≡ length old.image.edits → ⊥) → new.must_reopen ≡ true → new.is_ahead ≡ true → HasRisen (failures old.keeper) (failures new.keeper) → BreaksAmid holds failures records old new
+      → (length new.image.edits ≡ length old.image.edits → ⊥) → new.must_reopen ≡ true → new.is_ahead ≡ true → HasRisen old.failures new.failures → BreaksAmid holds records old new
   breaks_amid group only found differ reopen ahead cause =
       let many : length given ≡ (length given - 1) + 1 = omega (arith, group.first.some) in
       let state : state_of new.image ≡ state_after old.limits (take ((length given - 1) + 1) records) (state_of old.image) = group.first.state ∙ ap (λ (n : ℕ). state_after old.limits (take n records) (state_of old.image)) many in

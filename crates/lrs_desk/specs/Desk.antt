@@ -47,13 +47,13 @@ abbrev pub IsOldOrNext : Limits → List Record → Image → Result Image Table
 IsOldOrNext limits records before c = (c ≡ Ok before) ⊎ ((image : Image) × (c ≡ Ok image) × (state_of image ≡ state_after limits records (state_of before)) × IsSound image)
 
 -- The commit of a command that is done failed: what is found is the old image, or a sound one of the next state. The desk knows what it knew.
-pub record HasBroken {K : Type 0} (holds : K → Result Image Table → Type 0) (failures : K → ℕ) (key : Name) (command : Command) (old new : DeskView K) : Type 0 where
+pub record HasBroken {K : Type 0} (holds : K → Result Image Table → Type 0) (key : Name) (command : Command) (old new : DeskView K) : Type 0 where
   pub done : (number : ℕ) × ((step old.limits key command (state_of old.image)).answer ≡ Done number)
   pub image : new.image ≡ old.image
   pub content : (c : Result Image Table) → holds new.keeper c → IsOldOrNext old.limits (record { key = key; command = command } ∷ []) old.image c
   pub must_reopen : new.must_reopen ≡ true
   pub is_ahead : new.is_ahead ≡ false
-  pub cause : HasRisen (failures old.keeper) (failures new.keeper)
+  pub cause : HasRisen old.failures new.failures
 
 -- commands under keys, as the ground machine is given them
 abbrev pub records_of : List (Name × Command) → List Record
@@ -81,7 +81,7 @@ abbrev pub OneIsDone : List Answer → Type 0
 OneIsDone given = (number : ℕ) × In (Done number) given
 
 -- The first of these commands are in flight: their commit failed. One of them is done, each before the last was accepted, what is found is the old image or the state after all of them, and the desk's image is ahead: it is that after all of them.
-pub record BreaksAmid {K : Type 0} (holds : K → Result Image Table → Type 0) (failures : K → ℕ) (records : List Record) (old new : DeskView K) : Type 0 where
+pub record BreaksAmid {K : Type 0} (holds : K → Result Image Table → Type 0) (records : List Record) (old new : DeskView K) : Type 0 where
   -- how many are in flight beside the last one
   pub accepted : ℕ
   pub few : accepted < length records
@@ -91,4 +91,4 @@ pub record BreaksAmid {K : Type 0} (holds : K → Result Image Table → Type 0)
   pub content : (c : Result Image Table) → holds new.keeper c → IsOldOrNext old.limits (take (accepted + 1) records) old.image c
   pub must_reopen : new.must_reopen ≡ true
   pub is_ahead : new.is_ahead ≡ true
-  pub cause : HasRisen (failures old.keeper) (failures new.keeper)
+  pub cause : HasRisen old.failures new.failures

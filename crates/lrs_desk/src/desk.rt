@@ -68,6 +68,7 @@ impl<K: Keeper> Model for Desk<K> {
       must_reopen = d.must_reopen;
       is_ahead = d.is_ahead;
       keeper = d.keeper;
+      failures = K.failures d.keeper;
     } };
 
     ghost invariant = { λ d. IsWorking d.inventory d.counts d.must_reopen d.is_ahead (record {
@@ -93,6 +94,7 @@ impl<K: Keeper> Desk<K> {
         ensures limits { IfOk result (λ desk. desk.limits ≡ limits) }
         ensures open { IfOk result (λ desk. desk.must_reopen ≡ false) }
         ensures behind { IfOk result (λ desk. desk.is_ahead ≡ false) }
+        ensures failures { IfOk result (λ desk. desk.failures ≡ K.failures keeper) }
         ensures found { IfOk result (λ desk. K.is_clean desk.keeper
             → K.may_hold desk.keeper (Ok desk.image)) }
         ensures unsound { IfErr result (λ e. (t : Table) → e.0 ≡ OpenFault.Unsound t
@@ -127,10 +129,12 @@ impl<K: Keeper> Desk<K> {
     }
 
     /// Gives the caller's proof what this desk keeps: while it need not be opened again, an opening finds its image and
-    /// nothing else, and does find it where the device is clean. It does nothing.
+    /// nothing else, and does find it where the device is clean; and that it tells the keeper's count of failures. It does
+    /// nothing.
     pub fn prove_kept(&self)
         ensures kept { KeepsImage K.may_hold self.now }
         ensures found { FindsImage K.may_hold K.is_clean self.now }
+        ensures failures { self.now.failures ≡ K.failures self.now.keeper }
     {
         let _ = &self.keeper;
     }
@@ -224,8 +228,9 @@ impl<K: Keeper> Desk<K> {
         ensures memory { result ≡ Err Fault.Memory → IsUnchanged K.may_hold self.old self.new }
 
         // A commit fails only where the keeper counts it; the image is then as before.
-        ensures keep { result ≡ Err Fault.Keep → HasBroken K.may_hold K.failures key command.now
+        ensures keep { result ≡ Err Fault.Keep → HasBroken K.may_hold key command.now
             self.old self.new }
+        ensures counts { self.old.failures ≤ self.new.failures }
 
         // From then on the desk asks to be opened again, and at no other time.
         ensures reopen { (result ≡ Err Fault.MustReopen) ↔ IsTrue self.old.must_reopen }
@@ -290,8 +295,9 @@ impl<K: Keeper> Desk<K> {
         ensures memory { result ≡ Err Fault.Memory → IsUnchanged K.may_hold self.old self.new }
 
         // A commit fails only where the keeper counts it, and then all of them are kept or none.
-        ensures keep { result ≡ Err Fault.Keep → BreaksAmid K.may_hold K.failures
+        ensures keep { result ≡ Err Fault.Keep → BreaksAmid K.may_hold
             (records_of commands.now) self.old self.new }
+        ensures counts { self.old.failures ≤ self.new.failures }
 
         // From then on the desk asks to be opened again, and at no other time.
         ensures reopen { (result ≡ Err Fault.MustReopen) ↔ IsTrue self.old.must_reopen }

@@ -43,5 +43,6 @@ pub record KeepsOne {K X F : Type 0} (h : Holder K) (memory store : F) (change :
   pub none : result ≡ Err memory → (c : Result Image Table) → h.may_hold new c → h.may_hold old c
   pub either : result ≡ Err store → HoldsOldOrNew change (h.may_hold new) image
   pub cause : result ≡ Err store → HasRisen (h.failures old) (h.failures new)
+  pub counts : h.failures old ≤ h.failures new
   pub loaded : h.is_loaded new ≡ true
   pub reached : (result ≡ Err store → ⊥) → h.is_clean new → h.is_open new

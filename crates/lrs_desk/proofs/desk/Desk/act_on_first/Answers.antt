@@ -12,11 +12,11 @@ returns-in-Err-clause-keep g c = λ e.
     let d = c.self.inside in
     let mid = c.do_first.new.keeper in
     let staged = g.K.Keeper.staged mid in
-    let old : DeskView g.row.K.Denot = record { image = d.inventory; limits = d.limits; must_reopen = d.must_reopen; is_ahead = d.is_ahead; keeper = d.keeper } in
-    let new : DeskView g.row.K.Denot = record { image = c.do_first.new.inventory; limits = d.limits; must_reopen = true; is_ahead = true; keeper = c.commit.new.self } in
+    let old : DeskView g.row.K.Denot = record { image = d.inventory; limits = d.limits; must_reopen = d.must_reopen; is_ahead = d.is_ahead; keeper = d.keeper; failures = g.K.Holder.failures d.keeper } in
+    let new : DeskView g.row.K.Denot = record { image = c.do_first.new.inventory; limits = d.limits; must_reopen = true; is_ahead = true; keeper = c.commit.new.self; failures = g.K.Holder.failures c.commit.new.self } in
     let holds = g.K.Holder.may_hold in
-    subst (λ (v : DeskView g.row.K.Denot). BreaksAmid holds g.K.Holder.failures records v new) c.self.view_is
-    (breaks_amid holds g.K.Holder.failures records old new c.in_ok-given.given.answers.items staged c.in_ok-given.ensures.does (c.self.invariant.kept c.if-self.false)
+    subst (λ (v : DeskView g.row.K.Denot). BreaksAmid holds records v new) c.self.view_is
+    (breaks_amid holds records old new c.in_ok-given.given.answers.items staged c.in_ok-given.ensures.does (c.self.invariant.kept c.if-self.false)
     (λ x h. as_before (holds d.keeper) (holds mid) (λ y held. (c.do_first.ensures.rest.content y).0 held) staged x (failed_either (holds c.commit.new.self) (holds mid) (IsChangedBy (holds mid) staged) c.commit.result c.in-Err.field-0 c.in-Err.is c.commit.ensures.keeps.memory c.commit.ensures.keeps.store x h))
     (λ same. c.if-edits.false (c.edits.ensures ∙ same ∙ sym c.edits-edits.ensures)) refl refl (subst (λ (n : ℕ). HasRisen n (g.K.Holder.failures c.commit.new.self)) c.do_first.ensures.rest.quiet c.in-Err.ensures.cause))
 
