@@ -86,7 +86,8 @@ impl<K: Keeper> Desk<K> {
     ///
     /// # Errors
     ///
-    /// `Unsound` with the first unsound table of what is kept, `Keep` if the keeper counts a failure.
+    /// `Unsound` with the first unsound table of what is kept, which a clean device does give back; `Keep` if the keeper
+    /// counts a failure.
     pub fn open(mut keeper: K, limits: Limits, alloc: Global) -> Result<Desk<K>, (OpenFault, K)>
         ensures image { IfOk result (λ desk. HoldsOnly (K.may_hold desk.keeper) desk.image) }
         ensures content { IfOk result (λ desk. (c : Result ImageRows Table)
@@ -99,6 +100,8 @@ impl<K: Keeper> Desk<K> {
             → K.may_hold desk.keeper (Ok desk.image)) }
         ensures unsound { IfErr result (λ e. (t : Table) → e.0 ≡ OpenFault.Unsound t
             → (c : Result ImageRows Table) → K.may_hold e.1 c → c ≡ Err t) }
+        ensures named { IfErr result (λ e. (t : Table) → e.0 ≡ OpenFault.Unsound t
+            → K.is_clean e.1 → K.may_hold e.1 (Err t)) }
         ensures cause { IfErr result (λ e. e.0 ≡ OpenFault.Keep
             → HasRisen (K.failures keeper) (K.failures e.1)) }
         ensures quiet { IfErr result (λ e. (e.0 ≡ OpenFault.Keep → ⊥)
