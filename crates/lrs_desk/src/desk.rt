@@ -11,7 +11,7 @@ ghost use Rattle.lrs_image.specs.KeeperCalls.{HasLoaded, HasRisen, HoldsOnly};
 ghost use Rattle.lrs_image.specs.ChangeLists.{KeepsOne};
 ghost use Rattle.lrs_report_answers.specs.Tally.RunningCounts.{IsCounted};
 ghost use Rattle.lrs_inventory.specs.Plans.{change_of, TellsGround};
-ghost use Rattle.lrs_desk.specs.Desk.{IsUnchanged, HasBroken, DoesFirst, BreaksAmid, FindsImage, KeepsImage, StopsBy, records_of};
+ghost use Rattle.lrs_desk.specs.Desk.{IsUnchanged, HasBroken, DoesFirst, BreaksAmid, FindsImage, KeepsImage, MakesBounded, StopsBy, records_of};
 
 use crate::decision::{Decision, decide, known_edit};
 use crate::group::{FirstAnswers, class_of, do_first};
@@ -275,8 +275,9 @@ impl<K: Keeper> Desk<K> {
 }
 
 impl<K: Keeper> Desk<K> {
-    /// Does the first of these commands, in order: all of them, or up to the first that is refused, or up to one for which
-    /// memory ran out. What they change is kept before they are answered, all of it by one commit.
+    /// Does the first of these commands, in order: all of them, or up to the first that is refused, or up to one whose change
+    /// lists with those before it more than 4,096 rows, or up to one for which memory ran out. What they change is kept
+    /// before they are answered, all of it by one commit.
     ///
     /// # Errors
     ///
@@ -289,7 +290,8 @@ impl<K: Keeper> Desk<K> {
         ensures does { IfOk result (λ done. DoesFirst self.old.limits (records_of commands.now)
             (state_of self.old.image) (state_of self.new.image) done.answers.items) }
         ensures stops { IfOk result (λ done. StopsBy done.ran_out (length commands.now)
-            done.answers.items) }
+            self.old.image self.new.image done.answers.items) }
+        ensures bounded { OnOk result (MakesBounded self.old.image self.new.image) }
         ensures content { OnOk result (HoldsOnly (K.may_hold self.new.keeper) self.new.image) }
         // Whatever is answered, while it need not be opened again.
         ensures found { FindsImage K.may_hold K.is_clean self.new }
