@@ -1,6 +1,6 @@
 //! What assets hold on one route.
 
-ghost use Rattle.std.specs.Prelude.{◌≡◌, ◌↔◌, [], IsTrue, IfOk, OnOk, OnErr};
+ghost use Rattle.std.specs.Prelude.{◌≡◌, IsTrue, IfOk, OnOk, OnErr};
 ghost use Rattle.lrs_measure.specs.Lists.{each_two};
 ghost use Rattle.lrs_events.specs.Changes.{changed_rows};
 ghost use Rattle.lrs_events.specs.Spans.{are_rows, span_before};
@@ -47,13 +47,6 @@ impl Spans {
         Ok(Spans {
             kept: OpenSpans::of_rows(alloc, rows)?,
         })
-    }
-
-    /// Whether nothing lies on the route.
-    pub fn is_empty(&self) -> bool
-        ensures { IsTrue result ↔ (self.now ≡ []) }
-    {
-        self.rows().is_empty()
     }
 
     /// The rows in their order.
