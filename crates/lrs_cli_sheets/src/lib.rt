@@ -16,4 +16,4 @@ pub use progress::ProgressDisplay;
 pub use question_sheets::{QuestionPace, answer_sheet, do_questions};
 pub use sheets::Pace;
 pub use trial::{do_check, do_records};
-pub use world::{Sheets, SystemBytes, SystemSheet, SystemSheets, World};
+pub use world::{Sheets, SystemSheet, SystemSheets, World};

@@ -62,7 +62,7 @@ pub struct SystemSheet<'a, R: Runtime<A = Global>> {
 
 /// Where its bytes come from.
 #[derive(Drop)]
-pub enum SystemBytes<R: Runtime<A = Global>> {
+enum SystemBytes<R: Runtime<A = Global>> {
     File(R::File),
     Input(R::Reader),
 }
