@@ -147,6 +147,15 @@ def test_a_short_sheet_shows_no_progress():
         assert shown == b"", shown
 
 
+def test_a_last_line_without_an_end_is_told_on_a_terminal():
+    note = b"note: the last line of the sheet has no end; look whether it was cut off\r\n"
+    for sheet, told in [(FIRST[:-1], note), (FIRST, b""), (FIRST.replace(b"\n", b"\r"), b""), (b"", b"")]:
+        ended, shown = run_on_terminal(sheet, "stderr")
+        ends(ended, FIRST_REPLIES if sheet else b"", 0)
+        assert shown == told, shown
+    ends(run_sheet(FIRST[:-1]), FIRST_REPLIES, 0)
+
+
 def test_progress_is_taken_away_before_a_fault():
     ended, shown = run_on_terminal(LONG + BAD_RECORD, "stderr")
     ends(ended, LONG_REPLIES, 3)

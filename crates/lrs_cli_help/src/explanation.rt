@@ -183,6 +183,19 @@ pub fn explain_record(rt: &HostRuntime, job: &Job<'_>) {
     say_cure(rt, job);
 }
 
+/// Two records of the sheet have one key, so it does not go on.
+pub fn explain_repeated_key(rt: &HostRuntime, job: &Job<'_>) {
+    say_of(
+        rt,
+        sheet_of(job).unwrap_or(""),
+        "two of its records have one key, so it is not known behind which of them to go on; nothing was done",
+    );
+    say(
+        rt,
+        "take the second one out, or give it a key of its own, and send the sheet again with --resume",
+    );
+}
+
 /// The port cannot be listened on.
 pub fn explain_port(rt: &HostRuntime, job: &Job<'_>) {
     say_of(

@@ -173,9 +173,9 @@ abbrev pub AsksRows : Option Text → Option Text → Option Text → Option Tex
 AsksRows on from to of number (listing.Rows wanted) = AreWanted on from to of number wanted
 AsksRows on from to of number _ = ⊥
 
--- the edit of the key, where one is given; else those from a number on, which is 1 where none is given
+-- the edit of the key, or those from a number on, which is 1 where neither is given
 abbrev pub AsksLog : Option Text → Option Text → Listing → Type 0
-AsksLog from (Some key) (listing.LogOfKey k) = SaysKey key k
+AsksLog None (Some key) (listing.LogOfKey k) = SaysKey key k
 AsksLog (Some from) None (listing.Log n) = SaysEdit from n
 AsksLog None None (listing.Log n) = n ≡ 1
 AsksLog from key l = ⊥
@@ -260,8 +260,9 @@ CannotRows route from to class asset fault =
     CannotIfGiven word.Route SaysRoute route fault ⊎ CannotEnd word.From from fault ⊎ CannotEnd word.To to fault ⊎ CannotIfGiven word.Class SaysClass class fault
     ⊎ CannotIfGiven word.Asset SaysAsset asset fault
 
--- the number of the first edit, or the key
+-- the number of the first edit, or the key; or both are given
 abbrev pub CannotLog : Option Text → Option Text → QuestionFault → Type 0
+CannotLog (Some from) (Some key) fault = fault ≡ Unreadable word.FromBesideKey
 CannotLog from key fault = CannotIfGiven word.Number SaysEdit from fault ⊎ CannotIfGiven word.Key SaysKey key fault
 
 -- the fault is a word of the job that cannot be read, or lack of memory for the classes
@@ -296,6 +297,7 @@ bad_word_text word.What = codes "WHAT is none of routes, links, classes, refs an
 bad_word_text word.Edit = codes "EDIT is no number of an edit"
 bad_word_text word.Number = codes "FROM is no number of an edit"
 bad_word_text word.Key = codes "KEY is no key"
+bad_word_text word.FromBesideKey = codes "FROM and --key KEY are two questions"
 bad_word_text word.Chainage = codes "CHAINAGE is no chainage in millimetres"
 bad_word_text word.NotLink = codes "MM stands only behind the word link and LINK"
 bad_word_text word.Link = codes "LINK is no link number"
