@@ -158,7 +158,9 @@ fn done(rt: &HostRuntime, job: &Job<'_>, text: &str) -> Option<(Vec<u8>, Ending)
 
 /// The same of a job by its words.
 fn done_by_words(rt: &HostRuntime, words: &str, text: &str) -> Option<(Vec<u8>, Ending)> {
-    let words: Vec<&str> = words.split(' ').collect(rt.alloc()).ok()?;
+    let Ok(words) = words.split(' ').collect::<Vec<&str>>(rt.alloc()) else {
+        return None;
+    };
     match job_of(rt.alloc(), words.as_slice()) {
         Ok(job) => done(rt, &job, text),
         Err(_) => None,
