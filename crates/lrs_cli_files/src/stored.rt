@@ -13,7 +13,7 @@ use lrs_store_image::Reader;
 use lrs_store_questions::{Questions, open_for_questions};
 use lrs_store_tables::StoreFault;
 use lrs_store_tables::stored_rows::ReadImage;
-use sqlite::{FileFrom, FileStore, Start, Unknown};
+use sqlite::{Alter, FileFrom, FileStore, Start};
 use sqlite_disk::Disk;
 use std::rt::HostRuntime;
 
@@ -23,18 +23,18 @@ fn close_tables<D: Disk + Drop, R: ReadImage + Drop>(tables: Tables<FileStore<D>
 }
 
 /// The tables of a keeper.
-fn tables_of(keeper: FileKeeper) -> Tables<FileStore<FileFrom<Unknown>>, Reader> {
+fn tables_of<A: Alter>(keeper: FileKeeper<A>) -> Tables<A, Reader> {
     let FileKeeper { inner } = keeper;
     let FileTables { tables, place: _ } = inner.into_inner();
     tables
 }
 
 /// The keeper of tables whose files stand at a path. Where memory runs out, they are let go.
-fn keep_at(
+fn keep_at<D: Disk + Drop>(
     rt: &HostRuntime,
     path: &str,
-    tables: Tables<FileStore<FileFrom<Unknown>>, Reader>,
-) -> Result<FileKeeper, OpenFault>
+    tables: Tables<FileStore<D>, Reader>,
+) -> Result<FileKeeper<FileStore<D>>, OpenFault>
     ensures kept { IfOk result (λ k. k.inner.batches.tables ≡ tables) }
     ensures fault { IfErr result (λ e. e ≡ OpenFault.Memory) }
 {
@@ -49,27 +49,32 @@ fn keep_at(
     }
 }
 
-/// Opens a file and its log at a path of the system: once for all work, and before that once for questions.
+/// Opens a file and its log at a path of the system. `S` stands for what they hold when they are opened for all work, and
+/// `T` when they are opened for questions: each is used once, and what is proved holds for every such content.
 #[derive(Drop)]
-pub struct StoredFiles {
-    is_seen: bool,
+pub struct StoredFiles<S: Start, T: Start> {
+    start: S,
+    seen: Option<T>,
 }
 
-impl StoredFiles {
+impl<S: Start, T: Start> StoredFiles<S, T> {
     /// Files that have not been opened.
-    pub fn new() -> StoredFiles {
-        StoredFiles { is_seen: false }
+    pub fn new(start: S, seen: T) -> StoredFiles<S, T> {
+        StoredFiles {
+            start,
+            seen: Some(seen),
+        }
     }
 }
 
-impl Files for StoredFiles {
-    type Kept = FileKeeper;
+impl<S: Start, T: Start> Files for StoredFiles<S, T> {
+    type Kept = FileKeeper<FileStore<FileFrom<S>>>;
 
-    type Seen = Questions<FileStore<FileFrom<Unknown>>>;
+    type Seen = Questions<FileStore<FileFrom<T>>>;
 
-    ghost has_opened = { IsContentOf (image_at ⟦<Unknown as Start>⟧) };
+    ghost has_opened = { IsContentOf (image_at S.Start) };
 
-    ghost has_read = { HasRead (image_at ⟦<Unknown as Start>⟧) };
+    ghost has_read = { HasRead (image_at T.Start) };
 
     fn open(
         self,
@@ -77,7 +82,8 @@ impl Files for StoredFiles {
         path: &str,
         new_has_sums: bool,
     ) -> Result<Self::Kept, OpenFault> {
-        match open_file(rt, path, new_has_sums, Unknown, Reader) {
+        let StoredFiles { start, seen: _ } = self;
+        match open_file(rt, path, new_has_sums, start, Reader) {
             Ok(tables) => keep_at(rt, path, tables),
             Err(refusal) => Err(OpenFault::from(refusal.into_fault())),
         }
@@ -88,11 +94,10 @@ impl Files for StoredFiles {
         rt: &HostRuntime,
         path: &str,
     ) -> Result<Option<Self::Seen>, OpenFault> {
-        if self.is_seen {
+        let Some(seen) = self.seen.take() else {
             return Ok(None);
-        }
-        self.is_seen = true;
-        match open_for_questions(rt, path, Unknown) {
+        };
+        match open_for_questions(rt, path, seen) {
             Ok(keeper) => Ok(Some(keeper)),
             Err(refusal) => match refusal.into_fault() {
                 StoreFault::Memory => Err(OpenFault::Memory),

@@ -6,6 +6,8 @@ mod explanation;
 mod jobs;
 mod program;
 mod service;
+#[cfg(test)]
+mod tests;
 
 pub use jobs::do_job;
 pub use lrs_cli_sheets::{Sheets, SystemSheets, World};
