@@ -10,7 +10,7 @@ use crate::place::Place;
 use lrs_desk::{Files, OpenFault, Staged};
 use lrs_store::{Tables, close_files, discard_files, open_file};
 use lrs_store_image::Reader;
-use lrs_store_questions::{Questions, open_for_questions};
+use lrs_store_questions::{Questions, StillFrom, open_for_questions};
 use lrs_store_tables::StoreFault;
 use lrs_store_tables::stored_rows::ReadImage;
 use sqlite::{FileFrom, FileStore, Start, Unknown};
@@ -53,19 +53,24 @@ fn keep_at(
 #[derive(Drop)]
 pub struct StoredFiles {
     is_seen: bool,
+    /// Whether it was looked at, and is no file that an opening for all work takes. So none is tried, which makes a log.
+    is_refused: bool,
 }
 
 impl StoredFiles {
     /// Files that have not been opened.
     pub fn new() -> StoredFiles {
-        StoredFiles { is_seen: false }
+        StoredFiles {
+            is_seen: false,
+            is_refused: false,
+        }
     }
 }
 
 impl Files for StoredFiles {
     type Kept = FileKeeper;
 
-    type Seen = Questions<FileStore<FileFrom<Unknown>>>;
+    type Seen = Questions<FileStore<StillFrom<Unknown>>>;
 
     ghost has_opened = { IsContentOf (image_at ⟦<Unknown as Start>⟧) };
 
@@ -77,6 +82,9 @@ impl Files for StoredFiles {
         path: &str,
         new_has_sums: bool,
     ) -> Result<Self::Kept, OpenFault> {
+        if self.is_refused {
+            return Err(OpenFault::Keep);
+        }
         match open_file(rt, path, new_has_sums, Unknown, Reader) {
             Ok(tables) => keep_at(rt, path, tables),
             Err(refusal) => Err(OpenFault::from(refusal.into_fault())),
@@ -94,10 +102,13 @@ impl Files for StoredFiles {
         self.is_seen = true;
         match open_for_questions(rt, path, Unknown) {
             Ok(keeper) => Ok(Some(keeper)),
-            Err(refusal) => match refusal.into_fault() {
-                StoreFault::Memory => Err(OpenFault::Memory),
-                StoreFault::Store => Ok(None),
-            },
+            Err(refusal) => {
+                self.is_refused = !refusal.may_be_taken;
+                match refusal.into_fault() {
+                    StoreFault::Memory => Err(OpenFault::Memory),
+                    StoreFault::Store => Ok(None),
+                }
+            }
         }
     }
 
