@@ -10,7 +10,7 @@ use crate::place::Place;
 use lrs_desk::{Files, OpenFault, Staged};
 use lrs_store::{Tables, close_files, discard_files, open_file};
 use lrs_store_image::Reader;
-use lrs_store_questions::{Questions, open_for_questions};
+use lrs_store_questions::{Questions, StillFrom, open_for_questions};
 use lrs_store_tables::StoreFault;
 use lrs_store_tables::stored_rows::ReadImage;
 use sqlite::{Alter, FileFrom, FileStore, Start};
@@ -55,6 +55,8 @@ fn keep_at<D: Disk + Drop>(
 pub struct StoredFiles<S: Start, T: Start> {
     start: S,
     seen: Option<T>,
+    /// Whether it was looked at, and is no file that an opening for all work takes. So none is tried, which makes a log.
+    is_refused: bool,
 }
 
 impl<S: Start, T: Start> StoredFiles<S, T> {
@@ -63,6 +65,7 @@ impl<S: Start, T: Start> StoredFiles<S, T> {
         StoredFiles {
             start,
             seen: Some(seen),
+            is_refused: false,
         }
     }
 }
@@ -70,7 +73,7 @@ impl<S: Start, T: Start> StoredFiles<S, T> {
 impl<S: Start, T: Start> Files for StoredFiles<S, T> {
     type Kept = FileKeeper<FileStore<FileFrom<S>>>;
 
-    type Seen = Questions<FileStore<FileFrom<T>>>;
+    type Seen = Questions<FileStore<StillFrom<T>>>;
 
     ghost has_opened = { IsContentOf (image_at S.Start) };
 
@@ -82,7 +85,14 @@ impl<S: Start, T: Start> Files for StoredFiles<S, T> {
         path: &str,
         new_has_sums: bool,
     ) -> Result<Self::Kept, OpenFault> {
-        let StoredFiles { start, seen: _ } = self;
+        let StoredFiles {
+            start,
+            seen: _,
+            is_refused,
+        } = self;
+        if is_refused {
+            return Err(OpenFault::Keep);
+        }
         match open_file(rt, path, new_has_sums, start, Reader) {
             Ok(tables) => keep_at(rt, path, tables),
             Err(refusal) => Err(OpenFault::from(refusal.into_fault())),
@@ -99,10 +109,13 @@ impl<S: Start, T: Start> Files for StoredFiles<S, T> {
         };
         match open_for_questions(rt, path, seen) {
             Ok(keeper) => Ok(Some(keeper)),
-            Err(refusal) => match refusal.into_fault() {
-                StoreFault::Memory => Err(OpenFault::Memory),
-                StoreFault::Store => Ok(None),
-            },
+            Err(refusal) => {
+                self.is_refused = !refusal.may_be_taken;
+                match refusal.into_fault() {
+                    StoreFault::Memory => Err(OpenFault::Memory),
+                    StoreFault::Store => Ok(None),
+                }
+            }
         }
     }
 

@@ -3,7 +3,7 @@
 use crate::keeper::FileKeeper;
 use crate::stored::StoredFiles;
 use lrs_desk::{Files, OpenFault};
-use lrs_store_questions::Questions;
+use lrs_store_questions::{Questions, StillFrom};
 use sqlite::{FileFrom, FileStore, Unknown};
 use std::rt::HostRuntime;
 
@@ -25,7 +25,7 @@ impl SystemFiles {
 impl Files for SystemFiles {
     type Kept = FileKeeper<FileStore<FileFrom<Unknown>>>;
 
-    type Seen = Questions<FileStore<FileFrom<Unknown>>>;
+    type Seen = Questions<FileStore<StillFrom<Unknown>>>;
 
     ghost has_opened = { ⟦<StoredFiles<Unknown, Unknown> as Files>⟧.has_opened };
 

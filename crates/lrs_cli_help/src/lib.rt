@@ -7,9 +7,11 @@ mod inspection;
 mod job_texts;
 mod options;
 mod outlet;
+mod site;
 mod verbs;
 
 pub use hints::hint_at;
 pub use options::{Options, keep_job_words, options_of};
 pub use outlet::is_reader_gone;
+pub use site::{Site, site_at};
 pub use verbs::verb_help;

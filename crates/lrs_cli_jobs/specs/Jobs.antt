@@ -86,10 +86,11 @@ EndsSilent old given ending = given ≡ Ok (old, ending)
 abbrev pub IsNotOpened : Option Text → Printed → Type 0
 IsNotOpened old given = (why : OpenFault) × EndsSilent old given (Stopped (fault_of_open why))
 
--- a question, or a sheet of them
+-- a question, or a sheet of them, or a sheet that is only tried
 abbrev pub Looks : Work → Type 0
 Looks (work.Question question) = ⊤
 Looks (work.Questions from) = ⊤
+Looks (work.Check kind from) = ⊤
 Looks w = ⊥
 
 -- a sheet that is only tried

@@ -6,6 +6,7 @@ ghost use Rattle.lrs_cli_jobs.specs.Jobs.{EndsInFile, EndsInMemory, EndsJob, End
 
 use crate::desk::{open_desk, open_desk_to_look};
 use crate::service::do_service;
+use lrs_cli_help::{Site, site_at};
 use lrs_cli_sheets::{
     Pace, ProgressDisplay, Sheets, World, do_audit, do_check, do_questions, do_records,
 };
@@ -13,8 +14,7 @@ use lrs_cli_tasks::{
     Ending, ProgramFault, Task, Work, answer, do_page, is_in_memory, open_in_memory, task_of,
 };
 use lrs_cli_words::{Job, QuestionFault, new_has_sums};
-use lrs_desk::{Desk, Files, Holder, Keeper, Plain};
-use lrs_machine::Question;
+use lrs_desk::{Desk, Files, Holder, Keeper, OpenFault, Plain};
 use std::alloc::Global;
 use std::fs;
 use std::io::Write;
@@ -154,20 +154,14 @@ fn look<F: Files, S: Sheets, W: Write + Drop>(
     given
 }
 
-// Whether a file with a byte is at a path. One that is missing or empty may stand beside a log with commits, which must
-// stay, so it is left to the opening that knows that.
-fn has_bytes(rt: &HostRuntime, path: &str) -> bool {
-    match fs::metadata(rt, path) {
-        Ok(found) => found.len() > 0,
-        Err(_) => false,
-    }
-}
-
-// Whether work is a question, or a sheet of them.
+// Whether work is a question, a sheet of them, or a sheet that is only tried.
 fn looks(work: &Work<'_>) -> bool
     ensures { IsTrue result ↔ Looks work.now }
 {
-    matches!(work, Work::Question(_) | Work::Questions { .. })
+    matches!(
+        work,
+        Work::Question(_) | Work::Questions { .. } | Work::Check { .. }
+    )
 }
 
 // Does work in the inventory of a file. What only looks is answered without a connection, where that opening takes the
@@ -184,10 +178,10 @@ fn do_in_file<F: Files, S: Sheets, W: Write + Drop>(
         F.has_opened F.has_read (S.text_of world.now.sheets.now)
         work.entry (W.contents to) (printed W.contents result) }
 {
-    if !looks(&work) {
-        return do_with_log(world, files, path, new_has_sums, work, to);
+    if matches!(work, Work::Audit) {
+        return audit_with_log(world, files, path, new_has_sums, work, to);
     }
-    if !has_bytes(world.rt, path) {
+    if !looks(&work) {
         return do_with_log(world, files, path, new_has_sums, work, to);
     }
     let mut files = files;
@@ -203,37 +197,71 @@ fn do_in_file<F: Files, S: Sheets, W: Write + Drop>(
     }
 }
 
-// Whether something is at a path. Where that is not known, opening it tells why.
-fn is_there(rt: &HostRuntime, path: &str) -> bool {
-    match fs::exists(rt, path) {
-        Ok(exists) => exists,
-        Err(_) => true,
+// Looks at the file of an inventory, and lets it go.
+fn try_to_look<F: Files>(rt: &HostRuntime, files: &mut F, path: &str) -> Result<(), OpenFault> {
+    if let Some(keeper) = files.open_to_look(rt, path)? {
+        F::discard_seen(keeper);
+    }
+    Ok(())
+}
+
+// Audits the inventory of a file, which is opened as for edits, since that tests the indexes too. It is looked at before:
+// beside a file that is no inventory nothing is made.
+fn audit_with_log<F: Files, S: Sheets, W: Write + Drop>(
+    world: &World<'_, HostRuntime, S>,
+    files: F,
+    path: &str,
+    new_has_sums: bool,
+    work: Work<'_>,
+    to: W,
+) -> Result<(W, Ending), ProgramFault>
+    ensures { EndsWithLog (S.text_of world.now.sheets.now) F.Kept.may_hold F.has_opened
+        work.entry (W.contents to) (printed W.contents result) }
+{
+    let mut files = files;
+    match try_to_look(world.rt, &mut files, path) {
+        Ok(()) => do_with_log(world, files, path, new_has_sums, work, to),
+        Err(fault) => Ok((to, Ending::Stopped(ProgramFault::from(fault)))),
     }
 }
 
-// Whether neither the file of an inventory nor its log is there.
-fn is_new(rt: &HostRuntime, path: &str) -> bool {
-    match format!(in rt.alloc(); "{path}-wal") {
-        Ok(log) => !is_there(rt, path) && !is_there(rt, log.as_str()),
-        Err(_) => false,
+// Whether work makes an inventory where there is none.
+fn makes(work: &Work<'_>) -> bool {
+    matches!(work, Work::Sheet { .. } | Work::Service(_))
+}
+
+// Says on a terminal that an inventory is made.
+fn tell_making(rt: &HostRuntime, path: &str, shown: ProgressDisplay) {
+    if shown != ProgressDisplay::Nowhere {
+        let _ = eprintln!(rt; "makes a new inventory: {path}");
     }
 }
 
-// Whether work needs an inventory that is there: an audit, a sheet of questions, and the questions that came after the first
-// formats. Those of the first formats make one.
-fn needs_file(work: &Work<'_>) -> bool {
-    matches!(
-        work,
-        Work::Questions { .. }
-            | Work::Audit
-            | Work::Question(
-                Question::Where(_) | Question::Lengths(_) | Question::List(_) | Question::Health
-            )
-    )
+// Makes an inventory, or goes on with one whose making was cut off, and does work in it. What makes none has none; but a
+// sheet is tried in a fresh one.
+fn do_in_new<F: Files, S: Sheets, W: Write + Drop>(
+    world: &World<'_, HostRuntime, S>,
+    files: F,
+    path: &str,
+    new_has_sums: bool,
+    work: Work<'_>,
+    to: W,
+) -> Result<(W, Ending), ProgramFault>
+    ensures { EndsInFile ⟦<Plain as Holder>⟧.may_hold F.Kept.may_hold F.Seen.may_hold
+        F.has_opened F.has_read (S.text_of world.now.sheets.now)
+        work.entry (W.contents to) (printed W.contents result) }
+{
+    if makes(&work) {
+        tell_making(world.rt, path, world.shown);
+        return do_with_log(world, files, path, new_has_sums, work, to);
+    }
+    if matches!(work, Work::Check { .. }) {
+        return do_in_memory(world, work, to);
+    }
+    Ok((to, Ending::Stopped(ProgramFault::Open)))
 }
 
-// Does work in the inventory of a file. A check of none looks at a fresh inventory, and what needs one has none. Nor is one
-// made where it has to be there.
+// Does work at a path, by what stands there. Where an inventory has to be there, none is made.
 fn do_at_path<F: Files, S: Sheets, W: Write + Drop>(
     world: &World<'_, HostRuntime, S>,
     files: F,
@@ -247,13 +275,14 @@ fn do_at_path<F: Files, S: Sheets, W: Write + Drop>(
         F.has_opened F.has_read (S.text_of world.now.sheets.now)
         work.entry (W.contents to) (printed W.contents result) }
 {
-    if (existing || needs_file(&work)) && is_new(world.rt, path) {
-        return Ok((to, Ending::Stopped(ProgramFault::Open)));
+    match site_at(world.rt, path) {
+        Site::Inventory => do_in_file(world, files, path, new_has_sums, work, to),
+        Site::Vacant if !existing => do_in_new(world, files, path, new_has_sums, work, to),
+        Site::Remnant if !existing && makes(&work) => {
+            do_in_new(world, files, path, new_has_sums, work, to)
+        }
+        _ => Ok((to, Ending::Stopped(ProgramFault::Open))),
     }
-    if matches!(work, Work::Check { .. }) && is_new(world.rt, path) {
-        return do_in_memory(world, work, to);
-    }
-    do_in_file(world, files, path, new_has_sums, work, to)
 }
 
 // Writes the page, which says nothing to the writer.
