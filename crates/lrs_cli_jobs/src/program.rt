@@ -9,10 +9,10 @@ use lrs_cli_tasks::{Ending, ProgramFault, status};
 use lrs_cli_words::{Job, WordsFault, job_of};
 use lrs_desk::Files;
 use std::cell::Cell;
+use std::env;
 use std::io::{ErrorKind, IsTerminal};
 use std::process::ExitCode;
 use std::rt::HostRuntime;
-use std::{env, io};
 
 // Whether the status alone tells of a fault: where the reader of the program's output has gone, as `head` goes.
 fn is_quiet(rt: &HostRuntime, fault: ProgramFault) -> bool {
@@ -40,7 +40,7 @@ fn do_explained<F: Files, S: Sheets>(
 ) -> Ending {
     let rt = world.rt;
     let failure = Cell::new(None);
-    let output = Output::new(io::writer(rt), &failure);
+    let output = Output::new(rt, &failure);
     let ending = match do_job(world, files, job, options.existing, output) {
         Ok((_, ending)) => ending,
         Err(fault) => Ending::Stopped(fault),
