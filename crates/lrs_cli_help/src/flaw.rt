@@ -32,7 +32,8 @@ fn tell_line(
 ) -> Option<()> {
     let mut said = Vec::new(rt.alloc());
     write_fault_advice(rt.alloc(), &mut said, flaw, kind, text).ok()?;
-    say_of(rt, sheet, str::from_utf8(said.as_slice()).ok()?.trim());
+    let line = str::from_utf8(said.as_slice()).ok()?;
+    say_of(rt, sheet, line.trim());
     Some(())
 }
 

@@ -32,12 +32,13 @@ fn is_of_sqlite(first: &str) -> bool {
 }
 
 // The process that has a lock of SQLite's on this file by a line of the system's locks, as
-// `1: POSIX  ADVISORY  WRITE 1234 08:01:5678 1073741824 1073742335`. One of another machine or room is 0, or no number.
+// `1: POSIX  ADVISORY  WRITE 1234 08:01:5678 1073741824 1073742335`. One that this process cannot see is 0, or no number.
 fn process_in(alloc: Global, line: &str, inode: u64) -> Option<u64> {
-    let words: Vec<&str> = line.split_whitespace().collect(alloc).ok()?;
-    let [_, _, _, _, process, place, first, ..] = words.as_slice() else {
+    let words = line.split_whitespace().collect::<Vec<&str>>(alloc).ok()?;
+    if words.len() < 7 {
         return None;
-    };
+    }
+    let (process, place, first) = (words[4], words[5], words[6]);
     if inode_in(place) != Some(inode) || !is_of_sqlite(first) {
         return None;
     }

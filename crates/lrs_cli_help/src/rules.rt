@@ -20,113 +20,111 @@ struct Rule {
     flaw: &'static str,
 }
 
-const fn rule(table: &'static str, query: &'static str, flaw: &'static str) -> Rule {
-    Rule { table, query, flaw }
-}
-
-const EMPTY: &str = "it ends where it begins, or before";
-
-const NO_SIDE: &str = "its side is none of 0, 1 and 2";
-
-const NO_LEDGER_SIDE: &str = "its side is neither 0 nor 1";
-
 const RULES: [Rule; 20] = [
-    rule("version", "SELECT v || '' FROM version WHERE v <> 2", "the version is another than 2"),
-    rule(
-        "link",
-        "SELECT number || '' FROM link WHERE number < 1 OR number > 999999",
-        "its number is out of range",
-    ),
-    rule(
-        "link",
-        "SELECT number || '' FROM link WHERE length < 1 OR length > 1000000000",
-        "its length is out of range",
-    ),
-    rule(
-        "class",
-        "SELECT name FROM class WHERE kind < 0 OR kind > 2",
-        "its kind is none of 0, 1 and 2",
-    ),
-    rule(
-        "asset",
-        "SELECT number || '' FROM asset WHERE number < 1 OR number > 1000000000000",
-        "its number is out of range",
-    ),
-    rule(
-        "asset",
-        "SELECT number || '' FROM asset WHERE lateral < 0 OR lateral > 100000",
-        "its lateral offset is out of range",
-    ),
-    rule("piece", "SELECT route || ' ' || n FROM piece WHERE a < 0 OR a >= b", EMPTY),
-    rule(
-        "piece",
-        "SELECT route || ' ' || n FROM piece WHERE dir < 0 OR dir > 1",
-        "its direction is neither 0 nor 1",
-    ),
-    rule(
-        "mark",
-        "SELECT route || ' ' || n FROM mark WHERE route NOT IN (SELECT route FROM piece)",
-        "there is no such route",
-    ),
-    rule(
-        "mark",
-        "SELECT route || ' ' || n FROM mark WHERE n = 0 AND chainage <> 0",
-        "the first mark of a route is not at 0",
-    ),
-    rule(
-        "ref",
-        "SELECT name FROM ref WHERE route NOT IN (SELECT route FROM piece)",
-        "there is no such route",
-    ),
-    rule("span", "SELECT asset || ' ' || route || ' ' || lo FROM span WHERE lo >= hi", EMPTY),
-    rule(
-        "span",
-        "SELECT asset || ' ' || route || ' ' || lo FROM span WHERE side < 0 OR side > 2",
-        NO_SIDE,
-    ),
-    rule(
-        "span",
-        "SELECT asset || ' ' || route || ' ' || lo FROM span WHERE route NOT IN (SELECT route FROM piece)",
-        "there is no such route",
-    ),
-    rule(
-        "entered",
-        "SELECT edit || ' ' || asset || ' ' || link || ' ' || lo FROM entered WHERE lo >= hi",
-        EMPTY,
-    ),
-    rule(
-        "entered",
-        "SELECT edit || ' ' || asset || ' ' || link || ' ' || lo FROM entered WHERE side < 0 OR side > 1",
-        NO_LEDGER_SIDE,
-    ),
-    rule(
-        "gone",
-        "SELECT edit || ' ' || asset || ' ' || link || ' ' || lo FROM gone WHERE lo >= hi",
-        EMPTY,
-    ),
-    rule(
-        "gone",
-        "SELECT edit || ' ' || asset || ' ' || link || ' ' || lo FROM gone WHERE side < 0 OR side > 1",
-        NO_LEDGER_SIDE,
-    ),
-    rule(
-        "edit",
-        "SELECT number || '' FROM edit WHERE number < 1 OR number > (SELECT count(*) FROM edit)",
-        "its number is above the number of edits",
-    ),
-    rule(
-        "origin",
-        "SELECT asset || '' FROM origin WHERE asset NOT IN (SELECT asset FROM entered)",
-        "the asset was never entered",
-    ),
+    Rule {
+        table: "version",
+        query: "SELECT v || '' FROM version WHERE v <> 2",
+        flaw: "the version is another than 2",
+    },
+    Rule {
+        table: "link",
+        query: "SELECT number || '' FROM link WHERE number < 1 OR number > 999999",
+        flaw: "its number is out of range",
+    },
+    Rule {
+        table: "link",
+        query: "SELECT number || '' FROM link WHERE length < 1 OR length > 1000000000",
+        flaw: "its length is out of range",
+    },
+    Rule {
+        table: "class",
+        query: "SELECT name FROM class WHERE kind < 0 OR kind > 2",
+        flaw: "its kind is none of 0, 1 and 2",
+    },
+    Rule {
+        table: "asset",
+        query: "SELECT number || '' FROM asset WHERE number < 1 OR number > 1000000000000",
+        flaw: "its number is out of range",
+    },
+    Rule {
+        table: "asset",
+        query: "SELECT number || '' FROM asset WHERE lateral < 0 OR lateral > 100000",
+        flaw: "its lateral offset is out of range",
+    },
+    Rule {
+        table: "piece",
+        query: "SELECT route || ' ' || n FROM piece WHERE a < 0 OR a >= b",
+        flaw: "it ends where it begins, or before",
+    },
+    Rule {
+        table: "piece",
+        query: "SELECT route || ' ' || n FROM piece WHERE dir < 0 OR dir > 1",
+        flaw: "its direction is neither 0 nor 1",
+    },
+    Rule {
+        table: "mark",
+        query: "SELECT route || ' ' || n FROM mark WHERE route NOT IN (SELECT route FROM piece)",
+        flaw: "there is no such route",
+    },
+    Rule {
+        table: "mark",
+        query: "SELECT route || ' ' || n FROM mark WHERE n = 0 AND chainage <> 0",
+        flaw: "the first mark of a route is not at 0",
+    },
+    Rule {
+        table: "ref",
+        query: "SELECT name FROM ref WHERE route NOT IN (SELECT route FROM piece)",
+        flaw: "there is no such route",
+    },
+    Rule {
+        table: "span",
+        query: "SELECT asset || ' ' || route || ' ' || lo FROM span WHERE lo >= hi",
+        flaw: "it ends where it begins, or before",
+    },
+    Rule {
+        table: "span",
+        query: "SELECT asset || ' ' || route || ' ' || lo FROM span WHERE side < 0 OR side > 2",
+        flaw: "its side is none of 0, 1 and 2",
+    },
+    Rule {
+        table: "span",
+        query: "SELECT asset || ' ' || route || ' ' || lo FROM span WHERE route NOT IN (SELECT route FROM piece)",
+        flaw: "there is no such route",
+    },
+    Rule {
+        table: "entered",
+        query: "SELECT edit || ' ' || asset || ' ' || link || ' ' || lo FROM entered WHERE lo >= hi",
+        flaw: "it ends where it begins, or before",
+    },
+    Rule {
+        table: "entered",
+        query: "SELECT edit || ' ' || asset || ' ' || link || ' ' || lo FROM entered WHERE side < 0 OR side > 1",
+        flaw: "its side is neither 0 nor 1",
+    },
+    Rule {
+        table: "gone",
+        query: "SELECT edit || ' ' || asset || ' ' || link || ' ' || lo FROM gone WHERE lo >= hi",
+        flaw: "it ends where it begins, or before",
+    },
+    Rule {
+        table: "gone",
+        query: "SELECT edit || ' ' || asset || ' ' || link || ' ' || lo FROM gone WHERE side < 0 OR side > 1",
+        flaw: "its side is neither 0 nor 1",
+    },
+    Rule {
+        table: "edit",
+        query: "SELECT number || '' FROM edit WHERE number < 1 OR number > (SELECT count(*) FROM edit)",
+        flaw: "its number is above the number of edits",
+    },
+    Rule {
+        table: "origin",
+        query: "SELECT asset || '' FROM origin WHERE asset NOT IN (SELECT asset FROM entered)",
+        flaw: "the asset was never entered",
+    },
 ];
 
 // The first row that a query finds, as one text.
-fn first_row<S: Alter>(
-    alloc: Global,
-    conn: &mut Connection<S>,
-    query: &str,
-) -> Option<String> {
+fn first_row<S: Alter>(alloc: Global, conn: &mut Connection<S>, query: &str) -> Option<String> {
     let row = conn.query_row(query, &[]).ok()?;
     let text = row.get::<String>(0).ok()?;
     shown(alloc, text.as_str().as_bytes())
