@@ -32,7 +32,7 @@ fn is_of_sqlite(first: &str) -> bool {
 }
 
 // The process that has a lock of SQLite's on this file by a line of the system's locks, as
-// `1: POSIX  ADVISORY  WRITE 1234 08:01:5678 1073741824 1073742335`. One that this process cannot see is 0, or no number.
+// `1: POSIX  ADVISORY  WRITE 1234 08:01:5678 1073741824 1073742335`. A process that cannot be seen from here is 0 or -1.
 fn process_in(alloc: Global, line: &str, inode: u64) -> Option<u64> {
     let words = line.split_whitespace().collect::<Vec<&str>>(alloc).ok()?;
     if words.len() < 7 {

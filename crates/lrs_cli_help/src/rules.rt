@@ -173,7 +173,9 @@ pub(crate) fn rules_of(table: &str) -> &'static str {
         "span" => {
             "each lies on its route, an asset of its own a place, and no two of an exclusive class one place"
         }
-        "entered" => "each lies on a link that is there, of an asset that is there, and none of them twice",
+        "entered" => {
+            "each lies on a link that is there, of an asset that is there, and none of them twice"
+        }
         "gone" => "each was entered before, is held no more, and is gone once",
         "edit" => {
             "they are numbered from 1 on, each key is there once, and so is each edit of entered and gone"
