@@ -128,7 +128,6 @@ ADDED = {
     "TABLE note": ["CREATE TABLE note (text TEXT)"],
     "TABLE sqlite_stat1": ["ANALYZE", "DROP TABLE IF EXISTS sqlite_stat4"],
     "INDEX by_length": ["CREATE INDEX by_length ON link (length)"],
-    "TRIGGER later": ["CREATE TRIGGER later AFTER INSERT ON link BEGIN SELECT 1; END"],
 }
 
 
@@ -143,6 +142,14 @@ def test_what_was_added_is_named_and_can_be_taken_away(top, what):
     subprocess.run(["sh", "-ec", command], check=True, timeout=60)
     assert run("totals", str(db)).status == 0
     is_whole(db)
+
+
+def test_a_database_that_is_not_understood(top):
+    """One with a trigger is not opened by the kit's sqlite, as one that is damaged."""
+    db = top / "roads.db"
+    make_full(db)
+    change(db, "CREATE TRIGGER later AFTER INSERT ON link BEGIN SELECT 1; END")
+    assert "has a trigger" in is_unopened(db, "not a database that obeys its schema")[1]
 
 
 def tables_in_another_order(db, other):

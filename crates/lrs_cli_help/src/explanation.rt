@@ -55,7 +55,7 @@ fn tell_found(rt: &HostRuntime, job: &Job<'_>, existing: bool, db: &str, found: 
         Found::NoFile => "it is a device, a pipe or a socket",
         Found::SecondName => "the file has a second name, by a hard link",
         Found::Journal => "a journal of SQLite's lies beside it, or something else of that name",
-        Found::Refused(why) | Found::NoDatabase(why) => why.as_str(),
+        Found::Refused(why) | Found::NoDatabase(why) | Found::Unreadable(why) => why.as_str(),
         Found::InUse(holder) => return tell_holder(rt, db, holder),
         Found::Tables(names) => {
             let _ = eprintln!(rt;
@@ -101,8 +101,9 @@ fn tell_cure(rt: &HostRuntime, job: &Job<'_>, existing: bool, db: &str, found: &
             "the file, its log named -wal and their folder must be open to you to write"
         }
         Found::InUse(_) => "end that program, or ask it: one program at a time has the file",
-        Found::NoDatabase(_) => {
-            "it is no database of SQLite, or is damaged or cut short: restore a copy"
+        Found::NoDatabase(_) => "it is no database of SQLite, or is damaged: restore a copy",
+        Found::Unreadable(_) => {
+            "it is damaged or cut short: restore a copy; or has a trigger, which sqlite3 shows by .schema"
         }
         Found::Tables(_) => "name another file; this one was not changed",
         Found::Added(sort, name) => {

@@ -5,7 +5,7 @@ use crate::shown::shown;
 use sqlite::{Alter, Connection, Error, Unknown};
 use sqlite_std_file::{OpenError, open as open_pair};
 use std::alloc::Global;
-use std::io::ErrorKind;
+use std::io::{ErrorKind, Read};
 use std::os::unix::fs::MetadataExt;
 use std::path::Path;
 use std::rt::HostRuntime;
@@ -31,8 +31,10 @@ pub(crate) enum Found {
     InUse(Option<Holder>),
     /// A journal of SQLite's, which only SQLite can play back, or something else of its name.
     Journal,
-    /// No database, or one that is damaged: what the kit's `sqlite` says.
+    /// No database of SQLite's: what the kit's `sqlite` says.
     NoDatabase(String),
+    /// A database of SQLite's that the kit's `sqlite` does not open: what that says.
+    Unreadable(String),
     /// A database with these tables.
     Tables(String),
     /// The tables of an inventory, and something that no inventory has: what SQL calls such a thing, and its name.
@@ -185,19 +187,37 @@ fn found_among<S: Alter>(alloc: Global, conn: &Connection<S>) -> Found {
 
 // What is found where the kit's `sqlite` was to open a file. Over any store, since a function over one that is in files
 // is costly to prove.
-fn found_in<S: Alter + Drop>(alloc: Global, conn: Result<Connection<S>, Error>) -> Found {
+fn found_in<S: Alter + Drop>(
+    alloc: Global,
+    is_of_sqlite: bool,
+    conn: Result<Connection<S>, Error>,
+) -> Found {
     match conn {
         Ok(conn) => found_among(alloc, &conn),
         Err(error) => match format!(in alloc; "{error}") {
+            Ok(text) if is_of_sqlite => Found::Unreadable(text),
             Ok(text) => Found::NoDatabase(text),
             Err(_) => Found::Unknown,
         },
     }
 }
 
+// Whether a file begins as the databases of SQLite do.
+fn is_of_sqlite(rt: &HostRuntime, path: &str) -> bool {
+    let Ok(mut file) = fs::open(rt, path) else {
+        return false;
+    };
+    let mut first = [0u8; 16];
+    match file.read(&mut first) {
+        Ok(16) => first == *b"SQLite format 3\0",
+        _ => false,
+    }
+}
+
 // What the kit's `sqlite` finds in the file.
 fn inside(rt: &HostRuntime, path: &str) -> Found {
-    found_in(rt.alloc(), Connection::open(rt, path))
+    let is_of_sqlite = is_of_sqlite(rt, path);
+    found_in(rt.alloc(), is_of_sqlite, Connection::open(rt, path))
 }
 
 // Why the files of an inventory are not opened.
