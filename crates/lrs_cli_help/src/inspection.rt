@@ -195,28 +195,33 @@ fn found_in<S: Alter + Drop>(
     match conn {
         Ok(conn) => found_among(alloc, &conn),
         Err(error) => match format!(in alloc; "{error}") {
-            Ok(text) if is_of_sqlite => Found::Unreadable(text),
-            Ok(text) => Found::NoDatabase(text),
+            Ok(text) => {
+                if is_of_sqlite {
+                    Found::Unreadable(text)
+                } else {
+                    Found::NoDatabase(text)
+                }
+            }
             Err(_) => Found::Unknown,
         },
     }
 }
 
 // Whether a file begins as the databases of SQLite do.
-fn is_of_sqlite(rt: &HostRuntime, path: &str) -> bool {
+fn begins_as_sqlite(rt: &HostRuntime, path: &str) -> bool {
     let Ok(mut file) = fs::open(rt, path) else {
         return false;
     };
     let mut first = [0u8; 16];
     match file.read(&mut first) {
-        Ok(16) => first == *b"SQLite format 3\0",
+        Ok(16) => first.starts_with(b"SQLite format 3\0"),
         _ => false,
     }
 }
 
 // What the kit's `sqlite` finds in the file.
 fn inside(rt: &HostRuntime, path: &str) -> Found {
-    let is_of_sqlite = is_of_sqlite(rt, path);
+    let is_of_sqlite = begins_as_sqlite(rt, path);
     found_in(rt.alloc(), is_of_sqlite, Connection::open(rt, path))
 }
 
