@@ -4,6 +4,7 @@
 mod desk;
 mod explanation;
 mod jobs;
+mod output;
 mod program;
 mod service;
 #[cfg(test)]
