@@ -3,7 +3,7 @@
 use crate::explanation::explain;
 use crate::jobs::do_job;
 use lrs_cli_help::{Options, hint_at, is_reader_gone, keep_job_words, options_of, verb_help};
-use lrs_cli_sheets::{ProgressDisplay, Sheets, World};
+use lrs_cli_sheets::{Output, ProgressDisplay, Sheets, World};
 use lrs_cli_tasks::{Ending, ProgramFault, status};
 use lrs_cli_words::{Job, WordsFault, job_of};
 use lrs_desk::Files;
@@ -21,7 +21,7 @@ fn do_explained<F: Files, S: Sheets>(
     options: Options,
 ) -> Ending {
     let rt = world.rt;
-    let ending = match do_job(world, files, job, options.existing, io::writer(rt)) {
+    let ending = match do_job(world, files, job, options.existing, Output::new(io::writer(rt), rt)) {
         Ok((_, ending)) => ending,
         Err(fault) => Ending::Stopped(fault),
     };
