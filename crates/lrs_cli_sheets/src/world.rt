@@ -3,8 +3,10 @@
 ghost use Rattle.std.specs.Io.{ReadsAtMost};
 
 use crate::progress::ProgressDisplay;
+use crate::streams::wait_for_input;
 use std::alloc::Global;
 use std::io::{ErrorKind, IsTerminal, Read};
+use std::net::Net;
 use std::rt::{HostRuntime, Runtime};
 use std::{fs, io};
 
@@ -44,7 +46,7 @@ pub struct World<'a, R: Runtime<A = Global>, S: Sheets> {
 
 /// Sheets in files of the system, by their paths; `stdin` is the standard input.
 #[derive(Drop)]
-pub struct SystemSheets<'a, R: Runtime<A = Global>> {
+pub struct SystemSheets<'a, R: Runtime<A = Global> + Net> {
     rt: &'a R,
     // whether standard error says of a sheet that its last line has no end
     says: bool,
@@ -52,7 +54,7 @@ pub struct SystemSheets<'a, R: Runtime<A = Global>> {
 
 /// A sheet of the system.
 #[derive(Drop)]
-pub struct SystemSheet<'a, R: Runtime<A = Global>> {
+pub struct SystemSheet<'a, R: Runtime<A = Global> + Net> {
     bytes: SystemBytes<R>,
     rt: &'a R,
     says: bool,
@@ -77,25 +79,39 @@ impl<R: Runtime<A = Global>> SystemBytes<R> {
         }
     }
 
-    // Reads, and again where a signal cuts a read short.
+    // Whether it is the standard input.
+    fn is_input(&self) -> bool {
+        match self {
+            SystemBytes::File(_) => false,
+            SystemBytes::Input(_) => true,
+        }
+    }
+}
+
+impl<'a, R: Runtime<A = Global> + Net> SystemSheet<'a, R> {
+    // Goes on where a signal cut a read short, and waits for a standard input that does not wait.
+    fn try_again(&self, error: io::Error) -> io::Result<()> {
+        if error.kind() == ErrorKind::Interrupted {
+            return Ok(());
+        }
+        if self.bytes.is_input() {
+            return wait_for_input(self.rt, error);
+        }
+        Err(error)
+    }
+
     fn read_on(&mut self, buf: &mut [u8]) -> io::Result<usize>
         ensures { ReadsAtMost result buf.new }
     {
         for _turn in 0..u64::MAX {
-            match self.read_once(buf) {
+            match self.bytes.read_once(buf) {
                 Ok(count) => return Ok(count),
-                Err(error) => {
-                    if error.kind() != ErrorKind::Interrupted {
-                        return Err(error);
-                    }
-                }
+                Err(error) => self.try_again(error)?,
             }
         }
-        Err(io::Error::from(ErrorKind::Interrupted))
+        Err(io::Error::from(ErrorKind::WouldBlock))
     }
-}
 
-impl<'a, R: Runtime<A = Global>> SystemSheet<'a, R> {
     // Says, once, that the last line has no end, where it has none: what broke off in a number has another one.
     fn tell_end(&mut self) {
         if let Some(last) = self.last {
@@ -114,9 +130,9 @@ impl<'a, R: Runtime<A = Global>> SystemSheet<'a, R> {
     }
 }
 
-impl<'a, R: Runtime<A = Global>> Read for SystemSheet<'a, R> {
+impl<'a, R: Runtime<A = Global> + Net> Read for SystemSheet<'a, R> {
     fn read(&mut self, buf: &mut [u8]) -> io::Result<usize> {
-        let count = self.bytes.read_on(buf)?;
+        let count = self.read_on(buf)?;
         if !buf.is_empty() {
             self.note(&buf[..count]);
         }
@@ -134,7 +150,7 @@ impl<'a> SystemSheets<'a, HostRuntime> {
     }
 }
 
-impl<'a, R: Runtime<A = Global>> SystemSheets<'a, R> {
+impl<'a, R: Runtime<A = Global> + Net> SystemSheets<'a, R> {
     fn sheet(&self, bytes: SystemBytes<R>) -> SystemSheet<'a, R> {
         SystemSheet {
             bytes,
@@ -145,7 +161,7 @@ impl<'a, R: Runtime<A = Global>> SystemSheets<'a, R> {
     }
 }
 
-impl<'a, R: Runtime<A = Global>> Sheets for SystemSheets<'a, R> {
+impl<'a, R: Runtime<A = Global> + Net> Sheets for SystemSheets<'a, R> {
     ghost use Rattle.std.specs.Prelude.{None};
 
     type Reader = SystemSheet<'a, R>;
