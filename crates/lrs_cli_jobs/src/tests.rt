@@ -10,6 +10,7 @@ use lrs_desk::{Desk, Files, OpenFault, Plain};
 use lrs_sheet_records::Sheet;
 use std::io;
 use std::io::{ErrorKind, Write};
+use std::process::Abort;
 use std::rt::HostRuntime;
 
 /// What was done before each job, in its files.
@@ -37,6 +38,7 @@ const STRIP: &str = "STRIP A1 L 5.000
 const QUESTIONS: &str = "key,question,a,b,c,d\nq1,at,A1,abs,1500,\nq2,find,8,,,\n";
 
 /// The sheet `sheet`, and no other.
+#[derive(Drop)]
 struct OneSheet<'a> {
     text: &'a [u8],
 }
@@ -168,8 +170,15 @@ fn done_by_words(rt: &HostRuntime, words: &str, text: &str) -> Option<(Vec<u8>, 
 }
 
 /// A job writes this, and behind it what is said of its ending; and the program has this status.
-fn gives(rt: &HostRuntime, words: &str, text: &str, wanted: &str, ends: u8) {
-    let (mut written, ending) = done_by_words(rt, words, text).expect(rt, "a job that is done");
+fn gives(
+    host: &HostRuntime,
+    rt: &impl Abort,
+    words: &str,
+    text: &str,
+    wanted: &str,
+    ends: u8,
+) {
+    let (mut written, ending) = done_by_words(host, words, text).expect(rt, "a job that is done");
     let is_told = write!(written, "{ending}").is_ok();
     assert!(rt; is_told && written.as_slice() == wanted.as_bytes(), "{words}");
     assert!(rt; status(ending) == ends, "{words}");
@@ -177,30 +186,31 @@ fn gives(rt: &HostRuntime, words: &str, text: &str, wanted: &str, ends: u8) {
 
 // Of a path it is looked whether something is there: so files in memory are named as one that is.
 
-fn sheets_are_done(rt: &HostRuntime) {
+fn sheets_are_done(host: &HostRuntime, rt: &impl Abort) {
     let replies = "s1,again,1\ne2,done,5\ne3,refused,LinkKnown\n";
-    gives(rt, "edit /bin/sh sheet", EDITS, replies, 1);
-    gives(rt, "check /bin/sh sheet", EDITS, replies, 1);
-    gives(rt, "edit :memory: sheet", FIRST, "s1,done,1\ns2,done,2\ns3,done,3\ns4,done,4\n", 0);
-    gives(rt, "edit :memory: sheet --all", EDITS, "", 1);
-    gives(rt, "survey /bin/sh sheet", SURVEY, "v1,done,5\n", 0);
-    gives(rt, "check /bin/sh sheet --survey", SURVEY, "v1,done,5\n", 0);
-    gives(rt, "survey /bin/sh sheet", EDITS, "roadlrs: fault BadHeader\n", 3);
-    gives(rt, "edit /bin/sh another", EDITS, "roadlrs: fault Read\n", 3);
+    gives(host, rt, "edit /bin/sh sheet", EDITS, replies, 1);
+    gives(host, rt, "check /bin/sh sheet", EDITS, replies, 1);
+    gives(host, rt, "edit :memory: sheet", FIRST, "s1,done,1\ns2,done,2\ns3,done,3\ns4,done,4\n", 0);
+    gives(host, rt, "edit :memory: sheet --all", EDITS, "", 1);
+    gives(host, rt, "survey /bin/sh sheet", SURVEY, "v1,done,5\n", 0);
+    gives(host, rt, "check /bin/sh sheet --survey", SURVEY, "v1,done,5\n", 0);
+    gives(host, rt, "survey /bin/sh sheet", EDITS, "roadlrs: fault BadHeader\n", 3);
+    gives(host, rt, "edit /bin/sh another", EDITS, "roadlrs: fault Read\n", 3);
 }
 
-fn questions_are_answered(rt: &HostRuntime) {
-    gives(rt, "at /bin/sh A1 abs 1500", "", "A1 1500 1 1500 +\n7 SPEED B 0 80 4\n", 0);
-    gives(rt, "translate /bin/sh A1 abs 1500 int", "", "3/10\n", 0);
-    gives(rt, "strip /bin/sh A1 L SPEED", "", STRIP, 0);
-    gives(rt, "diagram /bin/sh A2", "", "roadlrs: NoRoute\n", 1);
-    gives(rt, "totals /bin/sh", "", "SPEED 4000 0 0 4000\n", 0);
-    gives(rt, "find /bin/sh 7", "", "A1 1000 3000 B\n", 0);
-    gives(rt, "find /bin/sh x", "", "error: ASSET is no asset number\n", 2);
+fn questions_are_answered(host: &HostRuntime, rt: &impl Abort) {
+    gives(host, rt, "at /bin/sh A1 abs 1500", "", "A1 1500 1 1500 +\n7 SPEED B 0 80 4\n", 0);
+    gives(host, rt, "translate /bin/sh A1 abs 1500 int", "", "3/10\n", 0);
+    gives(host, rt, "strip /bin/sh A1 L SPEED", "", STRIP, 0);
+    gives(host, rt, "diagram /bin/sh A2", "", "roadlrs: NoRoute\n", 1);
+    gives(host, rt, "totals /bin/sh", "", "SPEED 4000 0 0 4000\n", 0);
+    gives(host, rt, "find /bin/sh 7", "", "A1 1000 3000 B\n", 0);
+    gives(host, rt, "find /bin/sh x", "", "error: ASSET is no asset number\n", 2);
 }
 
-fn lists_are_written(rt: &HostRuntime) {
+fn lists_are_written(host: &HostRuntime, rt: &impl Abort) {
     gives(
+        host,
         rt,
         "rows /bin/sh",
         "",
@@ -209,15 +219,17 @@ fn lists_are_written(rt: &HostRuntime) {
         0,
     );
     gives(
+        host,
         rt,
         "gone /bin/sh",
         "",
         "edit,reason,asset,class,value,link,from,to,side\n",
         0,
     );
-    gives(rt, "log /bin/sh", "", FIRST, 0);
-    gives(rt, "audit /bin/sh", "", "sound, and as its log says\n", 0);
+    gives(host, rt, "log /bin/sh", "", FIRST, 0);
+    gives(host, rt, "audit /bin/sh", "", "sound, and as its log says\n", 0);
     gives(
+        host,
         rt,
         "ask /bin/sh sheet",
         QUESTIONS,
@@ -228,7 +240,7 @@ fn lists_are_written(rt: &HostRuntime) {
 
 #[test]
 fn each_job_is_done_in_memory(rt: HostRuntime) {
-    sheets_are_done(&rt);
-    questions_are_answered(&rt);
-    lists_are_written(&rt);
+    sheets_are_done(&rt, &rt);
+    questions_are_answered(&rt, &rt);
+    lists_are_written(&rt, &rt);
 }
