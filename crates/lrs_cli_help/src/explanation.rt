@@ -138,7 +138,9 @@ pub fn explain_unsound(rt: &HostRuntime, job: &Job<'_>, table: &str) {
         }
         None => {
             let rules = rules_of(table);
-            let _ = eprintln!(rt; "explain: {db}: Unsound:{table}: a rule of its rows is broken: {rules}");
+            let _ = eprintln!(rt;
+                "explain: {db}: Unsound:{table}: a rule of its rows is broken: {rules}"
+            );
         }
     }
     say(

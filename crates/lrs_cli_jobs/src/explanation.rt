@@ -2,7 +2,8 @@
 
 use lrs_cli_help::explanation::{
     explain_header, explain_keep, explain_memory, explain_open, explain_port, explain_read,
-    explain_record, explain_reopening, explain_repeated_key, explain_unsound, explain_write, name_pages,
+    explain_record, explain_reopening, explain_repeated_key, explain_unsound, explain_write,
+    name_pages,
 };
 use lrs_cli_tasks::{ProgramFault, table_name};
 use lrs_cli_words::Job;

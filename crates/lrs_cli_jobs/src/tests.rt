@@ -170,17 +170,13 @@ fn done_by_words(rt: &HostRuntime, words: &str, text: &str) -> Option<(Vec<u8>, 
 }
 
 /// A job writes this, and behind it what is said of its ending; and the program has this status.
-fn gives(
-    host: &HostRuntime,
-    rt: &impl Abort,
-    words: &str,
-    text: &str,
-    wanted: &str,
-    ends: u8,
-) {
+fn gives(host: &HostRuntime, rt: &impl Abort, words: &str, text: &str, wanted: &str, ends: u8) {
     let (mut written, ending) = done_by_words(host, words, text).expect(rt, "a job that is done");
     let is_told = write!(written, "{ending}").is_ok();
-    assert!(rt; is_told && written.as_slice() == wanted.as_bytes(), "{words}");
+    assert!(rt;
+        is_told && written.as_slice() == wanted.as_bytes(),
+        "{words}"
+    );
     assert!(rt; status(ending) == ends, "{words}");
 }
 
@@ -190,22 +186,71 @@ fn sheets_are_done(host: &HostRuntime, rt: &impl Abort) {
     let replies = "s1,again,1\ne2,done,5\ne3,refused,LinkKnown\n";
     gives(host, rt, "edit /bin/sh sheet", EDITS, replies, 1);
     gives(host, rt, "check /bin/sh sheet", EDITS, replies, 1);
-    gives(host, rt, "edit :memory: sheet", FIRST, "s1,done,1\ns2,done,2\ns3,done,3\ns4,done,4\n", 0);
+    gives(
+        host,
+        rt,
+        "edit :memory: sheet",
+        FIRST,
+        "s1,done,1\ns2,done,2\ns3,done,3\ns4,done,4\n",
+        0,
+    );
     gives(host, rt, "edit :memory: sheet --all", EDITS, "", 1);
     gives(host, rt, "survey /bin/sh sheet", SURVEY, "v1,done,5\n", 0);
-    gives(host, rt, "check /bin/sh sheet --survey", SURVEY, "v1,done,5\n", 0);
-    gives(host, rt, "survey /bin/sh sheet", EDITS, "roadlrs: fault BadHeader\n", 3);
-    gives(host, rt, "edit /bin/sh another", EDITS, "roadlrs: fault Read\n", 3);
+    gives(
+        host,
+        rt,
+        "check /bin/sh sheet --survey",
+        SURVEY,
+        "v1,done,5\n",
+        0,
+    );
+    gives(
+        host,
+        rt,
+        "survey /bin/sh sheet",
+        EDITS,
+        "roadlrs: fault BadHeader\n",
+        3,
+    );
+    gives(
+        host,
+        rt,
+        "edit /bin/sh another",
+        EDITS,
+        "roadlrs: fault Read\n",
+        3,
+    );
 }
 
 fn questions_are_answered(host: &HostRuntime, rt: &impl Abort) {
-    gives(host, rt, "at /bin/sh A1 abs 1500", "", "A1 1500 1 1500 +\n7 SPEED B 0 80 4\n", 0);
-    gives(host, rt, "translate /bin/sh A1 abs 1500 int", "", "3/10\n", 0);
+    gives(
+        host,
+        rt,
+        "at /bin/sh A1 abs 1500",
+        "",
+        "A1 1500 1 1500 +\n7 SPEED B 0 80 4\n",
+        0,
+    );
+    gives(
+        host,
+        rt,
+        "translate /bin/sh A1 abs 1500 int",
+        "",
+        "3/10\n",
+        0,
+    );
     gives(host, rt, "strip /bin/sh A1 L SPEED", "", STRIP, 0);
     gives(host, rt, "diagram /bin/sh A2", "", "roadlrs: NoRoute\n", 1);
     gives(host, rt, "totals /bin/sh", "", "SPEED 4000 0 0 4000\n", 0);
     gives(host, rt, "find /bin/sh 7", "", "A1 1000 3000 B\n", 0);
-    gives(host, rt, "find /bin/sh x", "", "error: ASSET is no asset number\n", 2);
+    gives(
+        host,
+        rt,
+        "find /bin/sh x",
+        "",
+        "error: ASSET is no asset number\n",
+        2,
+    );
 }
 
 fn lists_are_written(host: &HostRuntime, rt: &impl Abort) {
@@ -227,7 +272,14 @@ fn lists_are_written(host: &HostRuntime, rt: &impl Abort) {
         0,
     );
     gives(host, rt, "log /bin/sh", "", FIRST, 0);
-    gives(host, rt, "audit /bin/sh", "", "sound, and as its log says\n", 0);
+    gives(
+        host,
+        rt,
+        "audit /bin/sh",
+        "",
+        "sound, and as its log says\n",
+        0,
+    );
     gives(
         host,
         rt,

@@ -84,9 +84,7 @@ fn go_on<K: Keeper>(
     match resume_sheet(alloc, sheet, RECORDS_TOGETHER, bytes, &mut lines, desk) {
         Ok(tally) => reply_after(Ok(tally), lines.bytes),
         Err(ResumeFault::Sheet(fault)) => reply_after::<Tally>(Err(fault), lines.bytes),
-        Err(ResumeFault::RepeatedKey(_)) => {
-            faulty_reply(lines.bytes, b"-,fault,RepeatedKey\n")
-        }
+        Err(ResumeFault::RepeatedKey(_)) => { faulty_reply(lines.bytes, b"-,fault,RepeatedKey\n") }
     }
 }
 
