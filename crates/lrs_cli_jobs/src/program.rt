@@ -16,12 +16,12 @@ use std::{env, io};
 // explains the fault that stops it.
 fn do_explained<F: Files, S: Sheets>(
     world: &World<'_, HostRuntime, S>,
-    files: F,
+    mut files: F,
     job: &Job<'_>,
     options: Options,
 ) -> Ending {
     let rt = world.rt;
-    let ending = match do_job(world, files, job, options.existing, io::writer(rt)) {
+    let ending = match do_job(world, &mut files, job, options.existing, io::writer(rt)) {
         Ok((_, ending)) => ending,
         Err(fault) => Ending::Stopped(fault),
     };
