@@ -23,10 +23,10 @@ pub fn closed_files<D: Disk + Drop, R: ReadImage + Drop>(
 {
     // For the prover alone: what its contract says is known from here on.
     keeper.prove_serving();
-    let has_failed = keeper.has_failed();
+    let is_broken = keeper.has_failed();
     match close_files(keeper) {
         Ok(files) => {
-            if has_failed {
+            if is_broken {
                 drop(files);
                 return None;
             }
