@@ -31,8 +31,10 @@ impl Files for SystemFiles {
 
     ghost has_read = { ⟦<StoredFiles<Unknown, Unknown> as Files>⟧.has_read };
 
+    ghost may_find = { λ s. ⟦<StoredFiles<Unknown, Unknown> as Files>⟧.may_find s.files };
+
     fn open(
-        self,
+        &mut self,
         rt: &HostRuntime,
         path: &str,
         new_has_sums: bool,
@@ -48,8 +50,8 @@ impl Files for SystemFiles {
         self.files.open_to_look(rt, path)
     }
 
-    fn close(keeper: Self::Kept) {
-        <StoredFiles<Unknown, Unknown> as Files>::close(keeper);
+    fn close(&mut self, keeper: Self::Kept) {
+        self.files.close(keeper);
     }
 
     fn discard(keeper: Self::Kept) {

@@ -121,7 +121,9 @@ impl Files for FirstFiles {
 
     ghost has_read = { λ c. ⊤ };
 
-    fn open(self, rt: &HostRuntime, _path: &str, _sums: bool) -> Result<Plain, OpenFault> {
+    ghost may_find = { λ files c. ⊥ };
+
+    fn open(&mut self, rt: &HostRuntime, _path: &str, _sums: bool) -> Result<Plain, OpenFault> {
         first_keeper(rt)
     }
 
@@ -132,7 +134,7 @@ impl Files for FirstFiles {
         }
     }
 
-    fn close(keeper: Plain) {
+    fn close(&mut self, keeper: Plain) {
         keeper.discard();
     }
 
@@ -155,7 +157,8 @@ fn done(rt: &HostRuntime, job: &Job<'_>, text: &str) -> Option<(Vec<u8>, Ending)
         sheets: &sheets,
         shown: ProgressDisplay::Nowhere,
     };
-    do_job(&world, FirstFiles, job, false, Vec::new(rt.alloc())).ok()
+    let mut files = FirstFiles;
+    do_job(&world, &mut files, job, false, Vec::new(rt.alloc())).ok()
 }
 
 /// The same of a job by its words.
