@@ -210,17 +210,16 @@ fn try_to_look<F: Files>(rt: &HostRuntime, files: &mut F, path: &str) -> Result<
 // beside a file that is no inventory nothing is made.
 fn audit_with_log<F: Files, S: Sheets, W: Write + Drop>(
     world: &World<'_, HostRuntime, S>,
-    files: F,
+    files: &mut F,
     path: &str,
     new_has_sums: bool,
     work: Work<'_>,
     to: W,
 ) -> Result<(W, Ending), ProgramFault>
     ensures { EndsWithLog (S.text_of world.now.sheets.now) F.Kept.may_hold F.has_opened
-        work.entry (W.contents to) (printed W.contents result) }
+        (F.may_find files.new) work.entry (W.contents to) (printed W.contents result) }
 {
-    let mut files = files;
-    match try_to_look(world.rt, &mut files, path) {
+    match try_to_look(world.rt, files, path) {
         Ok(()) => do_with_log(world, files, path, new_has_sums, work, to),
         Err(fault) => Ok((to, Ending::Stopped(ProgramFault::from(fault)))),
     }
@@ -242,14 +241,14 @@ fn tell_making(rt: &HostRuntime, path: &str, shown: ProgressDisplay) {
 // sheet is tried in a fresh one.
 fn do_in_new<F: Files, S: Sheets, W: Write + Drop>(
     world: &World<'_, HostRuntime, S>,
-    files: F,
+    files: &mut F,
     path: &str,
     new_has_sums: bool,
     work: Work<'_>,
     to: W,
 ) -> Result<(W, Ending), ProgramFault>
     ensures { EndsInFile ⟦<Plain as Holder>⟧.may_hold F.Kept.may_hold F.Seen.may_hold
-        F.has_opened F.has_read (S.text_of world.now.sheets.now)
+        F.has_opened F.has_read (F.may_find files.new) (S.text_of world.now.sheets.now)
         work.entry (W.contents to) (printed W.contents result) }
 {
     if makes(&work) {
