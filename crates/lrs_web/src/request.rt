@@ -3,12 +3,12 @@
 ghost use Rattle.std.specs.Prelude.{◌≡◌, ◌⊎◌, IfOk, IfSome, MatchOption, Err, true, false};
 ghost use Rattle.lrs_web_requests.specs.Request.{Asked, IsServed, asked_by};
 ghost use Rattle.lrs_web_requests.specs.Text.{Answer, answer_of, empty_answer};
-ghost use Rattle.lrs_web_requests.specs.declared.paths.Resource.TheVariants as path;
 ghost use Rattle.lrs_web_requests.specs.Request.{verb_of};
 ghost use Rattle.lrs_web_requests.specs.declared.response.RequestMethod.TheVariants.{Get};
 ghost use Rattle.lrs_web.specs.QueryAnswers.{AnswersAsked};
 ghost use Rattle.lrs_web.specs.Questions.{AnswersQuestions};
 ghost use Rattle.lrs_web.specs.Sheets.{DoesSheet};
+ghost use Rattle.lrs_web.specs.RequestAnswers as spec;
 ghost use Rattle.lrs_web.specs.RequestAnswers.{Does, Responds, Serves, Writes, allowed_answer, sheet_at};
 
 use crate::questions::answer_questions;
@@ -60,6 +60,34 @@ fn sheet_of(resource: Resource) -> Option<Sheet>
     }
 }
 
+// Whether a question is answered only while commands are still committed.
+fn needs_commits(resource: Resource) -> bool
+    ensures { result ≡ spec.needs_commits resource }
+{
+    match resource {
+        Resource::At | Resource::Health => true,
+        Resource::Route
+        | Resource::Segments
+        | Resource::Totals
+        | Resource::Translate
+        | Resource::Diagram
+        | Resource::Routes
+        | Resource::Find
+        | Resource::Log
+        | Resource::Links
+        | Resource::Classes
+        | Resource::Refs
+        | Resource::Marks
+        | Resource::Rows
+        | Resource::Lengths
+        | Resource::Gone
+        | Resource::Where
+        | Resource::Edits
+        | Resource::Surveys
+        | Resource::Questions => false,
+    }
+}
+
 fn allowed_reply(verb: RequestMethod) -> Response
     ensures { answer_of result ≡ allowed_answer verb }
 {
@@ -89,8 +117,8 @@ fn question_reply<K: Keeper>(
     }
 }
 
-// Once a commit of several commands has failed, nothing is answered: not even that a parameter cannot be read. The
-// health is not told either once a commit of one command has failed.
+// Once a commit of several commands has failed, nothing is answered: not even that a parameter cannot be read. What needs
+// commits is not answered either once a commit of one command has failed.
 fn query_reply<K: Keeper>(
     alloc: Global,
     resource: Resource,
@@ -101,13 +129,13 @@ fn query_reply<K: Keeper>(
     ensures answered { AnswersAsked desk.now.image resource argument.now (answer_of result)
         ⊎ (answer_of result ≡ empty_answer 503) }
     ensures broken { desk.now.is_ahead ≡ true → answer_of result ≡ empty_answer 503 }
-    ensures unhealthy { resource ≡ path.Health → desk.now.must_reopen ≡ true
+    ensures uncommitted { spec.needs_commits resource ≡ true → desk.now.must_reopen ≡ true
         → answer_of result ≡ empty_answer 503 }
 {
     if desk.is_ahead() {
         return Response::empty(StatusCode::SERVICE_UNAVAILABLE);
     }
-    if resource == Resource::Health && desk.must_reopen() {
+    if needs_commits(resource) && desk.must_reopen() {
         return Response::empty(StatusCode::SERVICE_UNAVAILABLE);
     }
     match question_reply(alloc, resource, argument, desk) {

@@ -8,10 +8,15 @@ use std::io::{ErrorKind, Read, Write};
 use std::net::{Shutdown, TcpStream};
 use std::time::Instant;
 
-// How long a client may take to take its reply, and then to end its side.
+// How long a client may take to take its reply, and each further so many bytes of it; and then to end its side.
 const TAKING_MILLIS: u64 = 4_000;
 
+const RENEWING: usize = 1_048_576;
+
 const ENDING_MILLIS: u64 = 1_000;
+
+// A client that took nothing for so long does not read its reply.
+const READING_MILLIS: u64 = 1_000;
 
 // So often it is written to in a row before others have their turn.
 const MOST_WRITES: u32 = 64;
@@ -40,6 +45,10 @@ pub(crate) struct OutgoingReply {
     pub(crate) sent: usize,
     pub(crate) stage: Stage,
     pub(crate) until: Instant,
+    // When some of it was last taken, and how much had been sent when its time was last renewed.
+    pub(crate) taken: Instant,
+    pub(crate) renewed: usize,
+    pub(crate) is_answered: bool,
     pub(crate) is_stirred: bool,
     pub(crate) pieces: u32,
     pub(crate) entry: Option<JournalEntry>,
@@ -116,9 +125,15 @@ impl OutgoingReply {
     /// Its reply goes from now on.
     pub(crate) fn begin(&mut self, now: Instant) {
         self.until = later(now, TAKING_MILLIS);
+        self.taken = now;
         if self.stream.set_nonblocking(true).is_err() {
             self.stage = Stage::Over;
         }
+    }
+
+    /// Whether its client is taking it.
+    pub(crate) fn is_read(&self, now: Instant) -> bool {
+        self.stage == Stage::Sending && now < later(self.taken, READING_MILLIS)
     }
 
     /// Ends it, whatever is left.
@@ -137,9 +152,12 @@ impl OutgoingReply {
     }
 
     fn go_on(&mut self, now: Instant) {
+        let before = self.sent;
         self.is_stirred = false;
         if self.stage == Stage::Sending {
-            match send(&mut self.stream, self.rest.as_slice(), &mut self.sent) {
+            let turn = send(&mut self.stream, self.rest.as_slice(), &mut self.sent);
+            self.renew(before, now);
+            match turn {
                 Turn::Done => self.end(now),
                 Turn::Waits => {}
                 Turn::Goes => self.is_stirred = true,
@@ -151,6 +169,18 @@ impl OutgoingReply {
                 Turn::Waits => {}
                 Turn::Done | Turn::Goes | Turn::Failed => self.stage = Stage::Over,
             }
+        }
+    }
+
+    // A client that goes on taking its reply has more time.
+    fn renew(&mut self, before: usize, now: Instant) {
+        if self.sent == before {
+            return;
+        }
+        self.taken = now;
+        if self.sent.saturating_sub(self.renewed) >= RENEWING {
+            self.renewed = self.sent;
+            self.until = later(now, TAKING_MILLIS);
         }
     }
 

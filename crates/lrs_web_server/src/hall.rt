@@ -8,6 +8,8 @@ use crate::connection::{ReplyWriter, RequestReader};
 use crate::deadlines::later;
 use crate::departure::{OutgoingReply, Returns, Stage, returned};
 use crate::journal::JournalEntry;
+use crate::journal_outlet::JournalOutlet;
+use lrs_web::Served;
 use mio::net::TcpListener;
 use mio::{Events, Interest, Poll, Token};
 use std::alloc::Global;
@@ -19,10 +21,13 @@ use std::time::{Clock, Duration, Instant};
 // So many connections wait with requests that are not whole. Where one more comes, the oldest of them gives way.
 const MOST_ARRIVALS: usize = 256;
 
-// So many wait with replies that are not sent, and keep so many bytes. Beyond that the oldest give way.
+// So many wait with replies that are not sent, and keep so many bytes beside the largest. Beyond that those that are not
+// being read give way, the oldest first; and where that is not enough, a new reply with more bytes than these is refused.
 const MOST_DEPARTURES: usize = 256;
 
 const MOST_KEPT: usize = 67_108_864;
+
+const NEVER_REFUSED: usize = 65_536;
 
 // So many connections are accepted in a row before others have their turn, and so many in a row may have ended before
 // they were taken.
@@ -74,7 +79,7 @@ pub(crate) struct WaitingRoom<'a> {
     may_come: bool,
     pause: Option<Pause>,
     next: usize,
-    logs: bool,
+    outlet: Option<JournalOutlet>,
     ghost few: { vec_len arrivals ≤ most_arrivals },
 }
 
@@ -160,24 +165,26 @@ fn first_whole(arrivals: &[IncomingRequest]) -> Option<usize>
     }
 }
 
-// How many bytes of replies are kept.
+// How many bytes of replies are kept beside the largest.
 fn kept(departures: &[OutgoingReply]) -> usize {
     let mut bytes = 0usize;
+    let mut largest = 0;
     for departure in departures {
         bytes = bytes.saturating_add(departure.rest.len());
+        largest = departure.rest.len().max(largest);
     }
-    bytes
+    bytes.saturating_sub(largest)
 }
 
-// The oldest of too many, and of those that keep too much, give way; the newest does not.
-fn trim(departures: &mut [OutgoingReply]) {
+// The oldest of too many, and of those that keep too much, give way. One that is being read does not, and so no new one.
+fn trim(departures: &mut [OutgoingReply], now: Instant) {
     let mut excess = departures.len().saturating_sub(MOST_DEPARTURES);
     let mut bytes = kept(departures);
-    if let Some((_newest, older)) = departures.split_last_mut() {
-        for departure in older.iter_mut() {
-            if excess == 0 && bytes <= MOST_KEPT {
-                return;
-            }
+    for departure in departures.iter_mut() {
+        if excess == 0 && bytes <= MOST_KEPT {
+            return;
+        }
+        if !departure.is_read(now) {
             excess = excess.saturating_sub(1);
             bytes = bytes.saturating_sub(departure.rest.len());
             departure.cut();
@@ -185,13 +192,44 @@ fn trim(departures: &mut [OutgoingReply]) {
     }
 }
 
-// Writes the lines of those whose replies have been sent or cut.
-fn tell<R: Clock + Eprint>(rt: &R, departures: &mut [OutgoingReply], now: Instant) {
-    for departure in departures.iter_mut() {
-        if let Some(entry) = departure.take_entry() {
-            entry.say(rt, now);
+// How many bytes a new reply may have, beside those that are being read. The largest of all has no limit.
+fn room(departures: &[OutgoingReply], now: Instant) -> usize {
+    let mut count = 0usize;
+    let mut bytes = 0usize;
+    let mut largest = 0;
+    for departure in departures {
+        if departure.is_read(now) {
+            count = count.saturating_add(1);
+            bytes = bytes.saturating_add(departure.rest.len());
+            largest = departure.rest.len().max(largest);
         }
     }
+    if count >= MOST_DEPARTURES {
+        return NEVER_REFUSED;
+    }
+    if bytes <= MOST_KEPT {
+        return usize::MAX;
+    }
+    let smaller = bytes.saturating_sub(largest);
+    MOST_KEPT.saturating_sub(smaller).max(NEVER_REFUSED)
+}
+
+// Writes the lines of those whose replies have been sent or cut.
+fn tell<R: Clock + Eprint>(
+    rt: &R,
+    outlet: &mut Option<JournalOutlet>,
+    departures: &mut [OutgoingReply],
+    now: Instant,
+) {
+    let Some(outlet) = outlet else {
+        return;
+    };
+    for departure in departures.iter_mut() {
+        if let Some(entry) = departure.take_entry() {
+            entry.say(rt, outlet, now);
+        }
+    }
+    outlet.tell_lost(rt);
 }
 
 fn advance_arrivals(arrivals: &mut [IncomingRequest], alloc: Global, now: Instant) {
@@ -206,14 +244,27 @@ fn advance_departures(departures: &mut [OutgoingReply], now: Instant) {
     }
 }
 
-// Where one more has come than may wait, and none can be served, the oldest gives way.
-fn give_way(arrivals: &mut [IncomingRequest], now: Instant) {
-    if arrivals.len() > MOST_ARRIVALS
-        && first_whole(arrivals).is_none()
-        && let Some(oldest) = arrivals.first_mut()
-    {
-        oldest.settle(Behind::Late, now);
+// Where none can be served, the oldest gives way; whether one does.
+fn give_way(arrivals: &mut [IncomingRequest], now: Instant) -> bool {
+    if first_whole(arrivals).is_some() {
+        return false;
     }
+    match arrivals.first_mut() {
+        Some(oldest) => {
+            oldest.settle(Behind::Late, now);
+            true
+        }
+        None => false,
+    }
+}
+
+// Lines go to standard error, where they are wanted.
+fn outlet_of<R: Net>(rt: &R, alloc: Global, logs: bool) -> io::Result<Option<JournalOutlet>> {
+    if !logs {
+        return Ok(None);
+    }
+    let outlet = JournalOutlet::open(rt, alloc)?;
+    Ok(Some(outlet))
 }
 
 // How long nothing is due.
@@ -236,7 +287,8 @@ fn leisure(arrivals: &[IncomingRequest], departures: &[OutgoingReply], now: Inst
 }
 
 impl<'a> WaitingRoom<'a> {
-    /// Listens at an address, to so many connections, which it has back through `returns`.
+    /// Listens at an address, to so many connections, which it has back through `returns`, and writes a line of each where
+    /// that is wanted.
     pub(crate) fn open<R: Net>(
         rt: &R,
         alloc: Global,
@@ -245,6 +297,7 @@ impl<'a> WaitingRoom<'a> {
         logs: bool,
         returns: &'a Returns,
     ) -> io::Result<WaitingRoom<'a>> {
+        let outlet = outlet_of(rt, alloc, logs)?;
         let poll = Poll::new(rt)?;
         let mut listener = TcpListener::bind(rt, address)?;
         poll.registry()
@@ -261,7 +314,7 @@ impl<'a> WaitingRoom<'a> {
             may_come: true,
             pause: None,
             next: 0,
-            logs,
+            outlet,
         })
     }
 
@@ -334,6 +387,9 @@ impl<'a> WaitingRoom<'a> {
                 return;
             };
             departure.begin(now);
+            if self.pause.is_some() && !departure.is_answered {
+                departure.cut();
+            }
             let _ = self.departures.push(departure);
         }
     }
@@ -365,9 +421,9 @@ impl<'a> WaitingRoom<'a> {
     // Replies go on as far as they are taken.
     fn send<R: Clock + Eprint>(&mut self, rt: &R, now: Instant) {
         self.take_back(now);
-        trim(self.departures.as_mut_slice());
+        trim(self.departures.as_mut_slice(), now);
         advance_departures(self.departures.as_mut_slice(), now);
-        tell(rt, self.departures.as_mut_slice(), now);
+        tell(rt, &mut self.outlet, self.departures.as_mut_slice(), now);
         self.departures
             .retain(|departure| departure.stage != Stage::Over);
     }
@@ -376,19 +432,31 @@ impl<'a> WaitingRoom<'a> {
     fn receive(&mut self, now: Instant) -> io::Result<()> {
         self.accept(now)?;
         advance_arrivals(self.arrivals.as_mut_slice(), self.alloc, now);
-        give_way(self.arrivals.as_mut_slice(), now);
+        self.make_way(now);
         Ok(())
     }
 
+    // Where one more has come than may wait, or descriptors are missing for one more, the oldest gives way, and one is
+    // accepted in its place at once.
+    fn make_way(&mut self, now: Instant) {
+        let is_full = self.arrivals.len() > MOST_ARRIVALS || self.pause.is_some();
+        if is_full
+            && give_way(self.arrivals.as_mut_slice(), now)
+            && let Some(pause) = &mut self.pause
+        {
+            pause.again = now;
+        }
+    }
+
     // The connection whose request has been whole for longest.
-    fn hand_on(&mut self) -> Option<(RequestReader, ReplyWriter<'a>)> {
+    fn hand_on(&mut self, now: Instant) -> Option<(RequestReader, ReplyWriter<'a>)> {
         let index = first_whole(self.arrivals.as_slice())?;
         let arrival = self.arrivals.remove(index);
         let whole = arrival.whole.unwrap_or(WholeRequest {
             behind: Behind::Failure,
             since: arrival.until,
         });
-        let entry = if self.logs {
+        let entry = if self.outlet.is_some() {
             JournalEntry::new(self.alloc, arrival.bytes.as_slice(), whole.since)
         } else {
             None
@@ -399,19 +467,21 @@ impl<'a> WaitingRoom<'a> {
             arrival.stream,
             arrival.token,
             whole.since,
+            room(self.departures.as_slice(), now),
             entry,
             self.returns,
         );
         Some((reader, writer))
     }
 
-    // Goes once round: what was served is sent, and what waits is looked at.
-    fn turn<R: Clock + Eprint>(&mut self, rt: &R) -> io::Result<()> {
+    // Goes once round: what was served is sent, and what waits is looked at. It answers when it did that.
+    fn turn<R: Clock + Eprint>(&mut self, rt: &R) -> io::Result<Instant> {
         self.send(rt, Instant::now(rt)?);
         self.wait(rt)?;
         let now = Instant::now(rt)?;
         self.send(rt, now);
-        self.receive(now)
+        self.receive(now)?;
+        Ok(now)
     }
 
     /// The connection whose request is whole first.
@@ -426,8 +496,8 @@ impl<'a> WaitingRoom<'a> {
             if self.left == 0 && self.arrivals.is_empty() {
                 return Err(io::Error::from(ErrorKind::NotFound));
             }
-            self.turn(rt)?;
-            if let Some(connection) = self.hand_on() {
+            let now = self.turn(rt)?;
+            if let Some(connection) = self.hand_on(now) {
                 return Ok(connection);
             }
         }
@@ -449,5 +519,12 @@ impl<'a> WaitingRoom<'a> {
             self.wait(rt)?;
         }
         Ok(())
+    }
+
+    /// Says how many were served in full and how many were cut off, where lines are wanted.
+    pub(crate) fn conclude<R: Eprint>(&mut self, rt: &R, served: Served) {
+        if let Some(outlet) = &mut self.outlet {
+            outlet.conclude(rt, served);
+        }
     }
 }

@@ -2,7 +2,7 @@
 
 use crate::connection::{ReplyWriter, RequestReader};
 use crate::hall::WaitingRoom;
-use lrs_web::{Door, DoorFault};
+use lrs_web::{Door, DoorFault, Served};
 use std::io::Eprint;
 use std::time::Clock;
 
@@ -24,9 +24,13 @@ impl<'a, R: Clock + Eprint> Listening<'a, R> {
         }
     }
 
-    /// Sends the replies that are left, as far as their clients take them in time. No connection is given any more.
-    pub fn finish(&mut self) {
+    /// Sends the replies that are left, as far as their clients take them in time. No connection is given any more. Where all
+    /// were served and lines are wanted, the last one says so.
+    pub fn finish(&mut self, served: Option<Served>) {
         let _ = self.hall.finish(self.rt);
+        if let Some(served) = served {
+            self.hall.conclude(self.rt, served);
+        }
     }
 }
 
