@@ -244,7 +244,6 @@ impl<'a> Drop for ReplyWriter<'a> {
             sent,
             stage: Stage::Sending,
             until: since,
-            taken: since,
             renewed: sent,
             is_answered: progress != Progress::Nothing,
             is_stirred: true,

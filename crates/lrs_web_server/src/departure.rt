@@ -15,9 +15,6 @@ const RENEWING: usize = 1_048_576;
 
 const ENDING_MILLIS: u64 = 1_000;
 
-// A client that took nothing for so long does not read its reply.
-const READING_MILLIS: u64 = 1_000;
-
 // So often it is written to in a row before others have their turn.
 const MOST_WRITES: u32 = 64;
 
@@ -45,8 +42,7 @@ pub(crate) struct OutgoingReply {
     pub(crate) sent: usize,
     pub(crate) stage: Stage,
     pub(crate) until: Instant,
-    // When some of it was last taken, and how much had been sent when its time was last renewed.
-    pub(crate) taken: Instant,
+    // How much had been sent when its time was last renewed.
     pub(crate) renewed: usize,
     pub(crate) is_answered: bool,
     pub(crate) is_stirred: bool,
@@ -125,15 +121,9 @@ impl OutgoingReply {
     /// Its reply goes from now on.
     pub(crate) fn begin(&mut self, now: Instant) {
         self.until = later(now, TAKING_MILLIS);
-        self.taken = now;
         if self.stream.set_nonblocking(true).is_err() {
             self.stage = Stage::Over;
         }
-    }
-
-    /// Whether its client is taking it.
-    pub(crate) fn is_read(&self, now: Instant) -> bool {
-        self.stage == Stage::Sending && now < later(self.taken, READING_MILLIS)
     }
 
     /// Ends it, whatever is left.
@@ -152,11 +142,10 @@ impl OutgoingReply {
     }
 
     fn go_on(&mut self, now: Instant) {
-        let before = self.sent;
         self.is_stirred = false;
         if self.stage == Stage::Sending {
             let turn = send(&mut self.stream, self.rest.as_slice(), &mut self.sent);
-            self.renew(before, now);
+            self.renew(now);
             match turn {
                 Turn::Done => self.end(now),
                 Turn::Waits => {}
@@ -173,11 +162,7 @@ impl OutgoingReply {
     }
 
     // A client that goes on taking its reply has more time.
-    fn renew(&mut self, before: usize, now: Instant) {
-        if self.sent == before {
-            return;
-        }
-        self.taken = now;
+    fn renew(&mut self, now: Instant) {
         if self.sent.saturating_sub(self.renewed) >= RENEWING {
             self.renewed = self.sent;
             self.until = later(now, TAKING_MILLIS);

@@ -21,13 +21,13 @@ use std::time::{Clock, Duration, Instant};
 // So many connections wait with requests that are not whole. Where one more comes, the oldest of them gives way.
 const MOST_ARRIVALS: usize = 256;
 
-// So many wait with replies that are not sent, and keep so many bytes beside the largest. Beyond that those that are not
-// being read give way, the oldest first; and where that is not enough, a new reply with more bytes than these is refused.
+// So many replies wait to be sent, and keep so many bytes beside the largest. Where there is no room, a new one that is not
+// small is refused: none that is being taken is cut for it.
 const MOST_DEPARTURES: usize = 256;
 
 const MOST_KEPT: usize = 67_108_864;
 
-const NEVER_REFUSED: usize = 65_536;
+const SMALL: usize = 65_536;
 
 // So many connections are accepted in a row before others have their turn, and so many in a row may have ended before
 // they were taken.
@@ -165,53 +165,40 @@ fn first_whole(arrivals: &[IncomingRequest]) -> Option<usize>
     }
 }
 
-// How many bytes of replies are kept beside the largest.
-fn kept(departures: &[OutgoingReply]) -> usize {
-    let mut bytes = 0usize;
-    let mut largest = 0;
-    for departure in departures {
-        bytes = bytes.saturating_add(departure.rest.len());
-        largest = departure.rest.len().max(largest);
-    }
-    bytes.saturating_sub(largest)
-}
-
-// The oldest of too many, and of those that keep too much, give way. One that is being read does not, and so no new one.
-fn trim(departures: &mut [OutgoingReply], now: Instant) {
+// Of too many the oldest give way whose replies have been sent.
+fn trim(departures: &mut [OutgoingReply]) {
     let mut excess = departures.len().saturating_sub(MOST_DEPARTURES);
-    let mut bytes = kept(departures);
     for departure in departures.iter_mut() {
-        if excess == 0 && bytes <= MOST_KEPT {
+        if excess == 0 {
             return;
         }
-        if !departure.is_read(now) {
+        if departure.stage == Stage::Ending {
             excess = excess.saturating_sub(1);
-            bytes = bytes.saturating_sub(departure.rest.len());
             departure.cut();
         }
     }
 }
 
-// How many bytes a new reply may have, beside those that are being read. The largest of all has no limit.
-fn room(departures: &[OutgoingReply], now: Instant) -> usize {
+// How many bytes a new reply may have, beside those that are being sent. The largest of all has no limit.
+fn room(departures: &[OutgoingReply]) -> usize {
     let mut count = 0usize;
     let mut bytes = 0usize;
     let mut largest = 0;
     for departure in departures {
-        if departure.is_read(now) {
+        if departure.stage == Stage::Sending {
             count = count.saturating_add(1);
             bytes = bytes.saturating_add(departure.rest.len());
             largest = departure.rest.len().max(largest);
         }
     }
     if count >= MOST_DEPARTURES {
-        return NEVER_REFUSED;
+        return SMALL;
     }
     if bytes <= MOST_KEPT {
         return usize::MAX;
     }
     let smaller = bytes.saturating_sub(largest);
-    MOST_KEPT.saturating_sub(smaller).max(NEVER_REFUSED)
+    MOST_KEPT.saturating_sub(smaller).max(SMALL)
 }
 
 // Writes the lines of those whose replies have been sent or cut.
@@ -420,8 +407,7 @@ impl<'a> WaitingRoom<'a> {
 
     // Replies go on as far as they are taken.
     fn send<R: Clock + Eprint>(&mut self, rt: &R, now: Instant) {
-        self.take_back(now);
-        trim(self.departures.as_mut_slice(), now);
+        trim(self.departures.as_mut_slice());
         advance_departures(self.departures.as_mut_slice(), now);
         tell(rt, &mut self.outlet, self.departures.as_mut_slice(), now);
         self.departures
@@ -449,7 +435,7 @@ impl<'a> WaitingRoom<'a> {
     }
 
     // The connection whose request has been whole for longest.
-    fn hand_on(&mut self, now: Instant) -> Option<(RequestReader, ReplyWriter<'a>)> {
+    fn hand_on(&mut self) -> Option<(RequestReader, ReplyWriter<'a>)> {
         let index = first_whole(self.arrivals.as_slice())?;
         let arrival = self.arrivals.remove(index);
         let whole = arrival.whole.unwrap_or(WholeRequest {
@@ -467,21 +453,21 @@ impl<'a> WaitingRoom<'a> {
             arrival.stream,
             arrival.token,
             whole.since,
-            room(self.departures.as_slice(), now),
+            room(self.departures.as_slice()),
             entry,
             self.returns,
         );
         Some((reader, writer))
     }
 
-    // Goes once round: what was served is sent, and what waits is looked at. It answers when it did that.
-    fn turn<R: Clock + Eprint>(&mut self, rt: &R) -> io::Result<Instant> {
-        self.send(rt, Instant::now(rt)?);
+    // Goes once round: what was served is sent, and what waits is looked at. What clients did meanwhile is known before any of
+    // them is late.
+    fn turn<R: Clock + Eprint>(&mut self, rt: &R) -> io::Result<()> {
+        self.take_back(Instant::now(rt)?);
         self.wait(rt)?;
         let now = Instant::now(rt)?;
         self.send(rt, now);
-        self.receive(now)?;
-        Ok(now)
+        self.receive(now)
     }
 
     /// The connection whose request is whole first.
@@ -496,8 +482,8 @@ impl<'a> WaitingRoom<'a> {
             if self.left == 0 && self.arrivals.is_empty() {
                 return Err(io::Error::from(ErrorKind::NotFound));
             }
-            let now = self.turn(rt)?;
-            if let Some(connection) = self.hand_on(now) {
+            self.turn(rt)?;
+            if let Some(connection) = self.hand_on() {
                 return Ok(connection);
             }
         }
@@ -512,11 +498,12 @@ impl<'a> WaitingRoom<'a> {
         self.arrivals.clear();
         self.left = 0;
         for _turn in 0..u64::MAX {
-            self.send(rt, Instant::now(rt)?);
+            self.take_back(Instant::now(rt)?);
             if self.departures.is_empty() {
                 return Ok(());
             }
             self.wait(rt)?;
+            self.send(rt, Instant::now(rt)?);
         }
         Ok(())
     }
