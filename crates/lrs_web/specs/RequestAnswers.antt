@@ -32,7 +32,7 @@ needs_commits _ = false
 abbrev pub allowed_answer : RequestMethod → Answer
 allowed_answer verb = record { status = 405; content_type = None; allow = Some verb; body = [] }
 
--- What is asked for is done at the desk, and answered: a sheet is done, or its questions are answered. A query leaves the desk as it is. It has an empty 503 where memory runs out, and once a commit of several commands has failed: the image may be ahead of what is kept then. What needs commits has an empty 503 once any commit has failed: no command is done then.
+-- What is asked for is done at the desk, and answered: a sheet is done, or its questions are answered. A query leaves the desk as it is. It has an empty 503 where memory runs out, or the reply would have more bytes than it may, and once a commit of several commands has failed: the image may be ahead of what is kept then. What needs commits has an empty 503 once any commit has failed: no command is done then.
 abbrev pub Does : {K : Type 0} → (K → Result Image Table → Type 0) → Asked → DeskView K → Answer → DeskView K → Type 0
 Does holds (refused status) old answer new = (new ≡ old) × (answer ≡ empty_answer status)
 Does holds (not_allowed verb) old answer new = (new ≡ old) × (answer ≡ allowed_answer verb)

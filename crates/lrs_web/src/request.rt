@@ -102,6 +102,7 @@ fn allowed_reply(verb: RequestMethod) -> Response
 #[tactic(auto, using(crate::proofs::Asking::answered, crate::proofs::Asking::refused))]
 fn question_reply<K: Keeper>(
     alloc: Global,
+    most: usize,
     resource: Resource,
     argument: &[u8],
     desk: &Desk<K>,
@@ -112,15 +113,30 @@ fn question_reply<K: Keeper>(
         (answer_of reply)) }
 {
     match question_of(alloc, resource, argument) {
-        Ok(question) => reply_to(alloc, desk.ask(question)),
+        Ok(question) => reply_to(alloc, most, desk.ask(question)),
         Err(fault) => unasked(alloc, fault),
     }
+}
+
+// A reply that has too many bytes gives way to an empty 503.
+fn limited(reply: Response, most: usize) -> Response
+    ensures { (answer_of result ≡ answer_of reply) ⊎ (answer_of result ≡ empty_answer 503) }
+{
+    let is_too_long = match &reply.content {
+        Some(content) => content.bytes.len() > most,
+        None => false,
+    };
+    if is_too_long {
+        return Response::empty(StatusCode::SERVICE_UNAVAILABLE);
+    }
+    reply
 }
 
 // Once a commit of several commands has failed, nothing is answered: not even that a parameter cannot be read. What needs
 // commits is not answered either once a commit of one command has failed.
 fn query_reply<K: Keeper>(
     alloc: Global,
+    most: usize,
     resource: Resource,
     argument: &[u8],
     desk: &Desk<K>,
@@ -138,8 +154,8 @@ fn query_reply<K: Keeper>(
     if needs_commits(resource) && desk.must_reopen() {
         return Response::empty(StatusCode::SERVICE_UNAVAILABLE);
     }
-    match question_reply(alloc, resource, argument, desk) {
-        Ok(reply) => reply,
+    match question_reply(alloc, most, resource, argument, desk) {
+        Ok(reply) => limited(reply, most),
         Err(_) => Response::empty(StatusCode::SERVICE_UNAVAILABLE),
     }
 }
@@ -147,6 +163,7 @@ fn query_reply<K: Keeper>(
 /// Does a sheet, or answers the questions where it is of no kind that is done.
 fn do_posted<K: Keeper>(
     alloc: Global,
+    most: usize,
     kind: Option<Sheet>,
     resumes: bool,
     bytes: &[u8],
@@ -157,13 +174,18 @@ fn do_posted<K: Keeper>(
         desk.new) }
 {
     match kind {
-        Some(kind) => do_sheet(alloc, kind, resumes, bytes, desk),
-        None => answer_questions(alloc, bytes, desk),
+        Some(kind) => do_sheet(alloc, most, kind, resumes, bytes, desk),
+        None => answer_questions(alloc, most, bytes, desk),
     }
 }
 
-/// Does what is asked for.
-fn do_task<K: Keeper>(alloc: Global, task: &Request, desk: &mut Desk<K>) -> Response
+/// Does what is asked for. A reply with more bytes than that is an empty 503, as where memory runs out.
+fn do_task<K: Keeper>(
+    alloc: Global,
+    most: usize,
+    task: &Request,
+    desk: &mut Desk<K>,
+) -> Response
     requires { IsServed (asked_by task.now) }
     ensures { Does K.may_hold (asked_by task.now) desk.old (answer_of result) desk.new }
 {
@@ -171,10 +193,11 @@ fn do_task<K: Keeper>(alloc: Global, task: &Request, desk: &mut Desk<K>) -> Resp
         Request::Refused(status) => Response::empty(*status),
         Request::NotAllowed(verb) => allowed_reply(*verb),
         Request::Query(resource, argument) => {
-            query_reply(alloc, *resource, argument.as_slice(), desk)
+            query_reply(alloc, most, *resource, argument.as_slice(), desk)
         }
         Request::Sheet(resource, resumes, bytes) => {
-            do_posted(alloc, sheet_of(*resource), *resumes, bytes.as_slice(), desk)
+            let kind = sheet_of(*resource);
+            do_posted(alloc, most, kind, *resumes, bytes.as_slice(), desk)
         }
     }
 }
@@ -202,9 +225,10 @@ pub(crate) fn refuse<W: Write>(writer: &mut W) -> Result<u16, WebFault>
     }
 }
 
-/// Does what is asked for, and writes the reply.
+/// Does what is asked for, and writes the reply, of at most so many bytes.
 pub(crate) fn respond<W: Write, K: Keeper>(
     alloc: Global,
+    most: usize,
     task: &Request,
     writer: &mut W,
     desk: &mut Desk<K>,
@@ -215,7 +239,7 @@ pub(crate) fn respond<W: Write, K: Keeper>(
     ensures done { (due : Answer) × Does K.may_hold (asked_by task.now) desk.old due desk.new }
     ensures fault { result ≡ Err WebFault.Read → ⊥ }
 {
-    let reply = do_task(alloc, task, desk);
+    let reply = do_task(alloc, most, task, desk);
     write_to(alloc, &reply, writer)
 }
 
@@ -247,7 +271,7 @@ pub fn serve_one<R: Read, W: Write, K: Keeper>(
         return refuse(writer);
     };
     match receive(alloc, &router, reader) {
-        Ok(task) => respond(alloc, &task, writer, desk),
+        Ok(task) => respond(alloc, usize::MAX, &task, writer, desk),
         Err(BodyFault::Memory) => refuse(writer),
         Err(BodyFault::Read(_)) => Err(WebFault::Read),
     }

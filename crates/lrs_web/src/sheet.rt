@@ -8,6 +8,7 @@ use http::StatusCode;
 use lrs_sheet::{
     Desk, Keeper, RECORDS_TOGETHER, Sheet, SheetFault, Tally, resume_sheet, run_sheet,
 };
+use lrs_web_replies::BoundedBytes;
 use lrs_web_requests::{Content, ContentType, Response};
 use std::alloc::Global;
 
@@ -60,11 +61,11 @@ fn run<K: Keeper>(
     sheet: Sheet,
     resumes: bool,
     bytes: &[u8],
-    lines: &mut Vec<u8>,
+    lines: &mut BoundedBytes,
     desk: &mut Desk<K>,
 ) -> Result<Tally, SheetFault>
     ensures { IsRunSo K.may_hold sheet resumes bytes.now desk.old desk.new
-        lines.old.items lines.new.items result }
+        lines.old.bytes.items lines.new.bytes.items result }
 {
     if resumes {
         resume_sheet(alloc, sheet, RECORDS_TOGETHER, bytes, lines, desk)
@@ -74,9 +75,11 @@ fn run<K: Keeper>(
 }
 
 /// Does a sheet whose bytes have all come, or goes on with it behind its last record that is an edit. Where memory or the
-/// keeper fails, some of its records may be done, and the reply is an empty 503; then the sheet can go on.
+/// keeper fails, or the reply would have too many bytes, some of its records may be done, and the reply is an empty 503;
+/// then the sheet can go on.
 pub(crate) fn do_sheet<K: Keeper>(
     alloc: Global,
+    most: usize,
     sheet: Sheet,
     resumes: bool,
     bytes: &[u8],
@@ -84,7 +87,7 @@ pub(crate) fn do_sheet<K: Keeper>(
 ) -> Response
     ensures { DoesSheet K.may_hold sheet resumes bytes.now desk.old (answer_of result) desk.new }
 {
-    let mut lines = Vec::new(alloc);
+    let mut lines = BoundedBytes::new(alloc, most);
     let ended = run(alloc, sheet, resumes, bytes, &mut lines, desk);
-    reply_after(ended, lines)
+    reply_after(ended, lines.bytes)
 }

@@ -11,15 +11,17 @@ use std::time::Clock;
 pub struct Listening<'a, R: Clock + Eprint> {
     hall: WaitingRoom<'a>,
     rt: &'a R,
+    most_reply: usize,
     failures: u64,
 }
 
 impl<'a, R: Clock + Eprint> Listening<'a, R> {
-    /// The door to this hall.
-    pub(crate) fn new(hall: WaitingRoom<'a>, rt: &'a R) -> Listening<'a, R> {
+    /// The door to this hall, for replies of at most so many bytes.
+    pub(crate) fn new(hall: WaitingRoom<'a>, rt: &'a R, most_reply: usize) -> Listening<'a, R> {
         Listening {
             hall,
             rt,
+            most_reply,
             failures: 0,
         }
     }
@@ -40,6 +42,10 @@ impl<'a, R: Clock + Eprint> Door for Listening<'a, R> {
     type Writer = ReplyWriter<'a>;
 
     ghost failures = { λ door. door.failures };
+
+    fn most_reply(&self) -> usize {
+        self.most_reply
+    }
 
     fn next(&mut self) -> Result<(RequestReader, ReplyWriter<'a>), DoorFault> {
         match self.hall.next(self.rt) {

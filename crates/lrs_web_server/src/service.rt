@@ -23,6 +23,8 @@ pub struct ServiceOptions {
     pub logs: bool,
     /// The service ends once a commit has failed, so that the desk is opened anew.
     pub ends_on_fault: bool,
+    /// The body of a reply has at most so many bytes. One that would have more is an empty 503.
+    pub most_reply: usize,
 }
 
 /// Why a service ended before its last connection.
@@ -117,7 +119,7 @@ fn serve_hall<'a, R: Runtime<A = Global>, K: Keeper>(
     hall: WaitingRoom<'a>,
     desk: &mut Desk<K>,
     max: u32,
-    ends_on_fault: bool,
+    manner: ServiceOptions,
 ) -> Result<Served, ServiceFault>
     ensures count { IfOk result (λ served. served.full + served.cut ≡ max) }
     ensures visited { IfOk result (λ served.
@@ -125,13 +127,13 @@ fn serve_hall<'a, R: Runtime<A = Global>, K: Keeper>(
     ensures stopped { OnErr result ((full : ℕ) × (cut : ℕ)
         × HasVisited K.may_hold full cut desk.old desk.new) }
     ensures desk { result ≡ Err ServiceFault.Desk → desk.new.must_reopen ≡ true }
-    ensures open { IfOk result (λ _. ends_on_fault ≡ true → desk.new.must_reopen ≡ false) }
-    ensures never { ends_on_fault ≡ false → result ≡ Err ServiceFault.Desk → ⊥ }
+    ensures open { IfOk result (λ _. manner.ends_on_fault ≡ true → desk.new.must_reopen ≡ false) }
+    ensures never { manner.ends_on_fault ≡ false → result ≡ Err ServiceFault.Desk → ⊥ }
     ensures listens { result ≡ Err ServiceFault.Port → ⊥ }
     ensures says { result ≡ Err ServiceFault.Write → ⊥ }
 {
-    let mut door = Listening::new(hall, rt);
-    let outcome = serve_each(rt.alloc(), &mut door, desk, max, ends_on_fault);
+    let mut door = Listening::new(hall, rt, manner.most_reply);
+    let outcome = serve_each(rt.alloc(), &mut door, desk, max, manner.ends_on_fault);
     door.finish(served_of(&outcome));
     outcome
 }
@@ -176,5 +178,5 @@ pub fn serve<R: Runtime<A = Global> + Net, K: Keeper, W: Write>(
     if say(to, port).is_err() {
         return Err(ServiceFault::Write);
     }
-    serve_hall(rt, hall, desk, max, manner.ends_on_fault)
+    serve_hall(rt, hall, desk, max, manner)
 }
