@@ -87,6 +87,7 @@ fn other_in<'a>(job: &Job<'a>, word: BadWord) -> Option<&'a str> {
         (Job::Log { key, .. }, BadWord::Key) => *key,
         (Job::Serve { port, .. }, BadWord::Port) => Some(port),
         (Job::Serve { max, .. }, BadWord::Max) => Some(max),
+        (Job::Serve { most_reply, .. }, BadWord::MostReply) => *most_reply,
         _ => None,
     }
 }
@@ -110,7 +111,8 @@ pub(crate) fn given<'a>(job: &Job<'a>, word: BadWord) -> Option<&'a str> {
         | BadWord::Number
         | BadWord::Key
         | BadWord::Port
-        | BadWord::Max => other_in(job, word),
+        | BadWord::Max
+        | BadWord::MostReply => other_in(job, word),
     }
 }
 

@@ -41,7 +41,7 @@ pub(crate) fn do_service<R: Runtime<A = Global> + Net, K: Keeper, W: Write + Dro
     let manner = ServiceOptions {
         logs: service.logs,
         ends_on_fault: service.ends_on_fault,
-        most_reply: usize::MAX,
+        most_reply: service.most_reply as usize,
     };
     let mut to = to;
     match serve(rt, service.port, service.max, manner, desk, &mut to) {

@@ -83,6 +83,8 @@ const TELLING: &str = "Writes a line for each request on standard error, and a c
 
 const END_ON_FAULT: &str = "Ends with status 3 once the inventory was not written";
 
+const MOST_REPLY: &str = "How many bytes a reply has at most, 67108864 unless said; a longer one is a 503";
+
 const FROM_EDIT: &str = "The number of the first edit; else from the first one of all";
 
 const OF_KEY: &str = "The edit of this key alone";
@@ -367,6 +369,7 @@ static SERVE: JobLine = JobLine {
         LinePart::Switch("sums", SUMS),
         LinePart::Switch("log", TELLING),
         LinePart::Switch("end-on-fault", END_ON_FAULT),
+        LinePart::Valued("most-reply", "BYTES", MOST_REPLY),
     ],
 };
 
