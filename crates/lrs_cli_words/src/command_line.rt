@@ -83,7 +83,8 @@ const TELLING: &str = "Writes a line for each request on standard error, and a c
 
 const END_ON_FAULT: &str = "Ends with status 3 once the inventory was not written";
 
-const MOST_REPLY: &str = "How many bytes a reply has at most, 67108864 unless said; a longer one is a 503";
+const MOST_REPLY: &str =
+    "How many bytes a reply has at most, 67108864 unless said; a longer one is a 503";
 
 const FROM_EDIT: &str = "The number of the first edit; else from the first one of all";
 

@@ -12,12 +12,7 @@ use lrs_web_replies::BoundedBytes;
 use lrs_web_requests::Response;
 use std::alloc::Global;
 
-fn run_questions<K: Keeper>(
-    alloc: Global,
-    most: usize,
-    bytes: &[u8],
-    desk: &Desk<K>,
-) -> Response
+fn run_questions<K: Keeper>(alloc: Global, most: usize, bytes: &[u8], desk: &Desk<K>) -> Response
     requires behind { desk.now.is_ahead ≡ false }
     ensures { RepliesToQuestions desk.now.image bytes.now (answer_of result) }
 {

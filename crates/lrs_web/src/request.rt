@@ -180,12 +180,7 @@ fn do_posted<K: Keeper>(
 }
 
 /// Does what is asked for. A reply with more bytes than that is an empty 503, as where memory runs out.
-fn do_task<K: Keeper>(
-    alloc: Global,
-    most: usize,
-    task: &Request,
-    desk: &mut Desk<K>,
-) -> Response
+fn do_task<K: Keeper>(alloc: Global, most: usize, task: &Request, desk: &mut Desk<K>) -> Response
     requires { IsServed (asked_by task.now) }
     ensures { Does K.may_hold (asked_by task.now) desk.old (answer_of result) desk.new }
 {

@@ -47,7 +47,12 @@ pub(crate) fn add_text(alloc: Global, bytes: &mut Vec<u8>, text: &str) -> Result
 }
 
 /// Adds an item, with a comma before it, where the text has not so many bytes yet.
-pub(crate) fn add_item(alloc: Global, most: usize, bytes: &mut Vec<u8>, item: Value) -> Result<(), AllocError>
+pub(crate) fn add_item(
+    alloc: Global,
+    most: usize,
+    bytes: &mut Vec<u8>,
+    item: Value,
+) -> Result<(), AllocError>
     requires { has_float (view item) ≡ false }
     ensures { OnOk result (bytes.new.items ≡ bytes.old.items ++ item_text (view item)) }
 {
@@ -68,7 +73,12 @@ pub(crate) fn add_name(alloc: Global, bytes: &mut Vec<u8>, name: &str) -> Result
     Ok(())
 }
 
-fn add_one<T: Shown>(alloc: Global, most: usize, bytes: &mut Vec<u8>, one: &T) -> Result<(), AllocError>
+fn add_one<T: Shown>(
+    alloc: Global,
+    most: usize,
+    bytes: &mut Vec<u8>,
+    one: &T,
+) -> Result<(), AllocError>
     requires whole { has_float (T.shown one.now) ≡ false }
     ensures { OnOk result (bytes.new.items ≡ bytes.old.items ++ item_text (T.shown one.now)) }
 {

@@ -118,7 +118,12 @@ fn add_all<T: OnRoute>(
 }
 
 /// The list of all that the routes have, under its name.
-fn all_json<T: OnRoute>(alloc: Global, most: usize, kept: &ImageLists, name: &str) -> Result<Vec<u8>, AllocError>
+fn all_json<T: OnRoute>(
+    alloc: Global,
+    most: usize,
+    kept: &ImageLists,
+    name: &str,
+) -> Result<Vec<u8>, AllocError>
     ensures { IfOk result (λ bytes. bytes.items ≡ compact_text
         (named_list name.now (flat_map (all_of T.on T.shown) (image_of kept.now).routes))) }
 {
@@ -211,7 +216,15 @@ fn add_rows_of(
         ≡ bytes.old.items ++ rows_part wanted.now assets.now.rows route_row.now) }
 {
     let route = &route_row.route;
-    add_rows_on(alloc, most, bytes, wanted, assets, route, route_row.spans.rows())
+    add_rows_on(
+        alloc,
+        most,
+        bytes,
+        wanted,
+        assets,
+        route,
+        route_row.spans.rows(),
+    )
 }
 
 fn add_each_row(
@@ -273,7 +286,12 @@ fn add_asked_rows(
     }
 }
 
-fn rows_json(alloc: Global, most: usize, kept: &ImageLists, wanted: &RowsWanted) -> Result<Vec<u8>, AllocError>
+fn rows_json(
+    alloc: Global,
+    most: usize,
+    kept: &ImageLists,
+    wanted: &RowsWanted,
+) -> Result<Vec<u8>, AllocError>
     requires sound { IsSound (image_of kept.now) }
     ensures { IfOk result (λ bytes. bytes.items
         ≡ compact_text (rows_data wanted.now (image_of kept.now))) }
@@ -338,21 +356,38 @@ fn add_parts(
     Ok(())
 }
 
-fn gone_json(alloc: Global, most: usize, kept: &ImageLists, edit: Option<u64>) -> Result<Vec<u8>, AllocError>
+fn gone_json(
+    alloc: Global,
+    most: usize,
+    kept: &ImageLists,
+    edit: Option<u64>,
+) -> Result<Vec<u8>, AllocError>
     requires sound { IsSound (image_of kept.now) }
     ensures { IfOk result (λ bytes. bytes.items
         ≡ compact_text (all_gone_data edit (image_of kept.now))) }
 {
     let mut bytes = begin(alloc, "gone")?;
     let start = bytes.len();
-    add_parts(alloc, most, &mut bytes, edit, &kept.assets, kept.gone.as_slice())?;
+    add_parts(
+        alloc,
+        most,
+        &mut bytes,
+        edit,
+        &kept.assets,
+        kept.gone.as_slice(),
+    )?;
     end(bytes, start)
 }
 
 // ---- the log
 
 // It takes every byte that it is given, unless it has no room for it or memory runs out.
-fn log_bytes(alloc: Global, most: usize, kept: &ImageLists, from: u64) -> Result<Vec<u8>, AllocError>
+fn log_bytes(
+    alloc: Global,
+    most: usize,
+    kept: &ImageLists,
+    from: u64,
+) -> Result<Vec<u8>, AllocError>
     ensures { IfOk result (λ bytes. bytes.items
         ≡ log_text (edits_from from (state_of (image_of kept.now)).done)) }
 {
@@ -363,7 +398,12 @@ fn log_bytes(alloc: Global, most: usize, kept: &ImageLists, from: u64) -> Result
     }
 }
 
-fn log_bytes_of_key(alloc: Global, most: usize, kept: &ImageLists, key: &Key) -> Result<Vec<u8>, AllocError>
+fn log_bytes_of_key(
+    alloc: Global,
+    most: usize,
+    kept: &ImageLists,
+    key: &Key,
+) -> Result<Vec<u8>, AllocError>
     ensures { IfOk result (λ bytes. bytes.items
         ≡ log_text (edits_under key.now (state_of (image_of kept.now)).done)) }
 {

@@ -115,7 +115,11 @@ fn told_reply(alloc: Global, most: usize, told: Told<'_>) -> Result<Response, Al
 ///
 /// # Errors
 /// When memory or so many bytes do not suffice; the reply may be the empty 503 then, too.
-pub fn reply_to(alloc: Global, most: usize, told: Result<Told<'_>, AskFault>) -> Result<Response, AllocError>
+pub fn reply_to(
+    alloc: Global,
+    most: usize,
+    told: Result<Told<'_>, AskFault>,
+) -> Result<Response, AllocError>
     ensures { IfOk result (λ reply. IsReplyTo told.entry (answer_of reply)) }
 {
     match told {
