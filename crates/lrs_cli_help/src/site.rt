@@ -26,6 +26,7 @@ pub enum Site {
 }
 
 /// What is at a path.
+#[derive(Clone, Copy)]
 enum Object {
     Nothing,
     /// A file of so many bytes.
@@ -59,7 +60,7 @@ fn was_copied(rt: &HostRuntime, log: &str) -> io::Result<bool> {
 }
 
 // What stands where a file has fewer bytes than a header.
-fn site_beside(rt: &HostRuntime, file: &Object, log_path: &str) -> io::Result<Site> {
+fn site_beside(rt: &HostRuntime, file: Object, log_path: &str) -> io::Result<Site> {
     let log = object_at(rt, log_path);
     Ok(match (file, log) {
         (Object::Nothing | Object::File(0), Object::Nothing) => Site::Vacant,
@@ -85,5 +86,5 @@ pub fn site_at(rt: &HostRuntime, path: &str) -> Site {
     let Ok(log) = log_path(rt, path) else {
         return Site::Foreign;
     };
-    site_beside(rt, &file, log.as_str()).unwrap_or(Site::Foreign)
+    site_beside(rt, file, log.as_str()).unwrap_or(Site::Foreign)
 }

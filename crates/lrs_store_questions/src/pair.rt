@@ -7,12 +7,12 @@ use crate::still::Still;
 use os::RangeLock;
 use sqlite::{Files, Start};
 use sqlite_disk::Modelled;
+use std::fs;
 use std::hash::{BuildHasher, RandomState};
 use std::io::{self, ErrorKind, Read};
 use std::os::fd::AsRawFd;
 use std::os::unix::fs::MetadataExt;
 use std::rt::HostRuntime;
-use std::fs;
 
 /// A file that held what `S` says, opened to be read alone.
 pub type StillFrom<S> = Modelled<Still, S>;

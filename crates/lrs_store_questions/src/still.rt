@@ -7,10 +7,10 @@ use crate::overlay::{MAX_OFFSET, Overlay};
 use crate::record::Record;
 use sqlite_disk::{Calls, is_no_room};
 use std::alloc::Global;
+use std::fs;
 use std::io::{self, ErrorKind};
 use std::os::fd::AsRawFd;
 use std::os::unix::fs::FileExt;
-use std::fs;
 
 const SETTLED: u64 = 0;
 
