@@ -2,12 +2,18 @@
 #![tactic(auto)]
 
 pub mod explanation;
+mod flaw;
 mod hints;
+mod holder;
 mod inspection;
 mod job_texts;
+mod lines;
 mod options;
 mod outlet;
+mod rules;
+mod shown;
 mod site;
+mod spreadsheet;
 mod verbs;
 
 pub use hints::hint_at;

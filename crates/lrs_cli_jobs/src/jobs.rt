@@ -2,7 +2,7 @@
 
 ghost use Rattle.std.specs.Prelude.{◌≡◌, ◌↔◌, false, true, IsTrue};
 ghost use Rattle.lrs_desk.specs.DeskView.{DeskView};
-ghost use Rattle.lrs_cli_jobs.specs.Jobs.{EndsInFile, EndsInMemory, EndsJob, EndsPage, EndsTask, EndsWithLog, HasWorked, Looks, printed};
+ghost use Rattle.lrs_cli_jobs.specs.Jobs.{EndsInFile, EndsInMemory, EndsJob, EndsPage, EndsTask, EndsWithLog, FindsKept, HasWorked, Looks, printed};
 
 use crate::desk::{open_desk, open_desk_to_look};
 use crate::service::do_service;
@@ -99,6 +99,7 @@ fn cleared<T>(rt: &HostRuntime, was_said: bool, opened: T) -> T
 // Does work at a desk, whose keeper is then closed.
 fn do_and_close<F: Files, S: Sheets, W: Write + Drop>(
     world: &World<'_, HostRuntime, S>,
+    files: &mut F,
     mut desk: Desk<F::Kept>,
     work: Work<'_>,
     to: W,
@@ -106,10 +107,11 @@ fn do_and_close<F: Files, S: Sheets, W: Write + Drop>(
     requires behind { desk.is_ahead ≡ false }
     ensures { (after : DeskView F.Kept) × HasWorked F.Kept.may_hold
         (S.text_of world.now.sheets.now) work.entry desk after
-        (W.contents to) (printed W.contents result) }
+        (W.contents to) (printed W.contents result)
+        × FindsKept F.Kept.may_hold after (F.may_find files.new) }
 {
     let given = do_work(world, &mut desk, work, Pace::InGroups, to);
-    F::close(desk.into_keeper());
+    files.close(desk.into_keeper());
     given
 }
 
@@ -117,14 +119,14 @@ fn do_and_close<F: Files, S: Sheets, W: Write + Drop>(
 // what was committed. Each reply goes out once its record is committed.
 fn do_with_log<F: Files, S: Sheets, W: Write + Drop>(
     world: &World<'_, HostRuntime, S>,
-    files: F,
+    files: &mut F,
     path: &str,
     new_has_sums: bool,
     work: Work<'_>,
     to: W,
 ) -> Result<(W, Ending), ProgramFault>
     ensures { EndsWithLog (S.text_of world.now.sheets.now) F.Kept.may_hold F.has_opened
-        work.entry (W.contents to) (printed W.contents result) }
+        (F.may_find files.new) work.entry (W.contents to) (printed W.contents result) }
 {
     let was_said = tell_opening(world.rt, path, world.shown);
     match cleared(
@@ -132,7 +134,7 @@ fn do_with_log<F: Files, S: Sheets, W: Write + Drop>(
         was_said,
         open_desk(world.rt, files, path, new_has_sums),
     ) {
-        Ok(desk) => do_and_close::<F, S, W>(world, desk, work, to),
+        Ok(desk) => do_and_close(world, files, desk, work, to),
         Err(fault) => Ok((to, Ending::Stopped(ProgramFault::from(fault)))),
     }
 }
@@ -168,14 +170,14 @@ fn looks(work: &Work<'_>) -> bool
 // file.
 fn do_in_file<F: Files, S: Sheets, W: Write + Drop>(
     world: &World<'_, HostRuntime, S>,
-    files: F,
+    files: &mut F,
     path: &str,
     new_has_sums: bool,
     work: Work<'_>,
     to: W,
 ) -> Result<(W, Ending), ProgramFault>
     ensures { EndsInFile ⟦<Plain as Holder>⟧.may_hold F.Kept.may_hold F.Seen.may_hold
-        F.has_opened F.has_read (S.text_of world.now.sheets.now)
+        F.has_opened F.has_read (F.may_find files.new) (S.text_of world.now.sheets.now)
         work.entry (W.contents to) (printed W.contents result) }
 {
     if matches!(work, Work::Audit) {
@@ -184,12 +186,11 @@ fn do_in_file<F: Files, S: Sheets, W: Write + Drop>(
     if !looks(&work) {
         return do_with_log(world, files, path, new_has_sums, work, to);
     }
-    let mut files = files;
     let was_said = tell_opening(world.rt, path, world.shown);
     match cleared(
         world.rt,
         was_said,
-        open_desk_to_look(world.rt, &mut files, path),
+        open_desk_to_look(world.rt, files, path),
     ) {
         Ok(Some(desk)) => look::<F, S, W>(world, desk, work, to),
         Ok(None) => do_with_log(world, files, path, new_has_sums, work, to),
@@ -209,17 +210,16 @@ fn try_to_look<F: Files>(rt: &HostRuntime, files: &mut F, path: &str) -> Result<
 // beside a file that is no inventory nothing is made.
 fn audit_with_log<F: Files, S: Sheets, W: Write + Drop>(
     world: &World<'_, HostRuntime, S>,
-    files: F,
+    files: &mut F,
     path: &str,
     new_has_sums: bool,
     work: Work<'_>,
     to: W,
 ) -> Result<(W, Ending), ProgramFault>
     ensures { EndsWithLog (S.text_of world.now.sheets.now) F.Kept.may_hold F.has_opened
-        work.entry (W.contents to) (printed W.contents result) }
+        (F.may_find files.new) work.entry (W.contents to) (printed W.contents result) }
 {
-    let mut files = files;
-    match try_to_look(world.rt, &mut files, path) {
+    match try_to_look(world.rt, files, path) {
         Ok(()) => do_with_log(world, files, path, new_has_sums, work, to),
         Err(fault) => Ok((to, Ending::Stopped(ProgramFault::from(fault)))),
     }
@@ -241,14 +241,14 @@ fn tell_making(rt: &HostRuntime, path: &str, shown: ProgressDisplay) {
 // sheet is tried in a fresh one.
 fn do_in_new<F: Files, S: Sheets, W: Write + Drop>(
     world: &World<'_, HostRuntime, S>,
-    files: F,
+    files: &mut F,
     path: &str,
     new_has_sums: bool,
     work: Work<'_>,
     to: W,
 ) -> Result<(W, Ending), ProgramFault>
     ensures { EndsInFile ⟦<Plain as Holder>⟧.may_hold F.Kept.may_hold F.Seen.may_hold
-        F.has_opened F.has_read (S.text_of world.now.sheets.now)
+        F.has_opened F.has_read (F.may_find files.new) (S.text_of world.now.sheets.now)
         work.entry (W.contents to) (printed W.contents result) }
 {
     if makes(&work) {
@@ -264,7 +264,7 @@ fn do_in_new<F: Files, S: Sheets, W: Write + Drop>(
 // Does work at a path, by what stands there. Where an inventory has to be there, none is made.
 fn do_at_path<F: Files, S: Sheets, W: Write + Drop>(
     world: &World<'_, HostRuntime, S>,
-    files: F,
+    files: &mut F,
     path: &str,
     new_has_sums: bool,
     existing: bool,
@@ -272,7 +272,7 @@ fn do_at_path<F: Files, S: Sheets, W: Write + Drop>(
     to: W,
 ) -> Result<(W, Ending), ProgramFault>
     ensures { EndsInFile ⟦<Plain as Holder>⟧.may_hold F.Kept.may_hold F.Seen.may_hold
-        F.has_opened F.has_read (S.text_of world.now.sheets.now)
+        F.has_opened F.has_read (F.may_find files.new) (S.text_of world.now.sheets.now)
         work.entry (W.contents to) (printed W.contents result) }
 {
     match site_at(world.rt, path) {
@@ -299,14 +299,14 @@ fn give_page<R: Runtime<A = Global>, W: Write + Drop>(
 // Does a task: writes the page, or works in the inventory that it names.
 fn do_task<F: Files, S: Sheets, W: Write + Drop>(
     world: &World<'_, HostRuntime, S>,
-    files: F,
+    files: &mut F,
     task: Task<'_>,
     new_has_sums: bool,
     existing: bool,
     to: W,
 ) -> Result<(W, Ending), ProgramFault>
     ensures { EndsTask ⟦<Plain as Holder>⟧.may_hold F.Kept.may_hold F.Seen.may_hold
-        F.has_opened F.has_read (S.text_of world.now.sheets.now)
+        F.has_opened F.has_read (F.may_find files.new) (S.text_of world.now.sheets.now)
         task.entry (W.contents to) (printed W.contents result) }
 {
     match task {
@@ -322,19 +322,19 @@ fn do_task<F: Files, S: Sheets, W: Write + Drop>(
 
 /// Reads the words of a job, and then opens its inventory, if it has one. With `existing` no file is made. All answers are
 /// written to `to`, replies to the sheets of a file in groups, and it is given back with how the program ends; the page
-/// goes into its folder.
+/// goes into its folder. `files` has then the files that were closed.
 ///
 /// # Errors
 /// `Write` where not all was written, and `Memory` where there is none for what is to be written.
 pub fn do_job<F: Files, S: Sheets, W: Write + Drop>(
     world: &World<'_, HostRuntime, S>,
-    files: F,
+    files: &mut F,
     job: &Job<'_>,
     existing: bool,
     to: W,
 ) -> Result<(W, Ending), ProgramFault>
     ensures { EndsJob ⟦<Plain as Holder>⟧.may_hold F.Kept.may_hold F.Seen.may_hold
-        F.has_opened F.has_read (S.text_of world.now.sheets.now)
+        F.has_opened F.has_read (F.may_find files.new) (S.text_of world.now.sheets.now)
         job.now (W.contents to) (printed W.contents result) }
 {
     match task_of(world.rt.alloc(), job) {

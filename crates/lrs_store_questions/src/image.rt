@@ -1,12 +1,12 @@
 //! The image of a store, read without a connection.
 
-ghost use Rattle.std.specs.Prelude.{◌≡◌, IfOk, OnOk, Result};
+ghost use Rattle.std.specs.Prelude.{◌≡◌, IfOk, OnOk, Err, Result};
 ghost use Rattle.sqlite_trees.specs.View.{IsClean};
 ghost use Rattle.lrs_machine.specs.declared.image.Image.{Image as ImageRows};
 ghost use Rattle.lrs_machine.specs.declared.table.Table.{Table as DeclaredTable};
 ghost use Rattle.lrs_machine.specs.Sound.{IsSound};
 ghost use Rattle.lrs_store_files.specs.SeenRows.{HasSeen, WasLookedAt};
-ghost use Rattle.lrs_store_questions.specs.Readings.{ListInventory, HasFirst, HasContent, Says, HoldsThere, IsTold};
+ghost use Rattle.lrs_store_questions.specs.Readings.{ListInventory, HasFirst, HasContent, Says, HoldsThere, IsTold, MayTell};
 
 use lrs_image::LoadFault;
 use lrs_machine::Image;
@@ -113,6 +113,9 @@ pub(crate) fn read_image<S: Alter>(alloc: Global, store: &mut S) -> Result<Image
     ensures sound { IfOk result IsSound }
     ensures told { OnOk result (IsClean (S.Store.view store.new)
         → IsTold S.Store.view store.new) }
+    ensures named { (t : DeclaredTable) → result ≡ Err (LoadFault.Unsound t)
+        → IsClean (S.Store.view store.new)
+        → MayTell S.Store.view S.Store.recovers (Err t) store.new }
 {
     store.rollback();
     read_content(alloc, store)
