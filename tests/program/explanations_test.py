@@ -42,6 +42,7 @@ BAD = [
     (["gone", "DB", "--edit", "x"], 'hint: "x" is no number of an edit;'),
     (["log", "DB", "x"], 'hint: "x" is no number of an edit;'),
     (["log", "DB", "--key", "a b"], 'hint: "a b" is no key;'),
+    (["log", "DB", "3", "--key", "k1"], 'hint: "3" is a second question beside --key;'),
     (["lengths", "DB", "--route", "a"], 'hint: "a" is no route name;'),
     (["where", "DB", "A1", "1,5"], 'hint: "1,5" is no chainage;'),
     (["where", "DB", "A1", "1", "5"], 'hint: "A1" is not link;'),

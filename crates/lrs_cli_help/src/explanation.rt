@@ -138,7 +138,9 @@ pub fn explain_unsound(rt: &HostRuntime, job: &Job<'_>, table: &str) {
         }
         None => {
             let rules = rules_of(table);
-            let _ = eprintln!(rt; "explain: {db}: Unsound:{table}: a rule of its rows is broken: {rules}");
+            let _ = eprintln!(rt;
+                "explain: {db}: Unsound:{table}: a rule of its rows is broken: {rules}"
+            );
         }
     }
     say(
@@ -338,6 +340,19 @@ pub fn explain_record(rt: &HostRuntime, job: &Job<'_>) {
         tell_check(rt, job);
     }
     say(rt, state_before_record(job));
+}
+
+/// Two records of the sheet have one key, so it does not go on.
+pub fn explain_repeated_key(rt: &HostRuntime, job: &Job<'_>) {
+    say_of(
+        rt,
+        sheet_of(job).unwrap_or(""),
+        "two of its records have one key, so it is not known behind which of them to go on; nothing was done",
+    );
+    say(
+        rt,
+        "take the second one out, or give it a key of its own, and send the sheet again with --resume",
+    );
 }
 
 /// The port cannot be listened on.

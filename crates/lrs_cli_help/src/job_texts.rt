@@ -84,10 +84,11 @@ fn other_in<'a>(job: &Job<'a>, word: BadWord) -> Option<&'a str> {
         (Job::Strip { side, .. }, BadWord::Side) => Some(side),
         (Job::List { what, .. }, BadWord::What) => Some(what),
         (Job::Gone { edit, .. }, BadWord::Edit) => *edit,
-        (Job::Log { from, .. }, BadWord::Number) => *from,
+        (Job::Log { from, .. }, BadWord::Number | BadWord::FromBesideKey) => *from,
         (Job::Log { key, .. }, BadWord::Key) => *key,
         (Job::Serve { port, .. }, BadWord::Port) => Some(port),
         (Job::Serve { max, .. }, BadWord::Max) => Some(max),
+        (Job::Serve { most_reply, .. }, BadWord::MostReply) => *most_reply,
         _ => None,
     }
 }
@@ -110,8 +111,10 @@ pub(crate) fn given<'a>(job: &Job<'a>, word: BadWord) -> Option<&'a str> {
         | BadWord::Edit
         | BadWord::Number
         | BadWord::Key
+        | BadWord::FromBesideKey
         | BadWord::Port
-        | BadWord::Max => other_in(job, word),
+        | BadWord::Max
+        | BadWord::MostReply => other_in(job, word),
     }
 }
 

@@ -2,7 +2,8 @@
 
 use lrs_cli_help::explanation::{
     explain_header, explain_keep, explain_memory, explain_open, explain_port, explain_read,
-    explain_record, explain_reopening, explain_unsound, explain_write, name_pages,
+    explain_record, explain_reopening, explain_repeated_key, explain_unsound, explain_write,
+    name_pages,
 };
 use lrs_cli_tasks::{ProgramFault, table_name};
 use lrs_cli_words::Job;
@@ -28,6 +29,7 @@ pub(crate) fn explain(
         ProgramFault::Write => explain_write(rt, job, failure),
         ProgramFault::BadHeader => explain_header(rt, job),
         ProgramFault::BadCsv => explain_record(rt, job),
+        ProgramFault::RepeatedKey => explain_repeated_key(rt, job),
         ProgramFault::Door => explain_port(rt, job),
     }
     name_pages(rt);

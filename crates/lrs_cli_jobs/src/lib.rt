@@ -7,6 +7,8 @@ mod jobs;
 mod output;
 mod program;
 mod service;
+#[cfg(test)]
+mod tests;
 
 pub use jobs::do_job;
 pub use lrs_cli_sheets::{Sheets, SystemSheets, World};

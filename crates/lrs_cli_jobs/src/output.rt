@@ -1,5 +1,6 @@
 //! Standard output, whose last failure is noted.
 
+use lrs_cli_sheets::write_out;
 use std::cell::Cell;
 use std::io;
 use std::io::Write;
@@ -20,7 +21,7 @@ impl<'a> Output<'a> {
 
 impl<'a> Write for Output<'a> {
     fn write(&mut self, buf: &[u8]) -> io::Result<usize> {
-        let written = io::writer(self.rt).write(buf);
+        let written = write_out(self.rt, buf);
         if let Err(error) = &written {
             self.failure.set(Some(*error));
         }

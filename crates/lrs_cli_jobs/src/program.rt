@@ -34,14 +34,14 @@ fn is_explained(
 // stops it.
 fn do_explained<F: Files, S: Sheets>(
     world: &World<'_, HostRuntime, S>,
-    files: F,
+    mut files: F,
     job: &Job<'_>,
     options: Options,
 ) -> Ending {
     let rt = world.rt;
     let failure = Cell::new(None);
     let output = Output::new(rt, &failure);
-    let ending = match do_job(world, files, job, options.existing, output) {
+    let ending = match do_job(world, &mut files, job, options.existing, output) {
         Ok((_, ending)) => ending,
         Err(fault) => Ending::Stopped(fault),
     };
