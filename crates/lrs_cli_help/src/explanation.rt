@@ -1,5 +1,6 @@
 //! What stands behind each fault of a job, and what to do about it: lines on standard error.
 
+use crate::contents::Contents;
 use crate::flaw::tell_flaw;
 use crate::holder::Holder;
 use crate::inspection::{Found, inspect};
@@ -40,6 +41,32 @@ fn tell_holder(rt: &HostRuntime, db: &str, holder: &Option<Holder>) {
     }
 }
 
+// Says what a database has.
+fn tell_contents(rt: &HostRuntime, db: &str, contents: &Contents) {
+    match contents {
+        Contents::Inventory => say_of(
+            rt,
+            db,
+            "the file is in order; its log named -wal could not be opened, or not made",
+        ),
+        Contents::OtherOrder => say_of(
+            rt,
+            db,
+            "the tables of an inventory, made in another order or with other columns",
+        ),
+        Contents::Added(sort, name) => {
+            let _ = eprintln!(rt; "explain: {db}: it has {sort} {name}, which no inventory has");
+        }
+        Contents::Tables(names) => {
+            let _ = eprintln!(rt;
+                "explain: {db}: a database with other tables than an inventory's:{names}"
+            );
+        }
+        Contents::Unreadable(why) => say_of(rt, db, why.as_str()),
+        Contents::Unknown => say_of(rt, db, "a database that is too large to be looked into here"),
+    }
+}
+
 // Says what stands at the path of an inventory.
 fn tell_found(rt: &HostRuntime, job: &Job<'_>, existing: bool, db: &str, found: &Found) {
     let what = match found {
@@ -55,21 +82,11 @@ fn tell_found(rt: &HostRuntime, job: &Job<'_>, existing: bool, db: &str, found: 
         Found::NoFile => "it is a device, a pipe or a socket",
         Found::SecondName => "the file has a second name, by a hard link",
         Found::Journal => "a journal of SQLite's lies beside it, or something else of that name",
-        Found::Refused(why) | Found::NoDatabase(why) | Found::Unreadable(why) => why.as_str(),
+        Found::Empty => "the file is empty",
+        Found::Refused(why) => why.as_str(),
         Found::InUse(holder) => return tell_holder(rt, db, holder),
-        Found::Tables(names) => {
-            let _ = eprintln!(rt;
-                "explain: {db}: a database with other tables than an inventory's:{names}"
-            );
-            return;
-        }
-        Found::Added(sort, name) => {
-            let _ = eprintln!(rt; "explain: {db}: it has {sort} {name}, which no inventory has");
-            return;
-        }
-        Found::OtherOrder => {
-            "the tables of an inventory, made in another order or with other columns"
-        }
+        Found::NoDatabase => "it is not a database of SQLite's",
+        Found::Database(contents) => return tell_contents(rt, db, contents),
         Found::Unknown => "memory ran out before it was looked at",
     };
     say_of(rt, db, what);
@@ -86,6 +103,28 @@ fn cure_of_nothing(job: &Job<'_>, existing: bool) -> &'static str {
     }
 }
 
+// Says what to do about what a database has.
+fn tell_cure_of_contents(rt: &HostRuntime, db: &str, contents: &Contents) {
+    let cure = match contents {
+        Contents::Inventory => "the file, its log and their folder must be open to you to write",
+        Contents::OtherOrder => {
+            "docs/OPERATING.md says how to copy its rows into a new file; this one was not changed"
+        }
+        Contents::Added(sort, name) => {
+            let _ = eprintln!(rt;
+                "explain: sqlite3 {db} 'DROP {sort} {name}' takes it away; the file was not changed"
+            );
+            return;
+        }
+        Contents::Tables(_) => "name another file; this one was not changed",
+        Contents::Unreadable(_) => {
+            "it is damaged or cut short: restore a copy; or has a trigger, which sqlite3 shows by .schema"
+        }
+        Contents::Unknown => "sqlite3 shows by .schema what it has",
+    };
+    say(rt, cure);
+}
+
 // Says what to do about what stands at the path of an inventory.
 fn tell_cure(rt: &HostRuntime, job: &Job<'_>, existing: bool, db: &str, found: &Found) {
     let cure = match found {
@@ -97,24 +136,16 @@ fn tell_cure(rt: &HostRuntime, job: &Job<'_>, existing: bool, db: &str, found: &
         Found::Folder | Found::NoFile => "name a file",
         Found::SecondName => "take one of the names away: the log can lie beside one alone",
         Found::Journal => "open it with sqlite3, which plays the journal back",
+        Found::Empty if makes_inventory(job) => {
+            "the file, its log named -wal and their folder must be open to you to write"
+        }
+        Found::Empty => "name an inventory; edit and survey make one in an empty file",
         Found::Refused(_) => {
             "the file, its log named -wal and their folder must be open to you to write"
         }
         Found::InUse(_) => "end that program, or ask it: one program at a time has the file",
-        Found::NoDatabase(_) => "it is no database of SQLite, or is damaged: restore a copy",
-        Found::Unreadable(_) => {
-            "it is damaged or cut short: restore a copy; or has a trigger, which sqlite3 shows by .schema"
-        }
-        Found::Tables(_) => "name another file; this one was not changed",
-        Found::Added(sort, name) => {
-            let _ = eprintln!(rt;
-                "explain: sqlite3 {db} 'DROP {sort} {name}' takes it away; the file was not changed"
-            );
-            return;
-        }
-        Found::OtherOrder => {
-            "docs/OPERATING.md says how to copy its rows into a new file; this one was not changed"
-        }
+        Found::NoDatabase => "name another file, or restore a copy; this one was not changed",
+        Found::Database(contents) => return tell_cure_of_contents(rt, db, contents),
         Found::Unknown => "give more memory",
     };
     say(rt, cure);

@@ -1,7 +1,10 @@
 //! Which process has a file locked, as far as the system says it.
 
+use os::RangeLock;
 use std::alloc::Global;
 use std::fs;
+use std::fs::OpenOptions;
+use std::os::fd::AsRawFd;
 use std::os::unix::fs::MetadataExt;
 use std::rt::HostRuntime;
 
@@ -71,4 +74,15 @@ pub(crate) fn holder_of(rt: &HostRuntime, path: &str) -> Option<Holder> {
     let process = process_among(rt.alloc(), locks.as_str(), inode)?;
     let name = name_of(rt, process)?;
     Some(Holder { process, name })
+}
+
+/// Whether another program has the database at a path locked. The lock that tries it goes as the file is closed.
+pub(crate) fn is_locked(rt: &HostRuntime, path: &str) -> bool {
+    let length = BEHIND_LOCKED - FIRST_LOCKED;
+    match OpenOptions::new().read(true).write(true).open(rt, path) {
+        Ok(file) => {
+            os::try_lock_range(file.as_raw_fd(), RangeLock::Exclusive, FIRST_LOCKED, length) != 0
+        }
+        Err(_) => false,
+    }
 }

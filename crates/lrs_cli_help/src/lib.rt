@@ -1,6 +1,8 @@
 //! What the program says beside its answers: help on verbs, hints on words that cannot be read, explanations of faults.
 #![tactic(auto)]
 
+mod contents;
+mod copy;
 pub mod explanation;
 mod flaw;
 mod hints;

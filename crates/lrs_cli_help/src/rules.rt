@@ -1,5 +1,6 @@
 //! The rules of the tables of an inventory, and a row that breaks one of them, where SQL can tell.
 
+use crate::copy::connect_to_copy;
 use crate::shown::shown;
 use sqlite::{Alter, Connection, Error};
 use std::alloc::Global;
@@ -151,9 +152,10 @@ fn broken_in<S: Alter + Drop>(
 }
 
 /// A row of a table in the file at a path that breaks a rule of its own, by its key. None where the rows have to be seen
-/// together, or the file is not opened once more.
+/// together, or the file is not looked into.
 pub(crate) fn broken_row(rt: &HostRuntime, path: &str, table: &str) -> Option<BrokenRow> {
-    broken_in(rt.alloc(), Connection::open(rt, path), table)
+    let conn = connect_to_copy(rt, path)?;
+    broken_in(rt.alloc(), conn, table)
 }
 
 /// What has to be so of all rows of a table.
