@@ -58,7 +58,10 @@ fn listed(route: &RouteChange) -> usize
         + length route.now.spans_gone + length route.now.spans_come) (2 ^ 64 - 1) }
 {
     let refs = route.refs.gone.len().saturating_add(route.refs.come.len());
-    let spans = route.spans_gone.len().saturating_add(route.spans_come.len());
+    let spans = route
+        .spans_gone
+        .len()
+        .saturating_add(route.spans_come.len());
     refs.saturating_add(spans)
 }
 
