@@ -71,7 +71,6 @@ impl Spans {
         low: u64,
         high: u64,
     ) -> Result<Removal, AllocError>
-        requires { low < high }
         ensures rest { OnOk result (IsLess (λ c a j s.
             same_name c class && nat_eq a asset && is_within low high j) self.old self.new) }
         ensures left { IfOk result (λ removal. IsThat (λ c a j s.

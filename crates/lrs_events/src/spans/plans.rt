@@ -1,6 +1,6 @@
 //! Plans: what a call would change. Each reads the rows and changes nothing.
 
-ghost use Rattle.std.specs.Prelude.{◌≡◌, ◌<◌, ◌≤◌, ◌&&◌, nat_eq, nat_lt, IsTrue, IfOk, filter};
+ghost use Rattle.std.specs.Prelude.{◌≡◌, ◌≤◌, ◌&&◌, nat_eq, nat_lt, IsTrue, IfOk, filter};
 ghost use Rattle.lrs_measure.specs.Texts.{same_name};
 ghost use Rattle.lrs_measure.specs.Limits.{longest_route};
 ghost use Rattle.lrs_events.specs.Changes.{changed_rows};
@@ -46,7 +46,6 @@ impl Spans {
         low: u64,
         high: u64,
     ) -> Result<Removal, AllocError>
-        requires { low < high }
         ensures plan { IfOk result (λ removal. IsPlan self.now removal.change) }
         ensures removal { IfOk result (λ removal. IsRemoval (λ class asset j s.
             is_within low high j) self.now removal) }
@@ -68,7 +67,6 @@ impl Spans {
         low: u64,
         high: u64,
     ) -> Result<Removal, AllocError>
-        requires { low < high }
         ensures plan { IfOk result (λ removal. IsPlan self.now removal.change) }
         ensures removal { IfOk result (λ removal. IsRemoval (λ c a j s.
             same_name c class && nat_eq a asset && is_within low high j) self.now removal) }

@@ -19,12 +19,15 @@ use std::alloc::{AllocError, Global};
 
 impl Spans {
     /// The least asset of the class with a millimetre of the stretch, from chainage `from` up to `to`, on a side
-    /// that it shares with `side`; None where nobody has one.
+    /// that it shares with `side`; None where nobody has one, as on an empty stretch.
     pub fn over(&self, from: u64, to: u64, class: ClassName, side: Side) -> Option<u64>
-        requires { from < to }
         ensures { IsOver self.now class from to side result }
     {
-        search::over(self.kept.rows(), self.kept.lanes(), from, to, class, side)
+        if from < to {
+            search::over(self.kept.rows(), self.kept.lanes(), from, to, class, side)
+        } else {
+            None
+        }
     }
 
     /// The rows of the class with this side of the route or both, each once, by start and then by asset.
