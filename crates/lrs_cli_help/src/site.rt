@@ -26,6 +26,7 @@ pub enum Site {
 }
 
 /// What is at a path.
+#[derive(Clone, Copy)]
 enum Object {
     Nothing,
     /// A file of so many bytes.
@@ -59,19 +60,19 @@ fn was_copied(rt: &HostRuntime, log: &str) -> io::Result<bool> {
 }
 
 // What stands where a file has fewer bytes than a header.
-fn site_beside(rt: &HostRuntime, file: &Object, log_path: &str) -> io::Result<Site> {
-    let log = object_at(rt, log_path);
-    Ok(match (file, log) {
-        (Object::Nothing | Object::File(0), Object::Nothing) => Site::Vacant,
-        (Object::File(0 | 1), Object::File(len)) if len <= EMPTY_LOG => {
+fn site_beside(rt: &HostRuntime, file: Object, log_path: &str) -> io::Result<Site> {
+    match (file, object_at(rt, log_path)) {
+        (Object::Nothing, Object::Nothing) => Ok(Site::Vacant),
+        (Object::File(len), Object::Nothing) if len == 0 => Ok(Site::Vacant),
+        (Object::File(len), Object::File(of_log)) if len <= 1 && of_log <= EMPTY_LOG => {
             if was_copied(rt, log_path)? {
-                Site::Foreign
+                Ok(Site::Foreign)
             } else {
-                Site::Remnant
+                Ok(Site::Remnant)
             }
         }
-        _ => Site::Foreign,
-    })
+        _ => Ok(Site::Foreign),
+    }
 }
 
 /// What stands at a path. Where the system does not say, or memory runs out, it is `Foreign`.
@@ -85,5 +86,5 @@ pub fn site_at(rt: &HostRuntime, path: &str) -> Site {
     let Ok(log) = log_path(rt, path) else {
         return Site::Foreign;
     };
-    site_beside(rt, &file, log.as_str()).unwrap_or(Site::Foreign)
+    site_beside(rt, file, log.as_str()).unwrap_or(Site::Foreign)
 }
