@@ -94,9 +94,9 @@ fn has_tables_in_order<S: Alter>(conn: &Connection<S>) -> bool {
     if tables.len() != TABLES.len() {
         return false;
     }
-    for (place, (name, width)) in TABLES.iter().enumerate() {
-        let table = &tables[place];
-        if table.name.as_slice() != name.as_bytes() || table.columns.as_slice().len() != *width {
+    for (place, table) in tables.iter().enumerate() {
+        let (name, width) = TABLES[place];
+        if table.name.as_slice() != name.as_bytes() || table.columns.as_slice().len() != width {
             return false;
         }
     }

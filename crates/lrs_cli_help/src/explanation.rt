@@ -103,6 +103,15 @@ fn cure_of_nothing(job: &Job<'_>, existing: bool) -> &'static str {
     }
 }
 
+// What to do about an empty file.
+fn cure_of_empty(job: &Job<'_>) -> &'static str {
+    if makes_inventory(job) {
+        "the file, its log named -wal and their folder must be open to you to write"
+    } else {
+        "name an inventory; edit and survey make one in an empty file"
+    }
+}
+
 // Says what to do about what a database has.
 fn tell_cure_of_contents(rt: &HostRuntime, db: &str, contents: &Contents) {
     let cure = match contents {
@@ -136,10 +145,7 @@ fn tell_cure(rt: &HostRuntime, job: &Job<'_>, existing: bool, db: &str, found: &
         Found::Folder | Found::NoFile => "name a file",
         Found::SecondName => "take one of the names away: the log can lie beside one alone",
         Found::Journal => "open it with sqlite3, which plays the journal back",
-        Found::Empty if makes_inventory(job) => {
-            "the file, its log named -wal and their folder must be open to you to write"
-        }
-        Found::Empty => "name an inventory; edit and survey make one in an empty file",
+        Found::Empty => cure_of_empty(job),
         Found::Refused(_) => {
             "the file, its log named -wal and their folder must be open to you to write"
         }
