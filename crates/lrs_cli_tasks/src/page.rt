@@ -21,14 +21,14 @@ fn make_folder<R: Runtime<A = Global>>(rt: &R, dir: &str) -> io::Result<()> {
 }
 
 // Writes the page to a file of another name, until all of it is on the disk.
-fn write_part<R: Runtime<A = Global>>(rt: &R, part: &Path) -> io::Result<()> {
+fn write_part<R: Runtime<A = Global>>(rt: &R, part: Path<'_>) -> io::Result<()> {
     let mut file = fs::create(rt, part)?;
     write_page(&mut file)?;
     file.sync_all()
 }
 
 // Writes the page, and puts it in its place. Where that fails, what stands there stays, and the part is removed.
-fn put_page<R: Runtime<A = Global>>(rt: &R, part: &Path, page: &Path) -> io::Result<()> {
+fn put_page<R: Runtime<A = Global>>(rt: &R, part: Path<'_>, page: Path<'_>) -> io::Result<()> {
     let put = match write_part(rt, part) {
         Ok(()) => fs::rename(rt, part, page),
         Err(error) => Err(error),

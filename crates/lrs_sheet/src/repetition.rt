@@ -46,11 +46,7 @@ fn key_of(alloc: Global, row: &SheetRecord<'_>) -> Result<Option<Key>, SheetFaul
 }
 
 /// Notes that the record of this number has a key, and answers which had it before.
-fn note(
-    seen: &mut BTreeMap<Key, u32>,
-    key: Key,
-    number: u32,
-) -> Result<Option<u32>, SheetFault>
+fn note(seen: &mut BTreeMap<Key, u32>, key: Key, number: u32) -> Result<Option<u32>, SheetFault>
     ensures before { IfOk result (λ before. before ≡ number_of seen.old key) }
     ensures noted { OnOk result (Updates (slice_cmp nat_cmp) seen.old seen.new key (Some number)) }
     ensures memory { IfErr result (λ e. e ≡ SheetFault.Memory) }
