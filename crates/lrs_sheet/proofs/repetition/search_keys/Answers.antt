@@ -25,11 +25,11 @@ loop-turn-preserved g c =
     let found = c.in-Ok-true.field-0-test in
     let wide = rw c.loop-turn.invariant.width at (c.in-Ok-true.ensures.same_width found) in
     looked_next c.args.sheet g.R.Read.remaining c.args.rows.now c.loop-turn.rows c.next_row.new.rows c.loop-turn.seen c.take_key.new.seen c.loop-turn.turn c.loop-turn.invariant (fields_of c.next_row.new.row)
-    (c.in-Ok-true.ensures.plain found) (c.in-Ok-true.ensures.width found) wide (c.in-Ok-true.ensures.found found) c.in-Ok-None.ensures.taken
+    (c.in-Ok-true.ensures.plain found) (c.in-Ok-true.ensures.width found) wide (c.in-Ok-true.ensures.found found) (rw c.in-Ok-None.field-0-is at c.in-Ok-None.ensures.taken)
 
 pub returns-in-Ok-Some-clause-found : goal.returns-in-Ok-Some-clause-found
 returns-in-Ok-Some-clause-found g c =
     let found = c.in-Ok-true.field-0-test in
     let wide = rw c.loop-turn.invariant.width at (c.in-Ok-true.ensures.same_width found) in
     found_twice c.args.sheet g.R.Read.remaining c.args.rows.now c.loop-turn.rows c.next_row.new.rows c.loop-turn.seen c.take_key.new.seen c.loop-turn.turn c.loop-turn.invariant (fields_of c.next_row.new.row)
-    (c.in-Ok-true.ensures.plain found) (c.in-Ok-true.ensures.width found) wide (c.in-Ok-true.ensures.found found) c.in-Ok-Some.twice c.in-Ok-Some.ensures.taken
+    (c.in-Ok-true.ensures.plain found) (c.in-Ok-true.ensures.width found) wide (c.in-Ok-true.ensures.found found) c.in-Ok-Some.twice (rw c.in-Ok-Some.field-0-is at c.in-Ok-Some.ensures.taken)
