@@ -187,11 +187,7 @@ fn do_in_file<F: Files, S: Sheets, W: Write + Drop>(
         return do_with_log(world, files, path, new_has_sums, work, to);
     }
     let was_said = tell_opening(world.rt, path, world.shown);
-    match cleared(
-        world.rt,
-        was_said,
-        open_desk_to_look(world.rt, files, path),
-    ) {
+    match cleared(world.rt, was_said, open_desk_to_look(world.rt, files, path)) {
         Ok(Some(desk)) => look::<F, S, W>(world, desk, work, to),
         Ok(None) => do_with_log(world, files, path, new_has_sums, work, to),
         Err(fault) => Ok((to, Ending::Stopped(ProgramFault::from(fault)))),
