@@ -85,7 +85,7 @@ def test_the_command_of_a_key(db):
     ends(run("log", db, "--key", "e55"), b"", 1, b"roadlrs: NoKey\n")
 
 
-@pytest.mark.parametrize("words", [["0"], ["x"], ["--key", ""], ["--key", "a b"], ["10000001"], ["1", "2"], ["--key"]])
+@pytest.mark.parametrize("words", [["0"], ["x"], ["--key", ""], ["--key", "a b"], ["10000001"], ["1", "2"], ["--key"], ["2", "--key", "e5"]])
 def test_misused_words_of_the_log(db, words):
     ended = run("log", db, *words)
     assert (ended.stdout, ended.status) == (b"", 2) and ended.stderr, ended

@@ -8,7 +8,7 @@ import threading
 
 import pytest
 
-from program import BUILT, FIRST, FIRST_REPLIES, PROGRAM, TOP, ends, faults, refuses_word, run
+from program import BUILT, FIRST, FIRST_REPLIES, PROGRAM, TOP, ends, faults, refuses_word, run, with_files_up_to
 
 
 def is_misused(ended):
@@ -184,6 +184,7 @@ OPTIONS = {
     b"--survey": (b"The sheet is a survey", ["check"]),
     b"--log": (b"Writes a line for each request on standard error, and a count at the end", ["serve"]),
     b"--end-on-fault": (b"Ends with status 3 once the inventory was not written", ["serve"]),
+    b"--most-reply <BYTES>": (b"How many bytes a reply has at most, 67108864 unless said; a longer one is a 503", ["serve"]),
 }
 
 
@@ -324,6 +325,7 @@ MISUSED_REPORTS = [
     ["gone", ":memory:", "1"],
     ["log", ":memory:", "0"],
     ["log", ":memory:", "--key", "a key"],
+    ["log", ":memory:", "1", "--key", "k1"],
     ["audit"],
     ["audit", ":memory:", "more"],
 ]
@@ -375,8 +377,20 @@ def test_folders_that_cannot_have_the_page(tmp_path):
 
 
 def test_a_disk_without_room_for_the_page(tmp_path):
-    (tmp_path / "index.html").symlink_to("/dev/full")
-    faults(run("page", ".", cwd=tmp_path), "Write")
+    """The page that stood there stays, and nothing is left beside it."""
+    (tmp_path / "index.html").write_text("an older page")
+    faults(run("page", ".", cwd=tmp_path, **with_files_up_to(1000)), "Write")
+    assert [path.name for path in tmp_path.iterdir()] == ["index.html"]
+    assert (tmp_path / "index.html").read_text() == "an older page"
+
+
+def test_a_page_that_is_being_served_is_never_a_part(tmp_path):
+    """Who has the old page open goes on reading it."""
+    (tmp_path / "index.html").write_text("an older page")
+    with open(tmp_path / "index.html") as old:
+        ends(run("page", ".", cwd=tmp_path), b"", 0)
+        assert old.read() == "an older page"
+    has_page(tmp_path)
 
 
 @pytest.mark.parametrize("words", [["page"], ["page", "www", "more"], ["page", "--from", "5", "www"], ["page", "--", "www", "more"]], ids=" ".join)

@@ -145,7 +145,78 @@ def test_sheets_of_chance_go_on(top):
         assert rows_of(top / f"{turn}.db") == rows_of(top / f"whole{turn}.db")
 
 
+# ---- a key that stands twice
+
+
+def twice(first, second, key):
+    return f"records {first} and {second} have one key, {key}\nroadlrs: fault RepeatedKey\n".encode()
+
+
+REPEATED = [
+    (["a,link,1,5", "b,link,2,5", "c,link,3,5", "a,link,1,5"], (1, 4, "a")),
+    (["a,link,1,5", "b,link,2,5", "b,link,3,5", "a,link,1,5"], (2, 3, "b")),
+    (["a,link,1,5", "a,link,1,5", "a,link,1,5"], (1, 2, "a")),
+    (["b,link,x,5", "a,link,1,5", "b,link,2,5", "b,link,x,6", "b,link,3,5"], (3, 5, "b")),
+]
+
+
+@pytest.mark.parametrize("texts, found", REPEATED)
+@pytest.mark.parametrize("options", [[], ["--all"]], ids=["each", "all"])
+def test_a_sheet_with_a_key_twice_does_not_go_on(top, texts, found, options):
+    """Its first record may be done, and those between the two not."""
+    db = top / "roads.db"
+    edit(db, sheet_of(*texts[:1]))
+    before = rows_of(db)
+    ends(run("edit", db, "stdin", "--resume", *options, given=sheet_of(*texts)), b"", 3, twice(*found))
+    assert rows_of(db) == before
+    ends(run("edit", ":memory:", "stdin", "--resume", *options, given=sheet_of(*texts)), b"", 3, twice(*found))
+    assert b"RepeatedKey" not in run("edit", db, "stdin", *options, given=sheet_of(*texts)).stderr
+
+
+def test_without_its_second_record_it_goes_on(top):
+    ends(edit(top / "roads.db", sheet_of("a,link,1,5")), b"a,done,1\n", 0)
+    ended = run("edit", top / "roads.db", "stdin", "--resume", given=sheet_of("a,link,1,5", "b,link,2,5", "c,link,3,5"))
+    ends(ended, b"b,done,2\nc,done,3\n", 0, behind(1, "a"))
+
+
+def test_records_without_a_key_or_behind_another_length_play_no_part(top):
+    malformed = sheet_of("a,link,x,5", "a,link,1,5", "a,link,x,5")
+    ends(run("edit", ":memory:", "stdin", "--resume", given=malformed), b"a,refused,Malformed:a\na,done,1\na,refused,Malformed:a\n", 1, AT_FIRST)
+    cut = sheet_of("a,link,1,5") + b"of one field\n" + record("a,link,1,5")
+    ends(run("edit", ":memory:", "stdin", "--resume", given=cut), b"a,done,1\n", 3, AT_FIRST + b"roadlrs: fault BadCsv\n")
+
+
+def test_a_survey_with_a_key_twice_does_not_go_on(top):
+    ends(edit(top / "roads.db", FIRST), FIRST_REPLIES, 0)
+    header = b"key,asset,class,route,side,method,from,to,value,offset\n"
+    surveyed = header + b"a1,10,SPEED,A1,L,abs,10,20,50,0\na2,11,SPEED,A1,L,abs,30,40,50,0\na1,12,SIGN,A1,L,abs,15,,STOP,0\n"
+    ends(run("survey", top / "roads.db", "stdin", "--resume", given=surveyed), b"", 3, twice(1, 3, "a1"))
+
+
+def test_keys_of_chance(top):
+    """The first record whose key stood before is found, as a set of the keys finds it."""
+    chance = random.Random(41)
+    for turn in range(40):
+        keys = [f"k{chance.randint(0, 40 * (1 + turn % 5))}" for _ in range(30)]
+        found = next(((keys.index(key) + 1, n + 1, key) for n, key in enumerate(keys) if key in keys[:n]), None)
+        ended = run("edit", ":memory:", "stdin", "--resume", given=sheet_of(*(f"{key},link,{n + 1},5" for n, key in enumerate(keys))))
+        if found:
+            ends(ended, b"", 3, twice(*found))
+        else:
+            assert (ended.status, ended.stderr) == (0, AT_FIRST), (turn, ended)
+
+
 # ---- over HTTP
+
+
+def test_a_sheet_with_a_key_twice_does_not_go_on_over_http(top):
+    db = top / "roads.db"
+    ends(edit(db, sheet_of("a,link,1,5")), b"a,done,1\n", 0)
+    sheet = sheet_of("a,link,1,5", "b,link,2,5", "a,link,1,5")
+    with serving(3, db) as server:
+        server.answers(request("POST /v1/edits?resume=1", sheet), sheet_reply(b"-,fault,RepeatedKey\n", 422))
+        server.answers(request("POST /v1/surveys?resume=1", sheet), sheet_reply(b"-,fault,BadHeader\n", 422))
+        server.answers(request("POST /v1/edits", sheet), sheet_reply(b"a,again,1\nb,done,2\na,again,1\n"))
 
 
 def test_a_sheet_goes_on_over_http(top):

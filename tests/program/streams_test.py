@@ -1,11 +1,13 @@
 """Where replies, help and progress go: full devices, closed streams, terminals; and sheets that come slowly."""
 
+import os
 import pathlib
 import re
 import resource
 import socket
 import subprocess
 import tempfile
+import time
 
 from program import (
     FIRST,
@@ -27,6 +29,7 @@ from program import (
 LONG, LONG_REPLIES = long_sheet(60_000)
 BAD_RECORD = b"of one field\n"
 PROGRESS_TAKEN_AWAY = rb"(?:\r\d+ records)+\r\x1b\[K"
+EXPLAINED = rb"(?:explain: [^\r\n]+\r\n)+"
 
 
 def onto_full_device(*words, given=b""):
@@ -131,6 +134,36 @@ def test_a_sheet_that_comes_byte_by_byte():
     ends(Ended(subprocess.CompletedProcess([], child.returncode, stdout, stderr)), FIRST_REPLIES, 0)
 
 
+def test_a_standard_input_that_does_not_wait():
+    """Another program may have set the pipe so: what is still to come is waited for."""
+    reader, writer = os.pipe()
+    os.set_blocking(reader, False)
+    with subprocess.Popen([PROGRAM, "edit", ":memory:", "stdin"], stdin=reader, stdout=subprocess.PIPE, stderr=subprocess.PIPE) as child:
+        os.close(reader)
+        with open(writer, "wb", buffering=0) as sheet:
+            for start in range(0, len(FIRST), 60):
+                time.sleep(0.1)
+                sheet.write(FIRST[start : start + 60])
+        stdout, stderr = child.communicate(timeout=PATIENCE)
+    ends(Ended(subprocess.CompletedProcess([], child.returncode, stdout, stderr)), FIRST_REPLIES, 0)
+
+
+def test_a_standard_output_that_does_not_wait():
+    """A reader that is slow gets all lines."""
+    reader, writer = os.pipe()
+    os.set_blocking(writer, False)
+    with tempfile.TemporaryDirectory() as folder:
+        sheet = pathlib.Path(folder) / "sheet"
+        sheet.write_bytes(LONG)
+        with subprocess.Popen([PROGRAM, "edit", ":memory:", str(sheet)], stdout=writer, stderr=subprocess.PIPE) as child:
+            os.close(writer)
+            time.sleep(1)
+            with open(reader, "rb") as replies:
+                stdout = replies.read()
+            stderr = child.communicate(timeout=PATIENCE)[1]
+    ends(Ended(subprocess.CompletedProcess([], child.returncode, stdout, stderr)), LONG_REPLIES, 0)
+
+
 def test_progress_is_shown_on_a_terminal_alone():
     ended, shown = run_on_terminal(LONG, "stderr")
     ends(ended, LONG_REPLIES, 0)
@@ -147,14 +180,23 @@ def test_a_short_sheet_shows_no_progress():
         assert shown == b"", shown
 
 
+def test_a_last_line_without_an_end_is_told_on_a_terminal():
+    note = b"note: the last line of the sheet has no end; look whether it was cut off\r\n"
+    for sheet, told in [(FIRST[:-1], note), (FIRST, b""), (FIRST.replace(b"\n", b"\r"), b""), (b"", b"")]:
+        ended, shown = run_on_terminal(sheet, "stderr")
+        ends(ended, FIRST_REPLIES if sheet else b"", 0)
+        assert shown == told, shown
+    ends(run_sheet(FIRST[:-1]), FIRST_REPLIES, 0)
+
+
 def test_progress_is_taken_away_before_a_fault():
     ended, shown = run_on_terminal(LONG + BAD_RECORD, "stderr")
     ends(ended, LONG_REPLIES, 3)
-    assert re.fullmatch(PROGRESS_TAKEN_AWAY + rb"roadlrs: fault BadCsv\r\n", shown), shown[-200:]
+    assert re.fullmatch(PROGRESS_TAKEN_AWAY + EXPLAINED + rb"roadlrs: fault BadCsv\r\n", shown), shown[-500:]
     with open("/dev/full", "wb") as full:
         ended, shown = run_on_terminal(LONG, "stderr", stdout=full)
     ends(ended, b"", 3)
-    assert shown == b"roadlrs: fault Write\r\n", shown[-200:]
+    assert re.fullmatch(EXPLAINED + rb"roadlrs: fault Write\r\n", shown), shown[-500:]
 
 
 def test_replies_on_a_terminal_are_whole_lines():

@@ -33,6 +33,7 @@ fn wanted(word: BadWord, method: Option<&str>) -> &'static str {
             "no number of an edit; a whole number from 1, as 8 in the reply KEY,done,8"
         }
         BadWord::Key => "no key; 1 to 40 of A-Z a-z 0-9 . : _ -, not - alone",
+        BadWord::FromBesideKey => "a second question beside --key; either FROM or --key KEY",
         BadWord::NotLink => "not link; either ROUTE CHAINAGE, or link LINK MM",
         BadWord::Link => "no link number; a whole number from 1 to 999999, as 101",
         BadWord::Millimetre => {
@@ -40,6 +41,8 @@ fn wanted(word: BadWord, method: Option<&str>) -> &'static str {
         }
         BadWord::Port => "no port; a whole number from 1 to 65535, as 8080",
         BadWord::Max => "no number of connections; a whole number from 0 to 1000000",
+        BadWord::MostReply =>
+            "no length of a reply; a whole number of bytes from 1 to 1000000000000",
     }
 }
 

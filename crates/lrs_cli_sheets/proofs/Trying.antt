@@ -50,6 +50,7 @@ two_faults holds before after (Err program.MustReopen) unwritten = absurd unwrit
 two_faults holds before after (Err program.Read) unwritten = absurd unwritten
 two_faults holds before after (Err program.BadHeader) unwritten = absurd unwritten
 two_faults holds before after (Err program.BadCsv) unwritten = absurd unwritten
+two_faults holds before after (Err program.RepeatedKey) unwritten = absurd unwritten
 two_faults holds before after (Err program.Door) unwritten = absurd unwritten
 
 -- what an edit sheet makes at a desk with full limits over the empty inventory
@@ -109,7 +110,9 @@ module _ {K : Type 0} (holds : K → Result Image Table → Type 0) (kind : Shee
     unwritten = refused.unwritten;
     ends = refused.ends;
   }))
-  all_known new ending (inr (inr untried)) = inr (inr untried)
+  all_known new ending (inr (inr (same, unwritten, inl failed))) = inr (inr (same, unwritten, inl failed))
+  all_known new ending (inr (inr (same, unwritten, inr (goes_on, text, is_text, fault, why, ends)))) =
+      inr (inr (same, unwritten, inr (goes_on, text, is_known text read known is is_text, fault, why, ends)))
 
   -- a sheet whose bytes were read is done as the sheet of its name
   pub all_as_named : {W : Type 0} (contents : W → Option (List ℕ)) (result : Result (W × Ending) ProgramFault) → IfOk result (λ done. EndsAll holds kind resumes (Some read) before after old (contents done.0) done.1)

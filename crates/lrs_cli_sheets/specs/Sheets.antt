@@ -8,15 +8,17 @@ use Rattle.lrs_sheet.specs.DeskView.{DeskView}
 use Rattle.lrs_sheet_records.specs.declared.sheet.Sheet.{Sheet}
 use Rattle.lrs_sheet_records.specs.declared.fault.SheetFault.{SheetFault}
 use Rattle.lrs_sheet.specs.declared.reply.Tally.{Tally}
+use Rattle.lrs_sheet.specs.declared.repetition.RepeatedKey.{RepeatedKey as Twice}
 use Rattle.lrs_sheet.specs.declared.resumption.Decided.{Decided}
 use Rattle.lrs_sheet.specs.declared.run.Run.{Run}
+use Rattle.lrs_sheet.specs.Repetition.{HasKeysOnce, IsRepeated}
 use Rattle.lrs_sheet.specs.Resumption.{IsDecidedBy}
 use Rattle.lrs_sheet.specs.Runs.{IsRunBehind}
 use Rattle.lrs_sheet.specs.Sheets.{GoesAlong, IsAfterCommands, MustReopen, records_together}
 use Rattle.lrs_cli_tasks.specs.declared.endings.Ending.{Ending}
 use Rattle.lrs_cli_tasks.specs.declared.endings.Ending.TheVariants.{Done, RecordsRefused, Stopped}
 use Rattle.lrs_cli_tasks.specs.declared.fault.ProgramFault.{ProgramFault}
-use Rattle.lrs_cli_tasks.specs.declared.fault.ProgramFault.TheVariants.{Memory, Read, Write}
+use Rattle.lrs_cli_tasks.specs.declared.fault.ProgramFault.TheVariants.{Memory, Read, RepeatedKey, Write}
 use Rattle.lrs_cli_sheets.specs.declared.sheets.Pace.{Pace}
 use Rattle.lrs_cli_sheets.specs.declared.sheets.Pace.TheVariants.{LineByLine, AsTheyArrive, InGroups, InPieces}
 use Rattle.lrs_cli_sheets.specs.declared.sheets.Way.{Way}
@@ -37,6 +39,18 @@ run_of way = record { sheet = way.kind; together = together_at way.pace; passed 
 abbrev pub ending_of_sheet : Result Tally SheetFault → Ending
 ending_of_sheet (Ok tally) = if tally.refused == 0 then Done else RecordsRefused
 ending_of_sheet (Err fault) = Stopped (fault_of_sheet fault)
+
+-- A sheet goes on behind this many records: those that are decided, where no two of all have one key.
+abbrev pub GoesOnBehind : Sheet → Image → Text → ℕ → Type 0
+GoesOnBehind kind image text passed = HasKeysOnce kind text × ((d : Decided) × (front : List (List Text)) × IsDecidedBy kind (state_of image) text d front × (passed ≡ d.records))
+
+-- Why a sheet does not go on: a key stands twice in it; or it is not known behind which record, for a fault of the search.
+abbrev pub DoesNotGoOn : Sheet → Text → ProgramFault → Type 0
+DoesNotGoOn kind text fault = ((twice : Twice) × IsRepeated kind text twice × (fault ≡ RepeatedKey)) ⊎ ((why : SheetFault) × (fault ≡ fault_of_sheet why))
+
+-- so the program ends, with a sheet of this text, where it is known
+abbrev pub EndsUnresumed : Sheet → Option Text → Ending → Type 0
+EndsUnresumed kind known ending = (text : Text) × IfSome known (λ t. text ≡ t) × (fault : ProgramFault) × DoesNotGoOn kind text fault × (ending ≡ Stopped fault)
 
 module _ {K : Type 0} (holds : K → Result Image Table → Type 0) where
   -- The desk goes along with its keeper, or a commit of it has failed.
@@ -69,23 +83,22 @@ module _ {K : Type 0} (holds : K → Result Image Table → Type 0) where
   abbrev pub IsUnopened : DeskView K → DeskView K → Option Text → Option Text → Ending → Type 0
   IsUnopened before after old new ending = (after ≡ before) × (new ≡ old) × ((ending ≡ Stopped Read) ⊎ (ending ≡ Stopped Memory))
 
-  -- it is not known behind which record the sheet goes on: nothing is done, and nothing is written
-  abbrev pub IsUnsearched : DeskView K → DeskView K → Option Text → Option Text → Ending → Type 0
-  IsUnsearched before after old new ending = (after ≡ before) × (new ≡ old) × ((fault : SheetFault) × (ending ≡ Stopped (fault_of_sheet fault)))
+  -- the sheet does not go on: nothing is done, and nothing is written
+  abbrev pub IsUnresumed : Sheet → Option Text → DeskView K → DeskView K → Option Text → Option Text → Ending → Type 0
+  IsUnresumed kind known before after old new ending = (after ≡ before) × (new ≡ old) × EndsUnresumed kind known ending
 
   -- The sheet was run behind the records that are decided: those of its text.
   pub record EndsResumed (kind : Sheet) (known : Option Text) (before after : DeskView K) (old new : Option Text) (ending : Ending) : Type 0 where
     pub text : Text
     pub is_text : IfSome known (λ t. text ≡ t)
-    pub decided : Decided
-    pub front : List (List Text)
-    pub is_decided : IsDecidedBy kind (state_of before.image) text decided front
+    pub passed : ℕ
+    pub goes_on : GoesOnBehind kind before.image text passed
     pub pace : Pace
-    pub ran : EndsAsRun (record { kind = kind; pace = pace; passed = decided.records }) (Some text) before after old new ending
+    pub ran : EndsAsRun (record { kind = kind; pace = pace; passed = passed }) (Some text) before after old new ending
 
   -- How the program ends with a sheet of this text, where it is known: done as a whole, or gone on with.
   abbrev pub EndsSheet : Sheet → Bool → Option Text → DeskView K → DeskView K → Option Text → Option Text → Ending → Type 0
   EndsSheet kind false known before after old new ending =
       ((pace : Pace) × EndsAsRun (record { kind = kind; pace = pace; passed = 0 }) known before after old new ending) ⊎ IsUnopened before after old new ending
   EndsSheet kind true known before after old new ending =
-      EndsResumed kind known before after old new ending ⊎ (IsUnsearched before after old new ending ⊎ IsUnopened before after old new ending)
+      EndsResumed kind known before after old new ending ⊎ (IsUnresumed kind known before after old new ending ⊎ IsUnopened before after old new ending)

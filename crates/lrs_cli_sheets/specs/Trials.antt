@@ -10,19 +10,16 @@ use Rattle.lrs_machine.specs.declared.image.Image.{Image}
 use Rattle.lrs_machine.specs.declared.table.Table.{Table}
 use Rattle.lrs_sheet.specs.DeskView.{DeskView}
 use Rattle.lrs_sheet_records.specs.declared.sheet.Sheet.{Sheet}
-use Rattle.lrs_sheet.specs.Resumption.{IsDecidedBy}
 use Rattle.lrs_sheet.specs.Sheets.{RunsBehind, StandAtFront}
 pub use Rattle.lrs_sheet.specs.Sheets.{IsAfterCommands}
 use Rattle.lrs_sheet_records.specs.declared.fault.SheetFault.{SheetFault}
 use Rattle.lrs_sheet.specs.declared.reply.Tally.{Tally}
-use Rattle.lrs_sheet.specs.declared.resumption.Decided.{Decided}
 use Rattle.lrs_cli_tasks.specs.declared.endings.Ending.{Ending}
 use Rattle.lrs_cli_tasks.specs.declared.endings.Ending.TheVariants.{Stopped}
 use Rattle.lrs_cli_tasks.specs.declared.fault.ProgramFault.TheVariants.{Memory, Read}
 use Rattle.lrs_cli_sheets.specs.declared.sheets.Pace.{Pace}
 use Rattle.lrs_cli_sheets.specs.declared.sheets.Way.{Way}
-use Rattle.lrs_cli_tasks.specs.Faults.{fault_of_sheet}
-use Rattle.lrs_cli_sheets.specs.Sheets.{EndsAsRun, EndsSheet, ending_of_sheet}
+use Rattle.lrs_cli_sheets.specs.Sheets.{EndsAsRun, EndsSheet, EndsUnresumed, GoesOnBehind, ending_of_sheet}
 
 -- an inventory may hold as much as one may hold at all
 pub record IsFull (limits : Limits) : Type 0 where
@@ -62,8 +59,7 @@ EndsCheck kind known image old new ending = EndsAsTried kind known image old new
 -- how many records are passed over: none, or those that are decided where the sheet goes on
 abbrev pub ArePassed : Sheet → Bool → Image → Text → ℕ → Type 0
 ArePassed kind false image text passed = passed ≡ 0
-ArePassed kind true image text passed =
-    (d : Decided) × (front : List (List Text)) × IsDecidedBy kind (state_of image) text d front × (passed ≡ d.records)
+ArePassed kind true image text passed = GoesOnBehind kind image text passed
 
 -- no record of the sheet was refused, and it ran to its end
 abbrev pub IsAccepted : Result Tally SheetFault → Type 0
@@ -104,16 +100,15 @@ module _ {K : Type 0} (holds : K → Result Image Table → Type 0) where
       (IsAccepted outcome × EndsAsRun holds way (Some text) before after old new ending)
       ⊎ ((IsAccepted outcome → ⊥) × (after ≡ before) × (new ≡ old) × (ending ≡ ending_of_sheet outcome))
 
-  -- a sheet was not tried: there was no memory, or it was not read; or where it goes on, it is not known behind which record
-  abbrev pub IsUntried : Bool → Ending → Type 0
-  IsUntried resumes ending =
-      ((ending ≡ Stopped Memory) ⊎ (ending ≡ Stopped Read)) ⊎ ((resumes ≡ true) × ((fault : SheetFault) × (ending ≡ Stopped (fault_of_sheet fault))))
+  -- a sheet was not tried: there was no memory, or it was not read; or it was to go on, and does not
+  abbrev pub IsUntried : Sheet → Bool → Option Text → Ending → Type 0
+  IsUntried kind resumes known ending = ((ending ≡ Stopped Memory) ⊎ (ending ≡ Stopped Read)) ⊎ ((resumes ≡ true) × EndsUnresumed kind known ending)
 
   -- A sheet is done as a whole or not at all; or it was not tried, and nothing is done or written.
   abbrev pub EndsAll : Sheet → Bool → Option Text → DeskView K → DeskView K → Option Text → Option Text → Ending → Type 0
   EndsAll kind resumes known before after old new ending =
       IsDoneAll kind resumes known before after old new ending ⊎ IsRefusedAll kind resumes known before after old new ending
-      ⊎ ((after ≡ before) × (new ≡ old) × IsUntried resumes ending)
+      ⊎ ((after ≡ before) × (new ≡ old) × IsUntried kind resumes known ending)
 
   -- How the program ends with a sheet: done as it comes, or as a whole or not at all.
   abbrev pub EndsRecords : Sheet → Bool → Bool → Option Text → DeskView K → DeskView K → Option Text → Option Text → Ending → Type 0

@@ -8,6 +8,7 @@ mod difference;
 mod progress;
 mod question_sheets;
 mod sheets;
+mod streams;
 mod trial;
 mod world;
 
@@ -15,5 +16,6 @@ pub use audit::do_audit;
 pub use progress::ProgressDisplay;
 pub use question_sheets::{QuestionPace, answer_sheet, do_questions};
 pub use sheets::Pace;
+pub use streams::write_out;
 pub use trial::{do_check, do_records};
 pub use world::{Sheets, SystemSheet, SystemSheets, World};

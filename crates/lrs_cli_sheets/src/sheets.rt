@@ -4,14 +4,14 @@ ghost use Rattle.std.specs.Prelude.{◌≡◌, ◌⊎◌, IfErr, IfOk, IfSome, f
 ghost use Rattle.lrs_machine.specs.Image.{state_of};
 ghost use Rattle.lrs_sheet.specs.Runs.{IsWholeRun};
 ghost use Rattle.lrs_sheet.specs.Sheets.{IsAfterCommands};
-ghost use Rattle.lrs_cli_sheets.specs.Sheets.{EndsAsRun, EndsSheet, HasRun, IsUnwritten, WritesReplies, ending_of_sheet, run_of, together_at};
+ghost use Rattle.lrs_cli_sheets.specs.Sheets.{DoesNotGoOn, EndsAsRun, EndsSheet, GoesOnBehind, HasRun, IsUnwritten, WritesReplies, ending_of_sheet, run_of, together_at};
 
 use crate::progress::Progress;
 use crate::world::{Sheets, World};
 use lrs_cli_tasks::{Ending, ProgramFault, behind, buffered};
 use lrs_sheet::{
-    Decided, Desk, Keeper, RECORDS_TOGETHER, Run, Sheet, SheetFault, Tally, last_edit,
-    run_arriving, run_behind, run_edits, run_survey,
+    Decided, Desk, Keeper, RECORDS_TOGETHER, RepeatedKey, Run, Sheet, SheetFault, Tally, last_edit,
+    repeated_key, run_arriving, run_behind, run_edits, run_survey,
 };
 use std::alloc::Global;
 use std::io;
@@ -268,11 +268,44 @@ pub(crate) fn read_whole<R: Runtime<A = Global>, S: Sheets>(
 }
 
 // Tells on standard error behind which record a sheet goes on. Where that takes nothing, it goes on all the same.
-pub(crate) fn tell<R: Runtime<A = Global>>(rt: &R, decided: &Decided) {
+fn tell_decided<R: Runtime<A = Global>>(rt: &R, decided: &Decided) {
     let _ = match decided.key {
         Some(key) => eprintln!(rt; "resumes behind record {}, key {key}", decided.records),
         None => eprintln!(rt; "resumes at the first record"),
     };
+}
+
+// Tells on standard error which two records of a sheet have one key.
+fn tell_repeated<R: Runtime<A = Global>>(rt: &R, twice: &RepeatedKey) {
+    let RepeatedKey { key, first, second } = *twice;
+    let _ = eprintln!(rt; "records {first} and {second} have one key, {key}");
+}
+
+// Behind how many of its records a sheet goes on, where no two have one key. Standard error tells it.
+pub(crate) fn passed_over<R: Runtime<A = Global>, K: Keeper>(
+    rt: &R,
+    desk: &Desk<K>,
+    kind: Sheet,
+    text: &[u8],
+) -> Result<u32, ProgramFault>
+    ensures passed { IfOk result (GoesOnBehind kind desk.now.image text.now) }
+    ensures faults { IfErr result (DoesNotGoOn kind text.now) }
+{
+    match repeated_key(rt.alloc(), kind, text) {
+        Ok(None) => {}
+        Ok(Some(twice)) => {
+            tell_repeated(rt, &twice);
+            return Err(ProgramFault::RepeatedKey);
+        }
+        Err(fault) => return Err(ProgramFault::from(fault)),
+    }
+    match last_edit(rt.alloc(), kind, text, desk) {
+        Ok(decided) => {
+            tell_decided(rt, &decided);
+            Ok(decided.records)
+        }
+        Err(fault) => Err(ProgramFault::from(fault)),
+    }
 }
 
 // Goes on with a sheet behind its last record that is an edit. It is read as a whole before.
@@ -296,12 +329,10 @@ fn go_on<R: Runtime<A = Global>, S: Sheets, W: Write + Drop, K: Keeper>(
         Ok(text) => text,
         Err(error) => return Ok((to, unopened(world.rt, name, error))),
     };
-    let decided = match last_edit(world.rt.alloc(), kind, text.as_slice(), desk) {
-        Ok(decided) => decided,
-        Err(fault) => return Ok((to, Ending::Stopped(ProgramFault::from(fault)))),
+    let passed = match passed_over(world.rt, desk, kind, text.as_slice()) {
+        Ok(passed) => passed,
+        Err(fault) => return Ok((to, Ending::Stopped(fault))),
     };
-    tell(world.rt, &decided);
-    let passed = decided.records;
     print_replies(world, Way { kind, pace, passed }, text.as_slice(), desk, to)
 }
 

@@ -4,18 +4,18 @@ ghost use Rattle.std.specs.Prelude.{◌≡◌, ◌⊎◌, IfOk, IfErr, IfSome, O
 ghost use Rattle.std.specs.Io.KnownBytes.{Appends};
 ghost use Rattle.lrs_machine.specs.Image.{state_of};
 ghost use Rattle.lrs_sheet.specs.Sheets.{IsAfterCommands};
-ghost use Rattle.lrs_cli_sheets.specs.Sheets.{IsUnwritten, ending_of_sheet};
+ghost use Rattle.lrs_cli_sheets.specs.Sheets.{DoesNotGoOn, IsUnwritten, ending_of_sheet};
 ghost use Rattle.lrs_cli_sheets.specs.Trials.{ArePassed, EndsAll, EndsCheck, EndsRecords, EndsTried, HasTried, IsFull, IsTried};
 
 use crate::advice::{Trial, advise};
 use crate::sheets::{
-    Pace, Way, do_sheet, ending_of, print_replies, read_whole, tell, unopened, write_replies,
+    Pace, Way, do_sheet, ending_of, passed_over, print_replies, read_whole, unopened, write_replies,
 };
 use crate::world::{Sheets, World};
 use lrs_cli_tasks::{Ending, ProgramFault, open_full};
 use lrs_image_plain::Plain;
 use lrs_inventory::Inventory;
-use lrs_sheet::{Desk, Keeper, Sheet, SheetFault, Tally, last_edit};
+use lrs_sheet::{Desk, Keeper, Sheet, SheetFault, Tally};
 use std::alloc::Global;
 use std::io::Write;
 use std::rt::Runtime;
@@ -172,16 +172,15 @@ fn passed_of<R: Runtime<A = Global>, K: Keeper>(
     kind: Sheet,
     resumes: bool,
     text: &[u8],
-) -> Result<u32, SheetFault>
+) -> Result<u32, ProgramFault>
     ensures passed { IfOk result (ArePassed kind resumes desk.now.image text.now) }
-    ensures fault { IfErr result (λ _. resumes ≡ true) }
+    ensures faults { IfErr result (λ e. (resumes ≡ true) × DoesNotGoOn kind text.now e) }
 {
-    if !resumes {
-        return Ok(0);
+    if resumes {
+        passed_over(rt, desk, kind, text)
+    } else {
+        Ok(0)
     }
-    let decided = last_edit(rt.alloc(), kind, text, desk)?;
-    tell(rt, &decided);
-    Ok(decided.records)
 }
 
 // Does a sheet that was tried, if no record of it was refused. Else nothing is done, and standard error says what to do
@@ -235,7 +234,7 @@ fn do_text<R: Runtime<A = Global>, S: Sheets, W: Write + Drop, K: Keeper>(
 {
     let passed = match passed_of(world.rt, desk, kind, resumes, text) {
         Ok(passed) => passed,
-        Err(fault) => return Ok((to, Ending::Stopped(ProgramFault::from(fault)))),
+        Err(fault) => return Ok((to, Ending::Stopped(fault))),
     };
     match try_sheet(world.rt.alloc(), desk, kind, passed, text) {
         Ok((replies, outcome)) => {

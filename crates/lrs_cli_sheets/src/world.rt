@@ -1,9 +1,13 @@
 //! What is outside of the program: the sheets that its words name, and where it tells how far it is.
 
+ghost use Rattle.std.specs.Io.{ReadsAtMost};
+
 use crate::progress::ProgressDisplay;
+use crate::streams::wait_for_input;
 use std::alloc::Global;
-use std::io::Read;
-use std::rt::Runtime;
+use std::io::{ErrorKind, IsTerminal, Read};
+use std::net::Net;
+use std::rt::{HostRuntime, Runtime};
 use std::{fs, io};
 
 /// Gives the sheets that the words of the program name.
@@ -42,47 +46,137 @@ pub struct World<'a, R: Runtime<A = Global>, S: Sheets> {
 
 /// Sheets in files of the system, by their paths; `stdin` is the standard input.
 #[derive(Drop)]
-pub struct SystemSheets<'a, R: Runtime<A = Global>> {
+pub struct SystemSheets<'a, R: Runtime<A = Global> + Net> {
     rt: &'a R,
+    // whether standard error says of a sheet that its last line has no end
+    says: bool,
 }
 
 /// A sheet of the system.
 #[derive(Drop)]
-pub enum SystemSheet<R: Runtime<A = Global>> {
+pub struct SystemSheet<'a, R: Runtime<A = Global> + Net> {
+    bytes: SystemBytes<R>,
+    rt: &'a R,
+    says: bool,
+    // the byte that was read last, until the end
+    last: Option<u8>,
+}
+
+/// Where its bytes come from.
+#[derive(Drop)]
+enum SystemBytes<R: Runtime<A = Global>> {
     File(R::File),
     Input(R::Reader),
 }
 
-impl<R: Runtime<A = Global>> Read for SystemSheet<R> {
-    fn read(&mut self, buf: &mut [u8]) -> io::Result<usize> {
+impl<R: Runtime<A = Global>> SystemBytes<R> {
+    fn read_once(&mut self, buf: &mut [u8]) -> io::Result<usize>
+        ensures { ReadsAtMost result buf.new }
+    {
         match self {
-            SystemSheet::File(file) => file.read(buf),
-            SystemSheet::Input(input) => input.read(buf),
+            SystemBytes::File(file) => file.read(buf),
+            SystemBytes::Input(input) => input.read(buf),
+        }
+    }
+
+    // Whether it is the standard input.
+    fn is_input(&self) -> bool {
+        match self {
+            SystemBytes::File(_) => false,
+            SystemBytes::Input(_) => true,
         }
     }
 }
 
-impl<'a, R: Runtime<A = Global>> SystemSheets<'a, R> {
-    /// The sheets of this system.
-    pub fn new(rt: &'a R) -> SystemSheets<'a, R> {
-        SystemSheets { rt }
+impl<'a, R: Runtime<A = Global> + Net> SystemSheet<'a, R> {
+    // Goes on where a signal cut a read short, and waits for a standard input that does not wait.
+    fn try_again(&self, error: io::Error) -> io::Result<()> {
+        if error.kind() == ErrorKind::Interrupted {
+            return Ok(());
+        }
+        if self.bytes.is_input() {
+            return wait_for_input(self.rt, error);
+        }
+        Err(error)
+    }
+
+    fn read_on(&mut self, buf: &mut [u8]) -> io::Result<usize>
+        ensures { ReadsAtMost result buf.new }
+    {
+        for _turn in 0..u64::MAX {
+            match self.bytes.read_once(buf) {
+                Ok(count) => return Ok(count),
+                Err(error) => self.try_again(error)?,
+            }
+        }
+        Err(io::Error::from(ErrorKind::WouldBlock))
+    }
+
+    // Says, once, that the last line has no end, where it has none: what broke off in a number has another one.
+    fn tell_end(&mut self) {
+        if let Some(last) = self.last {
+            if self.says && last != b'\n' && last != b'\r' {
+                let _ = eprintln!(self.rt;
+                    "note: the last line of the sheet has no end; look whether it was cut off"
+                );
+            }
+        }
+        self.last = None;
+    }
+
+    fn note(&mut self, read: &[u8]) {
+        match read.last() {
+            Some(byte) => self.last = Some(*byte),
+            None => self.tell_end(),
+        }
     }
 }
 
-impl<'a, R: Runtime<A = Global>> Sheets for SystemSheets<'a, R> {
+impl<'a, R: Runtime<A = Global> + Net> Read for SystemSheet<'a, R> {
+    fn read(&mut self, buf: &mut [u8]) -> io::Result<usize> {
+        let count = self.read_on(buf)?;
+        if !buf.is_empty() {
+            self.note(&buf[..count]);
+        }
+        Ok(count)
+    }
+}
+
+impl<'a> SystemSheets<'a, HostRuntime> {
+    /// The sheets of this system. Of one whose last line has no end that is said on standard error, where it is a terminal.
+    pub fn new(rt: &'a HostRuntime) -> SystemSheets<'a, HostRuntime> {
+        SystemSheets {
+            rt,
+            says: rt.stderr().is_terminal(),
+        }
+    }
+}
+
+impl<'a, R: Runtime<A = Global> + Net> SystemSheets<'a, R> {
+    fn sheet(&self, bytes: SystemBytes<R>) -> SystemSheet<'a, R> {
+        SystemSheet {
+            bytes,
+            rt: self.rt,
+            says: self.says,
+            last: None,
+        }
+    }
+}
+
+impl<'a, R: Runtime<A = Global> + Net> Sheets for SystemSheets<'a, R> {
     ghost use Rattle.std.specs.Prelude.{None};
 
-    type Reader = SystemSheet<R>;
+    type Reader = SystemSheet<'a, R>;
 
     // No clause tells what a file of the system or its standard input gives.
     ghost text_of = { λ _ _. None };
 
-    fn open(&self, name: &str) -> io::Result<SystemSheet<R>> {
+    fn open(&self, name: &str) -> io::Result<SystemSheet<'a, R>> {
         if name == "stdin" {
-            return Ok(SystemSheet::Input(self.rt.reader()));
+            return Ok(self.sheet(SystemBytes::Input(self.rt.reader())));
         }
         let file = fs::open(self.rt, name)?;
-        Ok(SystemSheet::File(file))
+        Ok(self.sheet(SystemBytes::File(file)))
     }
 
     fn is_whole(&self, name: &str) -> bool {

@@ -25,6 +25,8 @@ pub enum ProgramFault {
     Write,
     BadHeader,
     BadCsv,
+    /// Two records of the sheet have one key, so it does not go on.
+    RepeatedKey,
     /// The port cannot be listened on.
     Door,
 }
@@ -114,6 +116,7 @@ impl fmt::Display for ProgramFault {
             ProgramFault::Write => f.write_str("Write"),
             ProgramFault::BadHeader => f.write_str("BadHeader"),
             ProgramFault::BadCsv => f.write_str("BadCsv"),
+            ProgramFault::RepeatedKey => f.write_str("RepeatedKey"),
             ProgramFault::Door => f.write_str("Door"),
         }
     }

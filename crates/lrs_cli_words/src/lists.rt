@@ -163,7 +163,8 @@ pub(crate) fn log_of(from: Option<&str>, key: Option<&str>) -> Result<Listing, Q
         (option_map (λ t. t.now) key.entry)) }
 {
     match (key, from) {
-        (Some(key), _) => Ok(Listing::LogOfKey(key_of(key)?)),
+        (Some(_), Some(_)) => Err(QuestionFault::Unreadable(BadWord::FromBesideKey)),
+        (Some(key), None) => Ok(Listing::LogOfKey(key_of(key)?)),
         (None, Some(from)) => Ok(Listing::Log(edit_of(from, BadWord::Number)?)),
         (None, None) => Ok(Listing::Log(1)),
     }

@@ -149,11 +149,7 @@ fn rows_with(rows: u64, difference: &Difference) -> Option<u64>
     ensures many { IfNone result (most_rows < rows + rows_of difference.now) }
 {
     let sum = rows.saturating_add(difference.rows());
-    if sum <= MOST_ROWS {
-        Some(sum)
-    } else {
-        None
-    }
+    if sum <= MOST_ROWS { Some(sum) } else { None }
 }
 
 // Puts an element at the end of a vector that has room for it.

@@ -1,6 +1,6 @@
 -- Whatever ends a sheet or a request, commands were done in order.
 use Rattle.std.specs.Prelude.{MatchOption}
-use Rattle.std.proofs.Common.{◌≡◌, Bool, true, false, [], ◌++◌, Option, Some, None, Result, sym, ap, ◌∙◌}
+use Rattle.std.proofs.Common.{◌≡◌, inl, inr, Bool, true, false, [], ◌++◌, Option, Some, None, Result, sym, ap, ◌∙◌}
 use Rattle.lrs_machine.specs.Image.{state_of}
 use Rattle.lrs_machine.specs.Lines.{Text}
 use Rattle.lrs_machine.specs.Machine.{state_after}
@@ -34,7 +34,8 @@ module _ {K : Type 0} (holds : K → Result Image Table → Type 0) (old new : D
       → IsAfterCommands old.limits (state_of old.image) (state_of new.image)
   posted_after None resumes body answer (same, told, ahead) = same_after same
   posted_after (Some kind) false body answer (ended, lines, run, is) = run.left
-  posted_after (Some kind) true body answer (ended, lines, run, is) = run.left
+  posted_after (Some kind) true body answer (inl (ended, lines, run, is)) = run.left
+  posted_after (Some kind) true body answer (inr (twice, repeated, same, is)) = same_after same
 
   -- so is what a request asks for
   pub does_after : (asked : Asked) (answer : Answer) → Does holds asked old answer new → IsAfterCommands old.limits (state_of old.image) (state_of new.image)

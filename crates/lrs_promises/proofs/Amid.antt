@@ -70,7 +70,8 @@ module _ {K : Type 0} (holds : K → Result Image Table → Type 0) (old new : D
   posted_keeps : (kind : Option Sheet) (resumes : Bool) (body : Text) (answer : Answer) → MatchOption kind (AnswersQuestions body old answer new) (λ k. DoesSheet holds k resumes body old answer new) → Kept
   posted_keeps None resumes body answer (same, told, ahead) = same_keeps same
   posted_keeps (Some kind) false body answer (ended, lines, run, is) = sheet_keeps ended run.desk run.amid
-  posted_keeps (Some kind) true body answer (ended, lines, run, is) = sheet_keeps ended run.desk run.amid
+  posted_keeps (Some kind) true body answer (inl (ended, lines, run, is)) = sheet_keeps ended run.desk run.amid
+  posted_keeps (Some kind) true body answer (inr (twice, repeated, same, is)) = same_keeps same
 
   does_keeps : (asked : Asked) (answer : Answer) → Does holds asked old answer new → Kept
   does_keeps (refused status) answer does = same_keeps does.0

@@ -138,8 +138,8 @@ rest_gave_first : (must_reopen : Bool) (kind : Sheet) (together : ℕ) (limits :
     → Resumes must_reopen kind together limits input before after old new ended → GaveFirst limits (GivesRest kind input before) before after
 rest_gave_first must_reopen kind together limits input before after old new (Ok tally) (inl h) = absurd h
 rest_gave_first must_reopen kind together limits input before after old new (Err e) (inl (why, same, keeps)) = none_gave limits (GivesRest kind input before) before after same
-rest_gave_first must_reopen kind together limits input before after old new ended (inr (decided, passed, is, runs)) =
-    gave_under limits (GivesBehind passed kind input) (GivesRest kind input before) before after (λ commands given. (decided, passed, is, given))
+rest_gave_first must_reopen kind together limits input before after old new ended (inr (once, decided, passed, is, runs)) =
+    gave_under limits (GivesBehind passed kind input) (GivesRest kind input before) before after (λ commands given. inl (once, decided, passed, is, given))
     (behind_gave passed kind together limits input before after old new ended runs)
 
 -- ---- at a desk
@@ -175,7 +175,8 @@ module _ {K : Type 0} (holds : K → Result Image Table → Type 0) where
   posted_made (Some kind) false body answer old new (ended, lines, run, is) =
       first_made (GivesBehind [] kind body) old new
       (behind_gave [] kind records_together old.limits body (state_of old.image) (state_of new.image) (Some []) (Some lines) ended run.runs) (same_limits old new ended run.desk)
-  posted_made (Some kind) true body answer old new (ended, lines, run, is) =
+  posted_made (Some kind) true body answer old new (inr (twice, repeated, same, is)) = none_made (GivesFirst (GivesPosted (Some kind) true body (state_of old.image))) old new (inl refl) same
+  posted_made (Some kind) true body answer old new (inl (ended, lines, run, is)) =
       first_made (GivesRest kind body (state_of old.image)) old new
       (rest_gave_first old.must_reopen kind records_together old.limits body (state_of old.image) (state_of new.image) (Some []) (Some lines) ended run.runs) (same_limits old new ended run.desk)
 

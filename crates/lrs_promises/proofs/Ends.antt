@@ -15,6 +15,7 @@ use Rattle.lrs_sheet_records.specs.Questions.{IsQuestionHeader}
 use Rattle.lrs_sheet_records.specs.declared.sheet.Sheet.{Sheet}
 use Rattle.lrs_sheet_records.specs.declared.sheet.Sheet.TheVariants as sheet
 use Rattle.lrs_sheet.specs.Replies.{lines_of, tally_of}
+use Rattle.lrs_sheet.specs.Repetition.{HasKeysOnce}
 use Rattle.lrs_sheet.specs.Resumption.{Resumes}
 use Rattle.lrs_sheet_records.specs.Rows.{BeginsWith}
 use Rattle.lrs_sheet.specs.Sheets.{AreAnswered, Runs, RunsBehind, records_together}
@@ -23,6 +24,7 @@ use Rattle.lrs_sheet_records.specs.declared.fault.SheetFault.TheVariants as faul
 use Rattle.lrs_sheet.specs.declared.reply.Reply.{Reply}
 use Rattle.lrs_sheet.specs.declared.reply.Tally.{Tally}
 use Rattle.lrs_sheet.proofs.Determined.{one-run}
+use Rattle.lrs_sheet.proofs.Repeating.{repeated_not_once}
 use Rattle.lrs_sheet_questions.specs.SheetAnswers.{AreAnswered as AreReplied, RunsQuestions, width}
 use Rattle.lrs_sheet_questions.specs.Replies.{Reply as QuestionReply, lines_of as question_lines, tally_of as question_tally}
 use Rattle.lrs_sheet_questions.specs.declared.tally.QuestionTally.{QuestionTally}
@@ -108,8 +110,14 @@ resumed_end_alike sheet failed broken together others limits input before after 
     absurd (undecided failed before after (Some old) (Some written) ended d none)
 resumed_end_alike sheet failed broken together others limits input before after instead old written earlier other ended end d e (inr h) (inl none) =
     absurd (undecided broken before instead (Some earlier) (Some other) end e none)
-resumed_end_alike sheet failed broken together others limits input before after instead old written earlier other ended end d e (inr (decided, passed, is, runs)) (inr (found, beyond, by, run)) =
+resumed_end_alike sheet failed broken together others limits input before after instead old written earlier other ended end d e (inr (once, decided, passed, is, runs)) (inr (alone, found, beyond, by, run)) =
     runs_alike sheet limits input before after instead old written earlier other passed beyond together others ended end (one_decided sheet before input decided found passed beyond is by) d e runs run
+
+-- of one that went on so, no two records have one key
+gone_on_once : (failed : Bool) (sheet : Sheet) (together : ℕ) (limits : Limits) (input : Text) (before after : State) (old new : Option Text) (ended : Result Tally SheetFault) → is_decided ended ≡ true
+    → Resumes failed sheet together limits input before after old new ended → HasKeysOnce sheet input
+gone_on_once failed sheet together limits input before after old new ended d (inl none) = absurd (undecided failed before after old new ended d none)
+gone_on_once failed sheet together limits input before after old new ended d (inr (once, decided, passed, is, runs)) = once
 
 -- ---- a sheet of questions
 
@@ -189,7 +197,17 @@ module _ {K J : Type 0} (holds : K → Result Image Table → Type 0) (has : J �
     wrote = questions_alike body one two old.image before.image stand.state (answered_so _ one served did.1) served (answered_so _ two also done.1) also;
     state = ap (λ (d : DeskView K). state_of d.image) did.0 ∙ stand.state ∙ sym (ap (λ (d : DeskView J). state_of d.image) done.0);
   }
-  posted_alike (Some kind) true body one two old new before after stand (ended, lines, run, is) served (end, more, running, too) also =
+  posted_alike (Some kind) true body one two old new before after stand (inr (twice, repeated, same, is)) served (inr (again, repeats, remains, too)) also = record {
+    wrote = ap answer_text (answered_so _ one served is ∙ sym (answered_so _ two also too));
+    state = ap (λ (d : DeskView K). state_of d.image) same ∙ stand.state ∙ sym (ap (λ (d : DeskView J). state_of d.image) remains);
+  }
+  posted_alike (Some kind) true body one two old new before after stand (inl (ended, lines, run, is)) served (inr (again, repeats, remains, too)) also =
+      let once = gone_on_once old.must_reopen kind records_together old.limits body (state_of old.image) (state_of new.image) (Some []) (Some lines) ended (answer_decided ended lines one is served) run.runs in
+      absurd (repeated_not_once kind body again repeats once)
+  posted_alike (Some kind) true body one two old new before after stand (inr (twice, repeated, same, is)) served (inl (end, more, running, too)) also =
+      let once = gone_on_once before.must_reopen kind records_together before.limits body (state_of before.image) (state_of after.image) (Some []) (Some more) end (answer_decided end more two too also) running.runs in
+      absurd (repeated_not_once kind body twice repeated once)
+  posted_alike (Some kind) true body one two old new before after stand (inl (ended, lines, run, is)) served (inl (end, more, running, too)) also =
       let runs = coe 0 1 (k. Resumes old.must_reopen kind records_together (stand.limits k) body (stand.state k) (state_of new.image) (Some []) (Some lines) ended) run.runs in
       let h = resumed_end_alike kind old.must_reopen before.must_reopen records_together records_together before.limits body (state_of before.image) (state_of new.image) (state_of after.image) [] lines [] more ended end
       (answer_decided ended lines one is served) (answer_decided end more two too also) runs running.runs in

@@ -92,9 +92,9 @@ undecided must_reopen before after old new (Err (fault.Desk e)) d h = false≢tr
 rest_gave : (must_reopen : Bool) (sheet : Sheet) (together : ℕ) (limits : Limits) (input : Text) (before after : State) (old new : Option Text) (ended : Result Tally SheetFault)
     → is_decided ended ≡ true → Resumes must_reopen sheet together limits input before after old new ended → Gave limits (GivesRest sheet input before) before after
 rest_gave must_reopen sheet together limits input before after old new ended d (inl h) = absurd (undecided must_reopen before after old new ended d h)
-rest_gave must_reopen sheet together limits input before after old new ended d (inr (decided, passed, is, runs)) =
+rest_gave must_reopen sheet together limits input before after old new ended d (inr (once, decided, passed, is, runs)) =
     let g = sheet_gave passed sheet together limits input before after old new ended d runs in
-    record { commands = g.commands; gives = (decided, passed, is, g.gives); state = g.state }
+    record { commands = g.commands; gives = inl (once, decided, passed, is, g.gives); state = g.state }
 
 -- commands, and others behind them
 pub state_both : (limits : Limits) (xs ys : List Record) (s : State) → state_after limits (xs ++ ys) s ≡ state_after limits ys (state_after limits xs s)
@@ -145,7 +145,8 @@ module _ {K : Type 0} (holds : K → Result Image Table → Type 0) where
         gave = sheet_gave [] kind records_together old.limits body (state_of old.image) (state_of new.image) (Some []) (Some lines) ended d run.runs;
         along = decided_goes old new ended d run.desk;
       }
-  posted_gave (Some kind) true body answer old new (ended, lines, run, after) served =
+  posted_gave (Some kind) true body answer old new (inr (twice, repeated, same, is)) served = desk_stays (GivesPosted (Some kind) true body (state_of old.image)) old new (inr ((twice, repeated), refl)) same
+  posted_gave (Some kind) true body answer old new (inl (ended, lines, run, after)) served =
       let d = answer_decided ended lines answer after served in
       record {
         gave = rest_gave old.must_reopen kind records_together old.limits body (state_of old.image) (state_of new.image) (Some []) (Some lines) ended d run.runs;

@@ -13,11 +13,13 @@ use Rattle.lrs_sheet_records.specs.Kinds.{IsHeader, width_of}
 use Rattle.lrs_sheet_records.specs.declared.sheet.Sheet.{Sheet}
 use Rattle.lrs_sheet_records.specs.declared.sheet.Sheet.TheVariants as sheet
 use Rattle.lrs_sheet.specs.Laws.{Say}
+use Rattle.lrs_sheet.specs.Repetition.{HasKeysOnce, IsRepeated}
 use Rattle.lrs_sheet.specs.Resumption.{IsDecidedBy}
 use Rattle.lrs_sheet_records.specs.Rows.{AreAll, BeginsWith}
 use Rattle.lrs_sheet.specs.Sheets.{LeavesDesk, Runs}
 use Rattle.lrs_sheet_records.specs.declared.fault.SheetFault.{SheetFault}
 use Rattle.lrs_sheet_records.specs.declared.fault.SheetFault.TheVariants as fault
+use Rattle.lrs_sheet.specs.declared.repetition.RepeatedKey.{RepeatedKey}
 use Rattle.lrs_sheet.specs.declared.reply.Tally.{Tally}
 use Rattle.lrs_sheet.specs.declared.resumption.Decided.{Decided}
 use Rattle.lrs_web_requests.specs.Request.{Asked, Asks, refused, not_allowed, query, sheet as posted}
@@ -77,9 +79,11 @@ HasRecords passed sheet input records =
 abbrev pub GivesBehind : List (List Text) → Sheet → Text → List Record → Type 0
 GivesBehind passed sheet input commands = (records : List (List Text)) × HasRecords passed sheet input records × Say sheet records commands
 
--- A sheet that goes on gives those behind its last record that is an edit.
+-- A sheet that goes on gives those behind its last record that is an edit; one in which a key stands twice gives none.
 abbrev pub GivesRest : Sheet → Text → State → List Record → Type 0
-GivesRest sheet input s commands = (d : Decided) × (passed : List (List Text)) × IsDecidedBy sheet s input d passed × GivesBehind passed sheet input commands
+GivesRest sheet input s commands =
+    (HasKeysOnce sheet input × (d : Decided) × (passed : List (List Text)) × IsDecidedBy sheet s input d passed × GivesBehind passed sheet input commands)
+    ⊎ (((twice : RepeatedKey) × IsRepeated sheet input twice) × (commands ≡ []))
 
 -- What is posted gives the commands of a sheet of this kind; questions, which are of no kind, give none.
 abbrev pub GivesPosted : Option Sheet → Bool → Text → State → List Record → Type 0

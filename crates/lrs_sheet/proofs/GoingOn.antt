@@ -1,13 +1,13 @@
 -- A sheet whose replies were lost goes on as if it had not stopped.
-use Rattle.std.proofs.Common.{◌≡◌, ℕ, ◌+◌, Bool, true, false, cond, ◌||◌, suc, List, [], ◌∷◌, ◌++◌, length, take, drop, Option, Some, None, refl, sym, ap, ◌∙◌, inl, inr, arith}
-use Rattle.std.specs.Prelude.{nat_lt}
-use Rattle.std.specs.List.{AllByRecursion}
+use Rattle.std.proofs.Common.{◌≡◌, ℕ, ◌+◌, Bool, true, false, cond, ◌||◌, ◌&&◌, suc, List, [], ◌∷◌, ◌++◌, length, take, drop, Option, Some, None, refl, sym, ap, subst, ◌∙◌, inl, inr, arith}
+use Rattle.std.specs.Prelude.{nat_lt, not}
+use Rattle.std.specs.Cmp.Lexicographic.{bytes_decides}
+use Rattle.std.specs.List.{AllByRecursion, list_all}
 use Rattle.std.proofs.lemmas.Bool.Decides.{nat_tests}
-use Rattle.csv.specs.Machine.{next_record}
-use Rattle.csv.specs.Reading.{Reached, default_config, strip_bom}
-use Rattle.csv.specs.declared.parser.Config.{Config}
-use Rattle.csv.specs.declared.parser.State.{State as Place}
+use Rattle.csv.specs.Reading.{default_config, strip_bom}
 use Rattle.csv.specs.declared.parser.State.TheVariants as st
+use Rattle.lrs_measure.specs.Lists.{each_two}
+use Rattle.lrs_measure.specs.Texts.{same_name}
 use Rattle.lrs_machine.specs.Lines.{Text}
 use Rattle.lrs_machine.specs.Machine.{Record, state_after}
 use Rattle.lrs_machine.specs.State.{State}
@@ -16,16 +16,18 @@ use Rattle.lrs_machine.specs.Stop.KnownEdits.{is_edit}
 use Rattle.lrs_machine.specs.Stop.Resumptions.{decided}
 use Rattle.lrs_machine.proofs.Stop.Resuming.{new_keys_go_on}
 use Rattle.lrs_sheet_records.proofs.OneCommand.{one-command, well-formed}
-use Rattle.lrs_sheet_records.specs.Kinds.{edit_record}
+use Rattle.lrs_sheet_records.specs.Kinds.{IsHeader, edit_record, width_of}
 use Rattle.lrs_sheet_records.specs.Records.{SaysCommand, place_of}
 use Rattle.lrs_sheet_records.specs.Verbs.{all_verbs}
 use Rattle.lrs_sheet_records.specs.declared.sheet.Sheet.{Sheet}
 use Rattle.lrs_sheet.specs.declared.reply.Reply.{Reply}
 use Rattle.lrs_sheet.specs.Laws.{HasBegun, HasNewKeys, IsRestOf, Outcome, ResumedIsUnstopped, Say}
+use Rattle.lrs_sheet.specs.Repetition.{HasKey, HaveKeysOnce, NoneHasKey}
 use Rattle.lrs_sheet.specs.Replies.{Replied, lines_of}
 use Rattle.lrs_sheet.specs.Resumption.{EndInEdit, IsEdit, IsNoEdit}
 use Rattle.lrs_sheet_records.specs.Rows.{AreAll, BeginsWith}
 use Rattle.lrs_sheet.proofs.Determined.{all-one, one-run}
+use Rattle.lrs_sheet.proofs.Repeating.{begin_with}
 use Rattle.lrs_sheet.proofs.Resuming.{no_first, one_first}
 
 -- ---- what records say
@@ -182,17 +184,37 @@ decided_said sheet s front others (Some key) a b (before, last, is, edit) say sa
     let ends = ends_said sheet s before last key a (rw is at say) edit in
     rw ends.is (up_to_edit s ends.front ends.last b ends.edit (none_decided sheet s others b say' all))
 
--- ---- the records of the text
+-- ---- the keys of what records say
 
-begin_with : (cfg : Config) (s s1 s2 : Place) (xs y1 y2 : Text) (all front : List (List Text)) → Reached cfg s xs all s1 y1 → next_record cfg s1 [] [] y1 ≡ None → Reached cfg s xs front s2 y2
-    → (behind : List (List Text)) × (all ≡ front ++ behind)
-unfolding Reached
-begin_with cfg s s1 s2 xs y1 y2 all [] h none g = (all, refl)
-begin_with cfg s s1 s2 xs y1 y2 [] (q ∷ qs) h none (p, next, is, more) = cc (ap (λ (q : Place). next_record cfg q [] [] xs) h.0, ap (λ (q : Text). next_record cfg s1 [] [] q) h.1, none, next)
-begin_with cfg s s1 s2 xs y1 y2 (r ∷ rs) (q ∷ qs) h none g =
-    let first = one_first cfg s s1 s2 xs y1 y2 r q rs qs h g in
-    let (behind, is) = begin_with cfg first.place s1 s2 first.rest y1 y2 rs qs first.one none first.other in
-    (behind, λ j. first.same j ∷ is j)
+and_true : (a b : Bool) → a ≡ true → b ≡ true → (a && b) ≡ true
+and_true true b e f = f
+and_true false b e f = absurd (cc e)
+
+-- a command of another key than a record does not have
+other_key : (sheet : Sheet) (fields : List Text) (key : Text) (r : Record) → SaysCommand (edit_record sheet fields) r.key r.command → (HasKey sheet key fields → ⊥) → not (same_name key r.key) ≡ true
+other_key sheet fields key r says none = by (same_name key r.key) refl
+  where
+    by : (b : Bool) → same_name key r.key ≡ b → not b ≡ true
+    by true e = absurd (none (subst (λ (k : Text). HasKey sheet k fields) (sym ((bytes_decides key r.key).0 e)) (r.command, says)))
+    by false e = refl
+
+others_differ : (sheet : Sheet) (key : Text) (records : List (List Text)) (said : List Record) → Say sheet records said → NoneHasKey sheet key records → list_all (λ (q : Record). not (same_name key q.key)) said ≡ true
+others_differ sheet key [] said say none = ap (λ (x : List Record). list_all (λ (q : Record). not (same_name key q.key)) x) say
+others_differ sheet key (fields ∷ records) said (inl (m, more)) none = others_differ sheet key records said more none.1
+others_differ sheet key (fields ∷ records) said (inr (r, others, is, says, more)) none =
+    ap (λ (x : List Record). list_all (λ (q : Record). not (same_name key q.key)) x) is
+    ∙ and_true (not (same_name key r.key)) (list_all (λ (q : Record). not (same_name key q.key)) others) (other_key sheet fields key r says none.0) (others_differ sheet key records others more none.1)
+
+-- where no two records have one key, no two of their commands do
+keys_differ : (sheet : Sheet) (records : List (List Text)) (said : List Record) → Say sheet records said → HaveKeysOnce sheet records → each_two (λ (a b : Record). not (same_name a.key b.key)) said ≡ true
+keys_differ sheet [] said say once = ap (λ (x : List Record). each_two (λ (a b : Record). not (same_name a.key b.key)) x) say
+keys_differ sheet (fields ∷ records) said (inl (m, more)) once = keys_differ sheet records said more once.1
+keys_differ sheet (fields ∷ records) said (inr (r, others, is, says, more)) once =
+    ap (λ (x : List Record). each_two (λ (a b : Record). not (same_name a.key b.key)) x) is
+    ∙ and_true (list_all (λ (q : Record). not (same_name r.key q.key)) others) (each_two (λ (a b : Record). not (same_name a.key b.key)) others)
+    (others_differ sheet r.key records others more (once.0 r.key (r.command, says))) (keys_differ sheet records others more once.1)
+
+-- ---- the records of the text
 
 begun : (input : Text) (header other : List Text) (records front : List (List Text)) → AreAll input (header ∷ records) → BeginsWith input (other ∷ front) → (behind : List (List Text)) × (records ≡ front ++ behind)
 begun input header other records front (end, left, all, none) (place, rest, reached) =
@@ -207,7 +229,7 @@ take_first [] (x ∷ xs) = refl
 take_first (x ∷ xs) b = ap (λ (y : List Record). x ∷ y) (take_first xs b)
 
 module _ (sheet : Sheet) (limits : Limits) (input : Text) (start now : State) (header : List Text) (front behind : List (List Text)) (all : AreAll input (header ∷ (front ++ behind)))
-    (keys : HasNewKeys sheet start input) (begun_ : HasBegun sheet limits input start now) (key : Option Text) (end : EndInEdit sheet now front key) (none : AllByRecursion (IsNoEdit sheet now) behind) where
+    (keys : HasNewKeys sheet start input) (once : HaveKeysOnce sheet (front ++ behind)) (begun_ : HasBegun sheet limits input start now) (key : Option Text) (end : EndInEdit sheet now front key) (none : AllByRecursion (IsNoEdit sheet now) behind) where
   -- the state is the one after the records that are decided
   settled : (replies : List Reply) (after middle : State) → Replied sheet limits start front replies middle → (said : List Record) → Say sheet (front ++ behind) said → middle ≡ now
   settled replies after middle replied said say =
@@ -217,7 +239,7 @@ module _ (sheet : Sheet) (limits : Limits) (input : Text) (start now : State) (h
       let found : now ≡ state_after limits (take (length looked.first) said) start =
       state_by sheet limits start now begun_.records begun_.replies looked.first begun_.replied looked.say_first
       ∙ ap (λ (x : List Record). state_after limits x start) (sym (ap (take (length looked.first)) looked.both ∙ take_first looked.first looked.others)) in
-      let resumed = new_keys_go_on limits start now said (length looked.first) found (keys header (front ++ behind) said all say) in
+      let resumed = new_keys_go_on limits start now said (length looked.first) found (record { new = keys header (front ++ behind) said all say; different = keys_differ sheet (front ++ behind) said say once }) in
       let count : decided said now ≡ length both.first = ap (λ (x : List Record). decided x now) both.both ∙ decided_said sheet now front behind key both.first both.others end both.say_first both.say_others none in
       let first : take (decided said now) said ≡ both.first = ap (λ n. take n said) count ∙ ap (take (length both.first)) both.both ∙ take_first both.first both.others in
       state_by sheet limits start middle front replies both.first replied both.say_first ∙ ap (λ (x : List Record). state_after limits x start) (sym first) ∙ sym resumed.found
@@ -237,15 +259,20 @@ module _ (sheet : Sheet) (limits : Limits) (input : Text) (start now : State) (h
         state = state;
       }
 
+all_both : (P : List Text → Type 0) (a b : List (List Text)) → AllByRecursion P a → AllByRecursion P b → AllByRecursion P (a ++ b)
+all_both P [] b p q = q
+all_both P (r ∷ rs) b p q = (p.0, all_both P rs b p.1 q)
+
 pub resumed_is_unstopped : ResumedIsUnstopped
 resumed_is_unstopped must_reopen sheet together others limits input start now old earlier whole rest keys begun_ runs (inl not_begun) = absurd not_begun
-resumed_is_unstopped must_reopen sheet together others limits input start now old earlier whole rest keys begun_ (inl (none, same, kept, count)) (inr (d, front, is_decided, runs)) =
+resumed_is_unstopped must_reopen sheet together others limits input start now old earlier whole rest keys begun_ (inl (none, same, kept, count)) (inr (once, d, front, is_decided, runs)) =
     absurd (no_first input begun_.header begun_.records begun_.begins none)
-resumed_is_unstopped must_reopen sheet together others limits input start now old earlier whole rest keys begun_ (inr more) (inr (d, front, is_decided, inl (none, same, kept, count))) =
+resumed_is_unstopped must_reopen sheet together others limits input start now old earlier whole rest keys begun_ (inr more) (inr (once, d, front, is_decided, inl (none, same, kept, count))) =
     absurd (no_first input begun_.header begun_.records begun_.begins none)
-resumed_is_unstopped must_reopen sheet together others limits input start now old earlier whole rest keys begun_ (inr (header, records, replies, is, all, answered_, counts, few)) (inr (d, front, is_decided, inr (header', behind, more, is', all', answered', counts', few'))) =
+resumed_is_unstopped must_reopen sheet together others limits input start now old earlier whole rest keys begun_ (inr (header, records, replies, is, all, answered_, counts, few)) (inr (once, d, front, is_decided, inr (header', behind, more, is', all', answered', counts', few'))) =
     let same : records ≡ front ++ behind = (let e = all-one input (header ∷ records) (header' ∷ (front ++ behind)) all all' in cc e) in
-    rest_of sheet limits input start now header' front behind all' keys begun_ d.key is_decided.last (is_decided.others header' behind is' (begins_all _ all') answered'.width)
+    let alone = once header' (front ++ behind) is' (begins_all _ all') (all_both (λ (r : List Text). length r ≡ width_of sheet) front behind is_decided.wide answered'.width) in
+    rest_of sheet limits input start now header' front behind all' keys alone begun_ d.key is_decided.last (is_decided.others header' behind is' (begins_all _ all') answered'.width)
     old earlier whole rest replies more (rw same at answered_.replied) answered'.replied answered_.written answered'.written
   where
     begins_all : (rs : List (List Text)) → AreAll input rs → BeginsWith input rs

@@ -8,5 +8,6 @@ pub mod Stopping
 pub mod Taking
 pub mod Left
 pub mod Resuming
+pub mod Repeating
 pub mod GoingOn
 pub mod Running

@@ -49,9 +49,10 @@ malformed_edit sheet s fields field first key (command, says, edit) = first.malf
 
 -- ---- the search
 
-one_more_none : (P : List Text → Type 0) (records : List (List Text)) (fields : List Text) → AllByRecursion P records → P fields → AllByRecursion P (records ++ fields ∷ [])
-one_more_none P [] fields all p = (p, tt)
-one_more_none P (r ∷ rs) fields all p = (all.0, one_more_none P rs fields all.1 p)
+-- one more element
+pub one_more_all : (P : List Text → Type 0) (records : List (List Text)) (fields : List Text) → AllByRecursion P records → P fields → AllByRecursion P (records ++ fields ∷ [])
+one_more_all P [] fields all p = (p, tt)
+one_more_all P (r ∷ rs) fields all p = (all.0, one_more_all P rs fields all.1 p)
 
 pub nothing_searched : {R : Type 0} (sheet : Sheet) (rem : R → Option Text) (rows : Reader R) (s : State) (d : Decided) → IsPlain rows → expected_len rows ≡ Some (width_of sheet) → d ≡ record { records = 0; key = None }
     → HasSearched sheet rem rows rows s d 0
@@ -68,7 +69,8 @@ nothing_searched sheet rem rows s d plain width is = record {
   in_turn = refl;
 }
 
-all_front : (P : List Text → Type 0) (front behind : List (List Text)) → AllByRecursion P (front ++ behind) → AllByRecursion P front
+-- the first ones of elements
+pub all_front : (P : List Text → Type 0) (front behind : List (List Text)) → AllByRecursion P (front ++ behind) → AllByRecursion P front
 all_front P [] behind all = tt
 all_front P (r ∷ rs) behind all = (all.0, all_front P rs behind all.1)
 
@@ -89,7 +91,7 @@ module _ {R : Type 0} (sheet : Sheet) (rem : R → Option Text) (first now next 
         gave = rw (append-nil ((h.decided ++ h.others) ++ fields ∷ [])) (gave-more rem first now next (h.decided ++ h.others) (fields ∷ []) h.gave gave);
         number = ap (λ (d : Decided). d.records) is ∙ sym size;
         last = rw is (h.decided ++ h.others, fields, refl, edit);
-        wide = rw (append-nil ((h.decided ++ h.others) ++ fields ∷ [])) (one_more_none (λ (r : List Text). length r ≡ width_of sheet) (h.decided ++ h.others) fields h.wide wide);
+        wide = rw (append-nil ((h.decided ++ h.others) ++ fields ∷ [])) (one_more_all (λ (r : List Text). length r ≡ width_of sheet) (h.decided ++ h.others) fields h.wide wide);
         none = tt;
         in_turn = (omega (arith, size));
       }
@@ -104,8 +106,8 @@ module _ {R : Type 0} (sheet : Sheet) (rem : R → Option Text) (first now next 
     gave = rw (← append_assoc h.decided h.others (fields ∷ [])) (gave-more rem first now next (h.decided ++ h.others) (fields ∷ []) h.gave gave);
     number = h.number;
     last = h.last;
-    wide = rw (← append_assoc h.decided h.others (fields ∷ [])) (one_more_none (λ (r : List Text). length r ≡ width_of sheet) (h.decided ++ h.others) fields h.wide wide);
-    none = one_more_none (IsNoEdit sheet s) h.others fields h.none none;
+    wide = rw (← append_assoc h.decided h.others (fields ∷ [])) (one_more_all (λ (r : List Text). length r ≡ width_of sheet) (h.decided ++ h.others) fields h.wide wide);
+    none = one_more_all (IsNoEdit sheet s) h.others fields h.none none;
     in_turn = (let all = length-append h.others (fields ∷ []) in omega (arith, all, h.in_turn));
   }
 
@@ -254,6 +256,13 @@ none_of_empty sheet rem rows (Some input) s start ends = (
   },
 )
 
+-- a text that begins with another record than the header does not begin with that
+pub other_header : {R : Type 0} (sheet : Sheet) (rem : R → Option Text) (next : Reader R) (input : Text) (fields : List Text) → (IsHeader sheet fields → ⊥) → (header : List Text) (others : List (List Text)) → IsHeader sheet header
+    → BeginsWith input (header ∷ others) → HasRead rem next input (fields ∷ []) → ⊥
+other_header sheet rem next input fields other header others is (place, rest, reached) (left, source, read) =
+    let first = one_first default_config st.StartRecord next.state place (strip_bom input) left rest fields header [] others read reached in
+    other (rw first.same is)
+
 -- nor of one with another header
 pub none_of_other : {R : Type 0} (sheet : Sheet) (rem : R → Option Text) (rows next : Reader R) (known : Option Text) (s : State) (fields : List Text) → IfSome known (λ input. HasRead rem rows input []) → Gave rem rows next (fields ∷ []) → (IsHeader sheet fields → ⊥)
     → IfSome known (λ input. (front : List (List Text)) × IsDecidedBy sheet s input nothing front)
@@ -265,14 +274,9 @@ none_of_other sheet rem rows next (Some input) s fields start gave other = (
     at_front = inl refl;
     wide = tt;
     last = refl;
-    others = λ header others is begins wide. absurd (another header others is begins (gave input [] start));
+    others = λ header others is begins wide. absurd (other_header sheet rem next input fields other header others is begins (gave input [] start));
   },
 )
-  where
-    another : (header : List Text) (others : List (List Text)) → IsHeader sheet header → BeginsWith input (header ∷ others) → HasRead rem next input (fields ∷ []) → ⊥
-    another header others is (place, rest, reached) (left, source, read) =
-        let first = one_first default_config st.StartRecord next.state place (strip_bom input) left rest fields header [] others read reached in
-        other (rw first.same is)
 
 -- under the header it is what the search finds, if it comes to its end
 pub decided_by : {R : Type 0} (sheet : Sheet) (rem : R → Option Text) (rows next : Reader R) (known : Option Text) (s : State) (fields : List Text) (result : Result Decided SheetFault) → IfSome known (λ input. HasRead rem rows input []) → Gave rem rows next (fields ∷ [])

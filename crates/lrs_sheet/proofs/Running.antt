@@ -18,6 +18,7 @@ use Rattle.lrs_sheet_records.specs.declared.sheet.Sheet.{Sheet}
 use Rattle.lrs_sheet.specs.declared.reply.Tally.{Tally}
 use Rattle.lrs_sheet.specs.declared.resumption.Decided.{Decided}
 use Rattle.lrs_sheet.specs.declared.run.Run.{Run}
+use Rattle.lrs_sheet.specs.Repetition.{HasKeysOnce}
 use Rattle.lrs_sheet.specs.Replies.{tally_of}
 use Rattle.lrs_sheet.specs.Resumption.{IsDecidedBy, IsSearchFault}
 use Rattle.lrs_sheet.specs.Rows.{IsRunOfRows}
@@ -116,11 +117,16 @@ module _ {K : Type 0} {holds : K → Result Image Table → Type 0} (sheet : She
     amid = λ same. absurd (never-broken desk.must_reopen e is same);
   }
 
+  -- its keys were not looked through
+  pub unlooked-run : (input : Text) (desk : DeskView K) (text : Option Text) (e : SheetFault) → KeepsImage holds desk → (e ≡ fault.Read) ⊎ (e ≡ fault.Memory) → IsResumedRun holds sheet together input desk desk text text (Err e)
+  unlooked-run input desk text e kept (inl is) = rw is (unsearched-run input desk text fault.Read kept tt)
+  unlooked-run input desk text e kept (inr is) = rw is (unsearched-run input desk text fault.Memory kept tt)
+
   -- a sheet is gone on with behind the decided records
-  pub resumed-run : (input : Text) (before after : DeskView K) (old new : Option Text) (result : Result Tally SheetFault) (d : Decided) → ((front : List (List Text)) × IsDecidedBy sheet (state_of before.image) input d front)
+  pub resumed-run : (input : Text) (before after : DeskView K) (old new : Option Text) (result : Result Tally SheetFault) (d : Decided) → HasKeysOnce sheet input → ((front : List (List Text)) × IsDecidedBy sheet (state_of before.image) input d front)
       → IsRunBehind holds (record { sheet = sheet; together = together; passed = d.records }) (Some input) before after old new result → IsResumedRun holds sheet together input before after old new result
-  resumed-run input before after old new result d (front, by) ran = record {
-    runs = inr (d, front, by, ran.runs front by.at_front (sym by.number));
+  resumed-run input before after old new result d once (front, by) ran = record {
+    runs = inr (once, d, front, by, ran.runs front by.at_front (sym by.number));
     desk = ran.desk;
     broken = λ is kept found. (d, front, by, ran.broken is kept found front by.at_front (sym by.number));
     still = ran.still;

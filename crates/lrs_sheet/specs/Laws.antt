@@ -1,11 +1,11 @@
 -- The laws of sheets: the bytes of a sheet and the state before it determine the bytes of the reply and the state after it; and a sheet whose replies were lost can go on.
-use Rattle.std.specs.Prelude.{◌≡◌, ◌⊎◌, ◌++◌, ◌∷◌, [], ℕ, Bool, List, drop, Some, Ok}
+use Rattle.std.specs.Prelude.{◌≡◌, ◌⊎◌, ◌++◌, ◌∷◌, [], ℕ, Bool, true, List, drop, Some, is_none, Ok}
+use Rattle.std.specs.List.{list_all}
 use Rattle.lrs_machine.specs.Lines.{Text}
 use Rattle.lrs_machine.specs.State.{State}
-use Rattle.lrs_machine.specs.Machine.{Record}
+use Rattle.lrs_machine.specs.Machine.{Record, place_of_key}
 use Rattle.lrs_machine.specs.declared.answer.Field.{Field}
 use Rattle.lrs_machine.specs.declared.answer.Limits.{Limits}
-use Rattle.lrs_machine.specs.Stop.Resumptions.{HaveNewKeys}
 use Rattle.lrs_sheet.specs.declared.reply.Reply.{Reply}
 use Rattle.lrs_sheet.specs.declared.reply.Tally.{Tally}
 use Rattle.lrs_sheet_records.specs.declared.sheet.Sheet.{Sheet}
@@ -44,9 +44,9 @@ Say sheet (fields ∷ records) said =
     (((field : Field) × FirstMalformed (edit_record sheet fields) (place_of field)) × Say sheet records said)
     ⊎ ((r : Record) × (others : List Record) × (said ≡ r ∷ others) × SaysCommand (edit_record sheet fields) r.key r.command × Say sheet records others)
 
--- The keys of a sheet are of no edit of the start, and no two of its well-formed records have one key.
+-- The keys of a sheet are of no edit of the start.
 abbrev pub HasNewKeys : Sheet → State → Text → Type 0
-HasNewKeys sheet start input = (header : List Text) (records : List (List Text)) (said : List Record) → AreAll input (header ∷ records) → Say sheet records said → HaveNewKeys start said
+HasNewKeys sheet start input = (header : List Text) (records : List (List Text)) (said : List Record) → AreAll input (header ∷ records) → Say sheet records said → list_all (λ r. is_none (place_of_key r.key start.done)) said ≡ true
 
 -- Some first records of a sheet have been looked at, and nobody knows how many.
 pub record HasBegun (sheet : Sheet) (limits : Limits) (input : Text) (start now : State) : Type 0 where

@@ -4,5 +4,6 @@ pub mod Sheets
 pub mod Rows
 pub mod Laws
 pub mod WaitingCommands
+pub mod Repetition
 pub mod Resumption
 pub mod Runs

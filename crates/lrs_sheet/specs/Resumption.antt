@@ -1,4 +1,4 @@
--- Going on with a sheet whose replies were lost: behind the last of its records that is an edit of the state.
+-- Going on with a sheet whose replies were lost: behind the last of its records that is an edit of the state, where no two have one key.
 use Rattle.std.specs.Prelude.{◌≡◌, ◌+◌, ◌⊎◌, ⊤, ℕ, IsTrue, Bool, true, List, [], ◌∷◌, ◌++◌, length, Option, Some, None, Result, Ok, Err}
 use Rattle.std.specs.List.{AllByRecursion}
 use Rattle.std.specs.Io.KnownBytes.{Keeps}
@@ -21,6 +21,7 @@ use Rattle.lrs_sheet.specs.declared.reply.Tally.{Tally}
 use Rattle.lrs_sheet.specs.declared.resumption.Decided.{Decided}
 use Rattle.lrs_sheet_records.specs.Rows.{EndsAfter, Gave, IsPlain, NextDiffers}
 use Rattle.lrs_sheet_records.specs.Rows.{BeginsWith}
+use Rattle.lrs_sheet.specs.Repetition.{HasKeysOnce}
 use Rattle.lrs_sheet.specs.Sheets.{BreaksOffBehind, HaveWidth, RunsBehind, StandAtFront}
 
 -- The record says a command that is an edit of the state, under this key.
@@ -61,11 +62,11 @@ abbrev pub IsNotBegun : Bool → State → State → Option Text → Option Text
 IsNotBegun must_reopen before after old new (Ok tally) = ⊥
 IsNotBegun must_reopen before after old new (Err e) = IsSearchFault must_reopen e × (after ≡ before) × Keeps old new
 
--- What resuming a sheet gives: it is run behind the records that are decided; or it is not begun.
+-- What resuming a sheet gives: no two of its records have one key, and it is run behind those that are decided; or it is not begun.
 abbrev pub Resumes : Bool → Sheet → ℕ → Limits → Text → State → State → Option Text → Option Text → Result Tally SheetFault → Type 0
 Resumes must_reopen sheet together limits input before after old new result =
     IsNotBegun must_reopen before after old new result
-    ⊎ ((d : Decided) × (records : List (List Text)) × IsDecidedBy sheet before input d records × RunsBehind records sheet together limits input before after old new result)
+    ⊎ (HasKeysOnce sheet input × (d : Decided) × (records : List (List Text)) × IsDecidedBy sheet before input d records × RunsBehind records sheet together limits input before after old new result)
 
 -- A commit failed behind them.
 abbrev pub BreaksOffResumed : Sheet → ℕ → Limits → Text → State → State → Option Text → Option Text → Result Image Table → Type 0

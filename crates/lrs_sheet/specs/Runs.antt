@@ -1,5 +1,5 @@
 -- Runs of sheets: what each gives, and what it leaves of the desk and of its keeper.
-use Rattle.std.specs.Prelude.{◌≡◌, ℕ, false, List, length, Option, Result, Err, IfSome}
+use Rattle.std.specs.Prelude.{◌≡◌, ℕ, false, List, length, Option, Result, Ok, Err, IfSome}
 use Rattle.lrs_machine.specs.Image.{state_of}
 use Rattle.lrs_machine.specs.Lines.{Text}
 use Rattle.lrs_machine.specs.declared.image.Image.{Image}
@@ -11,7 +11,10 @@ use Rattle.lrs_sheet_records.specs.declared.fault.SheetFault.{SheetFault}
 use Rattle.lrs_sheet_records.specs.declared.fault.SheetFault.TheVariants as fault
 use Rattle.lrs_sheet_records.specs.declared.sheet.Sheet.{Sheet}
 use Rattle.lrs_sheet.specs.declared.reply.Tally.{Tally}
+use Rattle.lrs_sheet.specs.declared.resumption.ResumeFault.{ResumeFault}
+use Rattle.lrs_sheet.specs.declared.resumption.ResumeFault.TheVariants as resume
 use Rattle.lrs_sheet.specs.declared.run.Run.{Run}
+use Rattle.lrs_sheet.specs.Repetition.{IsRepeated}
 use Rattle.lrs_sheet.specs.Resumption.{BreaksOffResumed, Resumes}
 use Rattle.lrs_sheet.specs.Sheets.{BreaksOff, BreaksOffBehind, IsAfterCommands, LeavesDesk, Runs, RunsBehind, StandAtFront, StandsAmid}
 
@@ -58,3 +61,9 @@ module _ {K : Type 0} (holds : K → Result Image Table → Type 0) where
     pub left : IsAfterCommands before.limits (state_of before.image) (state_of after.image)
     pub kept : KeepsImage holds after
     pub amid : result ≡ Err (fault.Desk stop.Keep) → (c : Result Image Table) → holds after.keeper c → StandsAmid before.limits (state_of before.image) (state_of after.image) c
+
+  -- A sheet is gone on with so; or a key stands twice in it, and nothing is done or written.
+  abbrev pub IsResumption : Sheet → ℕ → Text → DeskView K → DeskView K → Option Text → Option Text → Result Tally ResumeFault → Type 0
+  IsResumption sheet together input before after old new (Ok tally) = IsResumedRun sheet together input before after old new (Ok tally)
+  IsResumption sheet together input before after old new (Err (resume.Sheet e)) = IsResumedRun sheet together input before after old new (Err e)
+  IsResumption sheet together input before after old new (Err (resume.RepeatedKey twice)) = IsRepeated sheet input twice × (after ≡ before) × (new ≡ old) × KeepsImage holds after

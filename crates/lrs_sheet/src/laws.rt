@@ -7,8 +7,8 @@ pub fn a_sheet_determines_its_reply()
     ensures { SheetDeterminesReply }
 {}
 
-/// A sheet of new keys whose replies were lost goes on as if it had not stopped: the lines of the records behind the
-/// last one that is an edit, and the state, are those of one run of the whole sheet.
+/// A sheet whose keys are of no earlier edit, and whose replies were lost, goes on as if it had not stopped: the lines of
+/// the records behind the last one that is an edit, and the state, are those of one run of the whole sheet.
 pub fn a_resumed_sheet_is_as_without_a_stop()
     ensures { ResumedIsUnstopped }
 {}

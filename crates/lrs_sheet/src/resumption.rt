@@ -2,7 +2,7 @@
 //!
 //! A whole sheet that is sent again may do what it refused before, since a record that was refused is looked at again
 //! behind commands that stood after it. Where keys are new, going on behind the last edit gives what one run without a
-//! stop would have given (`laws`).
+//! stop would have given (`laws`). A sheet in which a key stands twice does not go on.
 
 ghost use Rattle.std.specs.Prelude.{◌≡◌, ◌≤◌, ◌<◌, ◌-◌, ◌^◌, List, length, Some, IfOk, IfErr, IfSome, IfNone};
 ghost use Rattle.csv.specs.Reading.{expected_len};
@@ -10,10 +10,12 @@ ghost use Rattle.csv.specs.Records.{fields_of};
 ghost use Rattle.lrs_machine.specs.Image.{state_of};
 ghost use Rattle.lrs_machine.specs.Lines.{Text};
 ghost use Rattle.lrs_sheet_records.specs.Kinds.{width_of};
+ghost use Rattle.lrs_sheet.specs.Repetition.{HasKeysOnce};
 ghost use Rattle.lrs_sheet.specs.Resumption.{HasFound, IsDecidedBy, IsEdit, IsNoEdit, IsSearchFault, decided_next};
 ghost use Rattle.lrs_sheet_records.specs.Rows.{IsPlain};
-ghost use Rattle.lrs_sheet.specs.Runs.{IsResumedRun};
+ghost use Rattle.lrs_sheet.specs.Runs.{IsResumedRun, IsResumption};
 
+use crate::repetition::{RepeatedKey, repeated_key};
 use crate::reply::Tally;
 use crate::run::{MAX_RECORDS, Run, run_behind};
 use csv::{ByteRecord, Reader};
@@ -29,6 +31,14 @@ use std::io::{Read, Write};
 pub struct Decided {
     pub records: u32,
     pub key: Option<Key>,
+}
+
+/// Why a sheet does not go on, or not to its end.
+#[derive(Clone, Copy, PartialEq, Eq)]
+pub enum ResumeFault {
+    /// Two of its records have one key; nothing was done.
+    RepeatedKey(RepeatedKey),
+    Sheet(SheetFault),
 }
 
 /// Nothing of a sheet.
@@ -134,13 +144,8 @@ pub fn last_edit<R: Read + Drop, K: Keeper>(
     search(alloc, sheet, &mut rows, &mut row, desk)
 }
 
-/// Goes on with a sheet behind its last record that is an edit, at most this many records together. What stands up to
-/// there is decided, and gets no line.
-///
-/// # Errors
-///
-/// Those of `last_edit`, and nothing is done; then those of `run_sheet`.
-pub fn resume_sheet<W: Write, K: Keeper>(
+/// Goes on with a sheet in which no key stands twice.
+fn go_on<W: Write, K: Keeper>(
     alloc: Global,
     sheet: Sheet,
     together: usize,
@@ -149,6 +154,7 @@ pub fn resume_sheet<W: Write, K: Keeper>(
     desk: &mut Desk<K>,
 ) -> Result<Tally, SheetFault>
     requires together { 1 ≤ together }
+    requires once { HasKeysOnce sheet text.now }
     ensures { IsResumedRun K.may_hold sheet together text.now desk.old desk.new
         (W.contents writer.old) (W.contents writer.new) result }
 {
@@ -160,4 +166,34 @@ pub fn resume_sheet<W: Write, K: Keeper>(
         passed: found.records,
     };
     run_behind(alloc, run, text, writer, desk)
+}
+
+/// Goes on with a sheet behind its last record that is an edit, at most this many records together. What stands up to
+/// there is decided, and gets no line.
+///
+/// # Errors
+///
+/// `RepeatedKey` where two well-formed records have one key, those of `repeated_key` and of `last_edit`, and nothing is
+/// done; then those of `run_sheet`.
+pub fn resume_sheet<W: Write, K: Keeper>(
+    alloc: Global,
+    sheet: Sheet,
+    together: usize,
+    text: &[u8],
+    writer: &mut W,
+    desk: &mut Desk<K>,
+) -> Result<Tally, ResumeFault>
+    requires together { 1 ≤ together }
+    ensures { IsResumption K.may_hold sheet together text.now desk.old desk.new
+        (W.contents writer.old) (W.contents writer.new) result }
+{
+    desk.prove_kept();
+    match repeated_key(alloc, sheet, text) {
+        Ok(None) => match go_on(alloc, sheet, together, text, writer, desk) {
+            Ok(tally) => Ok(tally),
+            Err(fault) => Err(ResumeFault::Sheet(fault)),
+        },
+        Ok(Some(twice)) => Err(ResumeFault::RepeatedKey(twice)),
+        Err(fault) => Err(ResumeFault::Sheet(fault)),
+    }
 }

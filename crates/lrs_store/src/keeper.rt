@@ -130,6 +130,13 @@ impl<S: Alter, R: ReadImage + Drop> Tables<S, R> {
         let _live = self.conn.schema();
     }
 
+    /// Whether a write has failed, or the store was given up.
+    pub fn has_failed(&self) -> bool
+        ensures { result ≡ self.now.is_broken }
+    {
+        self.is_broken
+    }
+
     /// Gives the store up, as where its files are no longer at their path. What an opening may find stays as it is; the
     /// count of failures rises, and each load and each write fails from now on.
     pub fn give_up(&mut self)

@@ -20,12 +20,12 @@ use sqlite_trees::store::Alter;
 use std::alloc::Global;
 
 /// How many tables an inventory has.
-const TABLES: usize = 12;
+pub(crate) const TABLES: usize = 12;
 
-/// Refuses a store that has not the tables of an inventory, or has others too.
-fn check_tables<S: Alter>(alloc: Global, store: &S) -> Result<(), StoreError>
-    ensures { IsClean (S.Store.view store.now)
-        → OnOk result (ListInventory (S.Store.view store.now).trees) }
+/// Which tables a store has.
+pub(crate) fn tables_in<S: Alter>(alloc: Global, store: &S) -> Result<Known, StoreError>
+    ensures { IsClean (S.Store.view store.now) → IfOk result (λ found. found ≡ Known.First 12
+        → ListInventory (S.Store.view store.now).trees) }
 {
     if store.is_broken() {
         return Err(StoreError::Broken);
@@ -34,7 +34,15 @@ fn check_tables<S: Alter>(alloc: Global, store: &S) -> Result<(), StoreError>
         return Err(StoreError::Corrupt);
     };
     let wanted = wanted(alloc)?;
-    match which(&schema, &wanted) {
+    Ok(which(&schema, &wanted))
+}
+
+/// Refuses a store that has not the tables of an inventory, or has others too.
+fn check_tables<S: Alter>(alloc: Global, store: &S) -> Result<(), StoreError>
+    ensures { IsClean (S.Store.view store.now)
+        → OnOk result (ListInventory (S.Store.view store.now).trees) }
+{
+    match tables_in(alloc, store)? {
         Known::First(count) if count == TABLES => Ok(()),
         _ => Err(StoreError::Corrupt),
     }

@@ -4,10 +4,12 @@ use Rattle.lrs_machine.specs.Lines.{Text}
 use Rattle.lrs_machine.specs.declared.image.Image.{Image}
 use Rattle.lrs_machine.specs.declared.table.Table.{Table}
 use Rattle.lrs_sheet.specs.DeskView.{DeskView}
+use Rattle.lrs_sheet.specs.declared.repetition.RepeatedKey.{RepeatedKey}
 use Rattle.lrs_sheet.specs.declared.reply.Tally.{Tally}
 use Rattle.lrs_sheet_records.specs.declared.fault.SheetFault.{SheetFault}
 use Rattle.lrs_sheet_records.specs.declared.fault.SheetFault.TheVariants as fault
 use Rattle.lrs_sheet_records.specs.declared.sheet.Sheet.{Sheet}
+use Rattle.lrs_sheet.specs.Repetition.{IsRepeated}
 use Rattle.lrs_sheet.specs.Runs.{IsResumedRun, IsWholeRun}
 use Rattle.lrs_sheet.specs.Sheets.{records_together}
 use Rattle.lrs_web_requests.specs.declared.response.ContentType.{ContentType}
@@ -42,11 +44,21 @@ abbrev pub IsRunSo : {K : Type 0} → (K → Result Image Table → Type 0) → 
 IsRunSo holds sheet false input before after old new = IsWholeRun holds sheet records_together (Some input) before after (Some old) (Some new)
 IsRunSo holds sheet true input before after old new = IsResumedRun holds sheet records_together input before after (Some old) (Some new)
 
--- the reply to such a run; where memory runs out for it, there is an empty 503 in its place
+-- the reply to such a run; where memory runs out for it, or it would have more bytes than it may, there is an empty 503 in its place
 abbrev pub IsAnswerAfter : {X : Type 0} → Result X SheetFault → Text → Answer → Type 0
 IsAnswerAfter ended lines answer = (answer ≡ answer_after ended lines) ⊎ (answer ≡ empty_answer 503)
 
+-- A sheet is run so, and answered.
+abbrev pub RunsSheet : {K : Type 0} → (K → Result Image Table → Type 0) → Sheet → Bool → Text → DeskView K → Answer → DeskView K → Type 0
+RunsSheet holds sheet resumes input old answer new =
+    (ended : Result Tally SheetFault) × (lines : Text) × IsRunSo holds sheet resumes input old new [] lines ended × IsAnswerAfter ended lines answer
+
+-- A key stands twice in a sheet, which does not go on: nothing is done, and one line names the fault; or there is no memory for it.
+abbrev pub RefusesRepetition : {K : Type 0} → Sheet → Text → DeskView K → Answer → DeskView K → Type 0
+RefusesRepetition sheet input old answer new =
+    (twice : RepeatedKey) × IsRepeated sheet input twice × (new ≡ old) × ((answer ≡ fault_answer (codes "-,fault,RepeatedKey\n") []) ⊎ (answer ≡ empty_answer 503))
+
 -- A sheet is done at a desk, or gone on with, and answered.
 abbrev pub DoesSheet : {K : Type 0} → (K → Result Image Table → Type 0) → Sheet → Bool → Text → DeskView K → Answer → DeskView K → Type 0
-DoesSheet holds sheet resumes input old answer new =
-    (ended : Result Tally SheetFault) × (lines : Text) × IsRunSo holds sheet resumes input old new [] lines ended × IsAnswerAfter ended lines answer
+DoesSheet holds sheet false input old answer new = RunsSheet holds sheet false input old answer new
+DoesSheet holds sheet true input old answer new = RunsSheet holds sheet true input old answer new ⊎ RefusesRepetition sheet input old answer new

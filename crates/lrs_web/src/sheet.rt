@@ -1,13 +1,14 @@
 //! Sheets are done at a desk, and what they are answered.
 
-ghost use Rattle.std.specs.Prelude.{◌≡◌, ◌⊎◌};
+ghost use Rattle.std.specs.Prelude.{◌≡◌, ◌⊎◌, false, true};
 ghost use Rattle.lrs_web_requests.specs.Text.{answer_of, empty_answer};
-ghost use Rattle.lrs_web.specs.Sheets.{DoesSheet, IsAnswerAfter, IsRunSo, fault_answer, lines_answer};
+ghost use Rattle.lrs_web.specs.Sheets.{DoesSheet, IsAnswerAfter, RunsSheet, fault_answer, lines_answer};
 
 use http::StatusCode;
 use lrs_sheet::{
-    Desk, Keeper, RECORDS_TOGETHER, Sheet, SheetFault, Tally, resume_sheet, run_sheet,
+    Desk, Keeper, RECORDS_TOGETHER, ResumeFault, Sheet, SheetFault, Tally, resume_sheet, run_sheet,
 };
+use lrs_web_replies::BoundedBytes;
 use lrs_web_requests::{Content, ContentType, Response};
 use std::alloc::Global;
 
@@ -54,29 +55,45 @@ pub(crate) fn reply_after<T: Drop>(ended: Result<T, SheetFault>, lines: Vec<u8>)
     }
 }
 
-/// Runs a sheet, or what stands behind its last record that is an edit.
-fn run<K: Keeper>(
+/// Does a whole sheet.
+fn do_whole<K: Keeper>(
     alloc: Global,
+    most: usize,
     sheet: Sheet,
-    resumes: bool,
     bytes: &[u8],
-    lines: &mut Vec<u8>,
     desk: &mut Desk<K>,
-) -> Result<Tally, SheetFault>
-    ensures { IsRunSo K.may_hold sheet resumes bytes.now desk.old desk.new
-        lines.old.items lines.new.items result }
+) -> Response
+    ensures { RunsSheet K.may_hold sheet false bytes.now desk.old (answer_of result) desk.new }
 {
-    if resumes {
-        resume_sheet(alloc, sheet, RECORDS_TOGETHER, bytes, lines, desk)
-    } else {
-        run_sheet(alloc, sheet, RECORDS_TOGETHER, bytes, lines, desk)
+    let mut lines = BoundedBytes::new(alloc, most);
+    let ended = run_sheet(alloc, sheet, RECORDS_TOGETHER, bytes, &mut lines, desk);
+    reply_after(ended, lines.bytes)
+}
+
+/// Goes on with a sheet behind its last record that is an edit, unless a key stands twice in it.
+fn go_on<K: Keeper>(
+    alloc: Global,
+    most: usize,
+    sheet: Sheet,
+    bytes: &[u8],
+    desk: &mut Desk<K>,
+) -> Response
+    ensures { DoesSheet K.may_hold sheet true bytes.now desk.old (answer_of result) desk.new }
+{
+    let mut lines = BoundedBytes::new(alloc, most);
+    match resume_sheet(alloc, sheet, RECORDS_TOGETHER, bytes, &mut lines, desk) {
+        Ok(tally) => reply_after(Ok(tally), lines.bytes),
+        Err(ResumeFault::Sheet(fault)) => reply_after::<Tally>(Err(fault), lines.bytes),
+        Err(ResumeFault::RepeatedKey(_)) => { faulty_reply(lines.bytes, b"-,fault,RepeatedKey\n") }
     }
 }
 
 /// Does a sheet whose bytes have all come, or goes on with it behind its last record that is an edit. Where memory or the
-/// keeper fails, some of its records may be done, and the reply is an empty 503; then the sheet can go on.
+/// keeper fails, or the reply would have too many bytes, some of its records may be done, and the reply is an empty 503;
+/// then the sheet can go on.
 pub(crate) fn do_sheet<K: Keeper>(
     alloc: Global,
+    most: usize,
     sheet: Sheet,
     resumes: bool,
     bytes: &[u8],
@@ -84,7 +101,9 @@ pub(crate) fn do_sheet<K: Keeper>(
 ) -> Response
     ensures { DoesSheet K.may_hold sheet resumes bytes.now desk.old (answer_of result) desk.new }
 {
-    let mut lines = Vec::new(alloc);
-    let ended = run(alloc, sheet, resumes, bytes, &mut lines, desk);
-    reply_after(ended, lines)
+    if resumes {
+        go_on(alloc, most, sheet, bytes, desk)
+    } else {
+        do_whole(alloc, most, sheet, bytes, desk)
+    }
 }

@@ -1,4 +1,7 @@
 use Rattle.lrs_web.proofs.sheet.do_sheet.Goals as goal
 
-pub returns : goal.returns
-returns g c = (c.run-ended.result, c.run-ended.new.lines.items, rw c.new-lines.ensures.items at c.run-ended.ensures, c.reply_after.ensures)
+pub returns-then-resumes : goal.returns-then-resumes
+returns-then-resumes g c = rw c.if-resumes.true c.go_on.ensures
+
+pub returns-else-resumes : goal.returns-else-resumes
+returns-else-resumes g c = rw c.if-resumes.false c.do_whole.ensures
