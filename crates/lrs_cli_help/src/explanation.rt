@@ -63,7 +63,11 @@ fn tell_contents(rt: &HostRuntime, db: &str, contents: &Contents) {
             );
         }
         Contents::Unreadable(why) => say_of(rt, db, why.as_str()),
-        Contents::Unknown => say_of(rt, db, "a database that is too large to be looked into here"),
+        Contents::Unknown => say_of(
+            rt,
+            db,
+            "a database that is too large to be looked into here",
+        ),
     }
 }
 
