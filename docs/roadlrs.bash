@@ -35,7 +35,7 @@ declare -g _roadlrs_verbs="link class route ref unref enter retire supersede spl
 declare -gA _roadlrs_options=(
     [edit]="--sums --resume --all"
     [survey]="--sums --resume --all"
-    [serve]="--sums --log --end-on-fault"
+    [serve]="--sums --log --end-on-fault --most-reply="
     [diagram]="--from= --to="
     [check]="--survey"
     [lengths]="--route="

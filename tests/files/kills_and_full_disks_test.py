@@ -266,3 +266,17 @@ def test_the_log_stays_small():
         assert running.end() == (0, b"")
         assert look(path, "SELECT count(*) FROM edit") == [[(len(records),)]]
         assert not log.exists() or log.stat().st_size < 100
+
+
+def test_the_log_stays_small_on_a_route_of_many_pieces():
+    """A group ends behind the record with which more than 4,096 rows are listed: each of these has 2,000, two for each piece."""
+    pieces = " ".join(f"{8 + n % 2}:{20 * n}:{20 * n + 10}:+" for n in range(1_000))
+    records = [record(f"e{n},enter,{n},BAR,R1,B,abs,0,10000,x,0") for n in range(1, 129)]
+    with folder() as path:
+        make(path, "l8,link,8,20000", "l9,link,9,20000", "c1,class,BAR,stretch", f"r1,route,R1,{pieces},0:0 10000:10000")
+        running = Running(path)
+        running.feed([HEADER, *records])
+        assert running.waits_for(len(records))
+        assert path.with_name(path.name + "-wal").stat().st_size < 6_000_000
+        assert running.end() == (0, b"")
+        assert look(path, "SELECT count(*) FROM entered") == [[(len(records) * 2_000,)]]

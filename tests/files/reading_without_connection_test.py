@@ -30,7 +30,7 @@ LOOKS = [
 ]
 
 # What goes by a connection, which tests all that SQLite's rules say of the file.
-TESTED = ["check DB stdin", "edit DB stdin", "audit DB", "serve DB 28117 1"]
+TESTED = ["edit DB stdin", "audit DB", "serve DB 28117 1"]
 
 
 def answers(path):
@@ -142,9 +142,6 @@ def test_rows_that_stand_for_no_inventory_are_named():
 
 def test_other_files_are_opened_as_they_are_for_edits(answered):
     with folder() as path:
-        ends(run("totals", str(path)), b"", 0)
-        assert path.exists() and rows_of(path)["version"] == [(2,)]
-    with folder() as path:
         make_full(path)
         as_first(path)
         assert answers(path) == answered
@@ -157,6 +154,7 @@ def test_other_files_are_opened_as_they_are_for_edits(answered):
         path.write_bytes(b"no database" * 1_000)
         faults(run("totals", str(path)), "Open")
         faults(run("rows", str(path)), "Open")
+        assert list(path.parent.iterdir()) == [path]
 
 
 def run_with_terminal(*words):

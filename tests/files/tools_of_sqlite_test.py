@@ -68,9 +68,9 @@ def is_refused_for(path, reason):
 
 
 REFUSED = {
-    "ANALYZE": (("ANALYZE",), "other tables than an inventory's: version link class asset piece mark ref span entered gone edit origin sqlite_stat1"),
+    "ANALYZE": (("ANALYZE",), "it has TABLE sqlite_stat1, which no inventory has"),
     "a table less": (("DROP TABLE gone",), "other tables than an inventory's: version link class asset piece mark ref span entered edit origin"),
-    "an index more": (("CREATE INDEX by_length ON link (length)",), "the tables of an inventory, made in another order"),
+    "an index more": (("CREATE INDEX by_length ON link (length)",), "it has INDEX by_length, which no inventory has"),
     "free pages that go": (("PRAGMA auto_vacuum = FULL", "VACUUM"), "malformed"),
 }
 

@@ -9,7 +9,7 @@ import pytest
 
 from program import FIRST, FIRST_REPLIES, run, sheet_of, with_files_up_to
 from sent_sheets import random_record
-from serving import by_curl, by_http_client, by_socket, answer, error, reply, request, serving, started
+from serving import AT_3000, by_curl, by_http_client, by_socket, answer, error, reply, request, serving, started
 from stores import MORE, edit, is_whole, make, rows_of
 
 # the fields that are numbers as JSON, of whichever list; all others are texts, but for the measure of a mark, which is whole
@@ -307,16 +307,18 @@ def test_the_health_counts_accepted_edits():
         gets(server, "/health?edits=x", reply(200, b'{"edits":8}'))
 
 
-def test_behind_a_failed_commit_of_one_command_questions_go_on_and_the_health_does_not(tmp_path):
+def test_behind_a_failed_commit_of_one_command_questions_go_on_but_for_places_and_the_health(tmp_path):
     path = tmp_path / "roads.db"
     make(path)
     count = 0
     with started(db=path, **with_files_up_to(400_000)) as server:
         gets(server, "/health", reply(200, b'{"edits":7}'))
+        gets(server, AT_3000, reply(200, b'{"at":2500,"dir":"+","hits":[],"link":1,"mm":2500,"route":"A1"}'))
         while answer(server.port, request("POST /v1/edits", sheet_of(f"k{count},class,C{count},point"))) != reply(503):
             count += 1
-        for target in ["/health", "/health?x=1"]:
+        for target in ["/health", "/health?x=1", AT_3000, "/v1/at?route=B1&method=abs&pos=1", "/v1/at", "/v1/at?x=1"]:
             gets(server, target, reply(503))
+        gets(server, "/v1/translate?route=A1&method=int&pos=1/3&to=abs", reply(200, b'{"method":"abs","pos":"3200","route":"A1"}'))
         classes = answer(server.port, request("GET /v1/classes"))
         assert classes.startswith(b"HTTP/1.1 200 OK\r\n") and classes.count(b'"class"') == 3 + count, classes[:500]
         gets(server, "/health", reply(503))

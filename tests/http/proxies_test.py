@@ -3,6 +3,7 @@
 A client that says nothing, or little at a time, or takes no reply, costs the proxy a connection, and the next client nothing.
 """
 
+import concurrent.futures
 import configparser
 import contextlib
 import http.client
@@ -325,6 +326,18 @@ def test_it_comes_back_after_a_commit_that_failed(tmp_path):
         status, body = once_it_runs(port, sheet, "/v1/edits?resume=1")
         assert status == 200 and body.splitlines()[-1] == b"k30000,done,30001", (status, body[-100:])
     assert len(rows_of(db)["link"]) == len(done.splitlines())
+
+
+def test_who_asks_haproxy_does_not_notice_an_end(tmp_path):
+    """The program ends and is started again while several ask: what it has not answered is asked again."""
+    program_port, db = free_port(), tmp_path / "roads.db"
+    (tmp_path / "index.html").write_text("<p>\n")
+    ends(edit(db, HEADER), b"", 0)
+    with supervised(words_of_the_unit(db, program_port, 60)), balancer(tmp_path, program_port) as port:
+        once_it_runs(port, sheet_of("k1,link,1,5"))
+        with concurrent.futures.ThreadPoolExecutor(6) as pool:
+            got = list(pool.map(lambda _: totals(port), range(240)))
+    assert got == [(200, b'{"totals":[]}')] * 240
 
 
 # The settings of the unit, by section, with the form of each value (the manual pages systemd.unit, systemd.service and systemd.exec).

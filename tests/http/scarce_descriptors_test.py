@@ -1,12 +1,13 @@
 """`roadlrs serve`, where descriptors are wanting or a signal interrupts a call: the service waits or goes on."""
 
+import contextlib
 import pathlib
 import resource
 import select
 import signal
 import time
 
-from serving import ASK, connect, long_question, reply, rest_of, serving, totals_of
+from serving import ASK, connect, long_question, reply, rest_of, serving, started, totals_of
 
 SAYS = reply(200, totals_of())
 
@@ -42,6 +43,20 @@ def test_a_server_without_descriptors_waits_for_them():
         for stream in streams:
             assert rest_of(stream) == SAYS
             stream.close()
+
+
+def test_silent_clients_give_way_where_descriptors_are_few():
+    """Those that came first: the last ones wait for as long as ever."""
+    few = lambda: resource.setrlimit(resource.RLIMIT_NOFILE, (64, 64))
+    with started(preexec_fn=few) as server, contextlib.ExitStack() as streams:
+        silent = [streams.enter_context(connect(server.port)) for _ in range(400)]
+        since = time.monotonic()
+        server.answers(ASK, SAYS)
+        assert time.monotonic() - since < 20
+        assert is_answered(silent[0], 10) and silent[0].recv(1) == b""
+        for _ in range(20):
+            server.answers(ASK, SAYS)
+        assert server.child.poll() is None
 
 
 def stop_and_go_on(server):

@@ -16,7 +16,7 @@ import time
 import pytest
 
 from program import FIRST, FIRST_REPLIES, PATIENCE, PROGRAM, ends, lines, sheet_of, with_files_up_to
-from serving import ASK, HOST, Server, answer, connect, free_port, head_of, long_question, reply, request, rest_of, serving, sheet_reply, started, totals_of
+from serving import ASK, HOST, LONG_QUESTION, Server, answer, connect, free_port, head_of, long_question, reply, request, rest_of, serving, sheet_reply, started, totals_of
 from stores import edit, folder
 
 SILENT, TRICKLING, NEVER_READING = 90, 90, 20
@@ -294,6 +294,68 @@ def test_a_reply_that_is_not_taken_in_time_is_cut():
             with contextlib.suppress(ConnectionResetError):
                 got = rest_of(stream)
                 assert len(got) < len(answered) and answered.startswith(got)
+
+
+def takes_at(stream, rate, got, is_over=lambda: False):
+    """Takes what comes, as many bytes a second as that, until the other end has ended or that is enough."""
+    since = time.monotonic()
+    with contextlib.suppress(ConnectionResetError):
+        while not is_over():
+            due = int(rate * (time.monotonic() - since)) + 65_536 - len(got)
+            if due <= 0:
+                time.sleep(0.01)
+            elif piece := stream.recv(min(due, 262_144)):
+                got += piece
+            else:
+                return
+
+
+def test_a_reply_that_is_being_read_has_more_time():
+    """Each megabyte that its client takes gives it four seconds more: this one takes it in twelve."""
+    sheet, done, question, answered = long_question()
+    with serving(2) as server:
+        server.does("edits", sheet, done)
+        with socket.socket() as stream:
+            stream.setsockopt(socket.SOL_SOCKET, socket.SO_RCVBUF, 262_144)
+            stream.connect((HOST, server.port))
+            stream.sendall(question)
+            got, since = bytearray(), time.monotonic()
+            takes_at(stream, len(answered) / 12, got)
+            assert (len(got), bytes(got) == answered) == (len(answered), True)
+            assert time.monotonic() - since > 8
+
+
+def large_question(stretches):
+    """A sheet of many short stretches, and a question of all their values, many times over."""
+    texts = ["m1,link,4,10000", "m2,class,V,exclusive", f"m3,route,L1,4:0:{stretches}:+,0:0 {stretches}:{stretches}"]
+    texts += [f"v{n},enter,{n + 1},V,L1,B,abs,{n},{n + 1},{n:012},0" for n in range(stretches)]
+    return sheet_of(*texts), lines(*(f"{text.split(',')[0]},done,{n}" for n, text in enumerate(texts, 1)))
+
+
+def test_no_reply_that_is_being_read_is_cut_for_another():
+    """Three of 36 MB are. A fourth has no room beside them and is a 503, and small ones are served as ever."""
+    sheet, done = large_question(2_400)
+    replies, over = [bytearray() for _ in range(3)], threading.Event()
+    with started() as server, contextlib.ExitStack() as streams:
+        server.does("edits", sheet, done)
+        readers = []
+        for got in replies:
+            stream = streams.enter_context(connect(server.port))
+            stream.sendall(LONG_QUESTION)
+            takes_at(stream, 700_000, got, got.__len__)
+            thread = threading.Thread(target=takes_at, args=(stream, 700_000, got, over.is_set))
+            thread.start()
+            readers.append((thread, stream, got))
+        server.answers(LONG_QUESTION, reply(503))
+        server.answers(request("GET /health"), reply(200, b'{"edits":2403}'))
+        over.set()
+        for thread, stream, got in readers:
+            thread.join()
+            got += rest_of(stream)
+        assert replies[0].startswith(b"HTTP/1.1 200 OK\r\n") and len(replies[0]) > 35_000_000
+        assert replies[0] == replies[1] == replies[2]
+        # now there is room
+        assert answer(server.port, LONG_QUESTION) == replies[0]
 
 
 def test_the_oldest_gives_way_where_too_many_wait():

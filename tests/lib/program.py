@@ -125,17 +125,22 @@ def shown_on(terminal):
     return reader, seen
 
 
-def run_on_terminal(sheet, *names, **streams):
+def on_terminal(names, *words, **settings):
     """A run with the streams of these names on one terminal, and what that shows."""
     outer, inner = pty.openpty()
     reader, seen = shown_on(outer)
     try:
-        ended = run("edit", ":memory:", "stdin", given=sheet, **streams, **dict.fromkeys(names, inner))
+        ended = run(*words, **settings, **dict.fromkeys(names, inner))
     finally:
         os.close(inner)
         reader.join()
         os.close(outer)
     return ended, b"".join(seen)
+
+
+def run_on_terminal(sheet, *names, **streams):
+    """The same of a run that does a sheet in memory."""
+    return on_terminal(names, "edit", ":memory:", "stdin", given=sheet, **streams)
 
 
 def after_first(*rows):

@@ -10,8 +10,8 @@ import tempfile
 
 import pytest
 
-from program import FIRST, FIRST_REPLIES, PROGRAM, TOP, ends, faults, long_sheet, run, sheet_of
-from stores import edit, make_full
+from program import FIRST, FIRST_REPLIES, HEADER, PROGRAM, TOP, ends, faults, long_sheet, on_terminal, run, sheet_of, with_files_up_to
+from stores import change, edit, is_whole, make_full
 
 
 @pytest.fixture
@@ -66,15 +66,19 @@ def test_a_word_that_cannot_be_read_is_told(words, hint):
 # ---- faults
 
 
-def explained(*words, given=b""):
-    """What is explained of the fault in which the run ends, behind which its own line stands as ever."""
-    ended = run(*words, "--explain", given=given)
+def explained(*words, given=b"", **settings):
+    """What is explained of the fault in which the run ends, behind which its own line stands as ever: the fault, and these lines, alike
+    where that is asked for and where standard error is a terminal. Elsewhere the one line stands alone."""
+    ended = run(*words, "--explain", given=given, **settings)
     *said, last = ended.stderr.decode().splitlines()
-    assert ended.status == 3 and said and all(line.startswith("explain: ") for line in said), ended
-    assert said[-1].startswith("explain: docs/"), ended
-    plain = run(*words, given=given)
-    assert (plain.stdout, plain.stderr.decode().splitlines(), plain.status) == (ended.stdout, [last], 3), (plain, ended)
-    return last.removeprefix("roadlrs: fault "), said[0]
+    said = [line for line in said if line.startswith("explain: ")]
+    assert ended.status == 3 and said and said[-1].startswith("explain: docs/"), ended
+    plain = run(*words, given=given, **settings)
+    assert (plain.stdout, plain.stderr.decode().splitlines()[-1], plain.status) == (ended.stdout, last, 3), (plain, ended)
+    assert b"explain: " not in plain.stderr, plain
+    unasked, shown = on_terminal(["stderr"], *words, given=given, **settings)
+    assert (unasked.stdout, unasked.status) == (ended.stdout, 3) and shown.replace(b"\r\n", b"\n").endswith(("\n".join([*said, last]) + "\n").encode()), (shown, ended)
+    return last.removeprefix("roadlrs: fault "), said
 
 
 def there(top):
@@ -82,26 +86,71 @@ def there(top):
     return {path.name: path.read_bytes() if path.is_file() else None for path in top.iterdir() if not (path.name.endswith("-wal") and path.stat().st_size < 100)}
 
 
+def is_unopened(path, part, *words):
+    """The command of these words does not open the inventory that DB stands for, and this is said of it; the lines."""
+    fault, said = explained(*(str(path) if word == "DB" else word for word in words or ("list", "DB", "routes")))
+    assert fault == "Open" and said[0].startswith(f"explain: {path}: ") and part in said[0], said
+    return said
+
+
 def test_files_that_cannot_be_opened(top):
     (top / "folder").mkdir()
+    os.mkfifo(top / "pipe")
     (top / "text").write_bytes(b"hello\n" * 100)
     with sqlite3.connect(top / "other") as other:
         other.execute("CREATE TABLE t (a)")
         other.execute("CREATE TABLE u (a)")
     other.close()
-    make_full(top / "cut")
-    os.truncate(top / "cut", 5000)
     make_full(top / "lost")
     (top / "lost-wal").write_bytes(b"x" * 5000)
     (top / "lost").unlink()
-    cases = [("none/x", "no such file"), ("folder", "it is a folder"), ("text", "not a database"), ("other", "other tables than an inventory's: t u")]
-    cases += [("lost", "its log beside it")]
+    cases = [("none", "there is no such file"), ("none/x", f"there is no folder {top}/none"), ("folder", "it is a folder"), ("pipe", "it is a device, a pipe")]
+    cases += [("text", "not a database"), ("other", "other tables than an inventory's: t u"), ("lost", "its log beside it")]
     for name, part in cases:
         before = there(top)
-        fault, said = explained("at", str(top / name), "A1", "abs", "5")
-        assert fault == "Open" and str(top / name) in said and part in said, (name, said)
+        is_unopened(top / name, part)
         assert there(top) == before, name
+    make_full(top / "cut")
+    os.truncate(top / "cut", 5000)
     assert explained("at", str(top / "cut"), "A1", "abs", "5")[0] in ("Open", "Unsound:link")
+
+
+def test_an_inventory_that_is_not_there(top):
+    """What is said goes by whether the command makes one."""
+    assert "edit and survey make one" in is_unopened(top / "x", "no such file", "rows", "DB")[1]
+    assert "without --existing" in is_unopened(top / "x", "no such file", "edit", "DB", "stdin", "--existing")[1]
+    assert "make the folder" in is_unopened(top / "none" / "x", "there is no folder", "edit", "DB", "stdin")[1]
+    is_unopened("/proc/x", "it is not there, and was not made", "edit", "DB", "stdin")
+    assert list(top.iterdir()) == []
+
+
+ADDED = {
+    "VIEW lengths": ["CREATE VIEW lengths AS SELECT length FROM link"],
+    "TABLE note": ["CREATE TABLE note (text TEXT)"],
+    "TABLE sqlite_stat1": ["ANALYZE", "DROP TABLE IF EXISTS sqlite_stat4"],
+    "INDEX by_length": ["CREATE INDEX by_length ON link (length)"],
+}
+
+
+@pytest.mark.parametrize("what", ADDED)
+def test_what_was_added_is_named_and_can_be_taken_away(top, what):
+    db = top / "roads.db"
+    make_full(db)
+    change(db, *ADDED[what])
+    said = is_unopened(db, f"it has {what}, which no inventory has")
+    command = re.fullmatch(r"explain: (sqlite3 .*) takes it away; the file was not changed", said[1])[1]
+    assert command == f"sqlite3 {db} 'DROP {what}'"
+    subprocess.run(["sh", "-ec", command], check=True, timeout=60)
+    assert run("totals", str(db)).status == 0
+    is_whole(db)
+
+
+def test_a_database_that_is_not_understood(top):
+    """One with a trigger is not opened by the kit's sqlite, as one that is damaged."""
+    db = top / "roads.db"
+    make_full(db)
+    change(db, "CREATE TRIGGER later AFTER INSERT ON link BEGIN SELECT 1; END")
+    assert "has a trigger" in is_unopened(db, "not a database that obeys its schema")[1]
 
 
 def tables_in_another_order(db, other):
@@ -120,7 +169,7 @@ def test_tables_in_another_order_are_named_and_can_be_copied(top):
     make_full(top / "roads.db")
     tables_in_another_order(top / "roads.db", top / "OLD.db")
     fault, said = explained("totals", str(top / "OLD.db"))
-    assert fault == "Open" and "in another order" in said, said
+    assert fault == "Open" and "in another order" in said[0], said
     (top / "HEADER.csv").write_bytes(FIRST.split(b"\n")[0] + b"\n")
     page = (TOP / "docs" / "OPERATING.md").read_text()
     commands = re.search(r"^(\./roadlrs edit NEW\.db HEADER\.csv\n.*?)^```$", page, re.M | re.S)[1]
@@ -130,6 +179,14 @@ def test_tables_in_another_order_are_named_and_can_be_copied(top):
         ends(run(command, top / "NEW.db", *rest), run(command, top / "roads.db", *rest).stdout, 0)
 
 
+def is_holder(said, process):
+    """The process is named, where the system lists its locks."""
+    locks = pathlib.Path("/proc/locks")
+    if locks.exists() and f" {process} " in locks.read_text():
+        name = pathlib.Path(f"/proc/{process}/comm").read_text().strip()
+        assert said.endswith(f"another program has it open: {name}, process {process}"), said
+
+
 def test_a_file_that_another_program_has(top):
     db = top / "roads.db"
     make_full(db)
@@ -137,39 +194,190 @@ def test_a_file_that_another_program_has(top):
     try:
         assert server.stdout.readline() == b"listening 28117\n"
         fault, said = explained("totals", str(db))
-        assert fault == "Open" and "another program has it open" in said, said
+        assert fault == "Open" and "another program has it open" in said[0], said
+        is_holder(said[0], server.pid)
         fault, said = explained("serve", ":memory:", "28117", "5")
-        assert fault == "Door" and "28117" in said, said
+        assert fault == "Door" and "28117" in said[0], said
     finally:
         server.send_signal(signal.SIGKILL)
         server.wait()
         server.stdout.close()
 
 
+def test_a_file_that_a_reader_of_sqlite_has(top):
+    db = top / "roads.db"
+    make_full(db)
+    reader = sqlite3.connect(db, isolation_level=None)
+    try:
+        reader.execute("BEGIN")
+        reader.execute("SELECT * FROM link").fetchall()
+        said = explained("edit", str(db), "stdin", given=FIRST)[1]
+        assert "another program has it open" in said[0], said
+        is_holder(said[0], os.getpid())
+    finally:
+        reader.close()
+
+
 def test_files_that_the_system_does_not_open(top):
     (top / "loop").symlink_to(top / "loop")
     make_full(top / "one")
     os.link(top / "one", top / "two")
-    for name in ("loop", "two"):
-        fault, said = explained("totals", str(top / name))
-        assert fault == "Open" and said.startswith(f"explain: {top / name}: ") and len(said.split(": ")[2]) > 5, said
+    is_unopened(top / "two", "a second name")
+    fault, said = explained("totals", str(top / "loop"))
+    assert fault == "Open" and said[0].startswith(f"explain: {top / 'loop'}: ") and len(said[0].split(": ")[2]) > 5, said
 
 
-def test_sheets(top):
-    fault, said = explained("edit", ":memory:", str(top / "none.csv"))
-    assert fault == "Read" and "none.csv" in said, said
-    assert explained("edit", ":memory:", "stdin", given=b"a,b\n")[0] == "BadHeader"
+# ---- faults of sheets
+
+
+HEADERS = {
+    "edit": "key,verb,a,b,c,d,e,f,g,h,i",
+    "survey": "key,asset,class,route,side,method,from,to,value,offset",
+    "ask": "key,question,a,b,c,d",
+}
+
+
+@pytest.fixture
+def sheet_at(top):
+    """Says what is explained of a sheet of these bytes, in a file: the fault, the line on the sheet, and what follows that."""
+    make_full(top / "roads.db")
+
+    def said_of(command, text, *options):
+        sheet = top / "a sheet"
+        sheet.write_bytes(text)
+        fault, said = explained(command, str(top / "roads.db"), str(sheet), *options)
+        assert said[0].startswith(f"explain: {sheet}: "), said
+        return fault, said[0].removeprefix(f"explain: {sheet}: "), "\n".join(said[1:])
+
+    return said_of
+
+
+@pytest.mark.parametrize("command", HEADERS)
+def test_another_header_is_shown(sheet_at, command):
+    header = HEADERS[command]
+    fault, line, rest = sheet_at(command, b"key,what,x\n1,2,3\n")
+    assert fault == "BadHeader" and line.startswith("line 1: ") and "what" in line and f"the header {header} is wanted" in line, line
+    assert "nothing was " in rest
+    for text, trace in [
+        (header.replace(",", ";"), "semicolons"),
+        (header.replace(",", "\t"), "tabs"),
+        ("sep=,\n" + header, "sep="),
+        (header.upper(), "small letters"),
+        ("PK\x03\x04\x14\x00", "workbook"),
+    ]:
+        assert trace in sheet_at(command, (text + "\n").encode())[2], text
+    assert "UTF-16" in sheet_at(command, (header + "\n").encode("utf-16"))[2]
+
+
+@pytest.mark.parametrize("command", HEADERS)
+def test_what_is_shown_of_a_sheet_is_short_and_printable(sheet_at, command):
+    for text in (b"\x1b[31mred\x07\xff\n", b"x" * 100_000, b"\x1b" * 1_000 + b"," * 1_000):
+        fault, line, rest = sheet_at(command, text)
+        assert fault == "BadHeader" and len(line) < 1_500 and all(" " <= c <= "~" for c in line), line
+
+
+def test_the_header_of_the_other_kind_is_known(sheet_at):
+    assert "this is the header of a survey" in sheet_at("edit", HEADERS["survey"].encode() + b"\n")[1]
+    assert "this is the header of an edit sheet" in sheet_at("survey", HEADER)[1]
+
+
+def test_a_record_of_another_width_is_shown(sheet_at):
+    fault, line, rest = sheet_at("edit", HEADER + b"k1,link,1,5,,,,,,,\n\"a\nb\",link\n")
+    assert fault == "BadCsv" and line.startswith("line 3: the record has 2 fields, and 11 are wanted"), line
+    assert "--resume" in rest
+    fault, line, rest = sheet_at("ask", b"key,question,a,b,c,d\n1,routes,,,\n")
+    assert fault == "BadCsv" and line.startswith("line 2: the record has 5 fields, and 6 are wanted"), line
+    assert "ask again" in rest
+
+
+def test_a_sheet_that_is_tried_is_told_once(sheet_at):
+    """The advice says where it stops; the explanation does not say so again."""
+    for command, *options in (["edit", "--all"], ["check"], ["survey", "--all"], ["check", "--survey"]):
+        fault, line, rest = sheet_at(command, b"key,what,x\n", *options)
+        assert fault == "BadHeader" and "what" not in line and "nothing was done" in rest, line
+    fault, line, rest = sheet_at("edit", FIRST + b"a,b\n", "--all")
+    assert fault == "BadCsv" and "nothing was done" in rest, (line, rest)
+
+
+def test_sheets_that_are_read_once():
+    """Of standard input there is nothing more to read: what is wanted is said, and what says where it is wrong."""
+    fault, said = explained("edit", ":memory:", "stdin", given=b"a,b\n")
+    assert fault == "BadHeader" and HEADERS["edit"] in said[0] and "roadlrs check DB FILE says where" in said[1], said
+    fault, said = explained("survey", ":memory:", "stdin", given=b"a,b\n")
+    assert fault == "BadHeader" and HEADERS["survey"] in said[0] and "--survey" in said[1], said
     assert explained("edit", ":memory:", "stdin", given=FIRST + b"a,b\n")[0] == "BadCsv"
+    with tempfile.TemporaryDirectory() as folder:
+        pipe = pathlib.Path(folder) / "pipe"
+        os.mkfifo(pipe)
+        for given in (b"a,b\n", FIRST + b"a,b\n"):
+            writer = subprocess.Popen(["sh", "-c", 'cat >"$0"', pipe], stdin=subprocess.PIPE)
+            ended = subprocess.Popen([PROGRAM, "edit", ":memory:", pipe, "--explain"], stdout=subprocess.PIPE, stderr=subprocess.PIPE)
+            writer.communicate(given)
+            assert b"explain: " in ended.communicate(timeout=60)[1] and ended.returncode == 3
 
 
-def test_rows_that_break_a_rule(top):
+def test_a_sheet_that_is_not_read(top):
+    for name, part in (("none.csv", "No such file"), (".", "it is a folder")):
+        fault, said = explained("edit", ":memory:", str(top / name))
+        assert fault == "Read" and said[0].startswith(f"explain: {top / name}: ") and part in said[0], said
+        assert "nothing was done" in said[1] and not any("kept" in line for line in said), said
+
+
+# ---- faults of what is written
+
+
+def test_the_reason_of_the_system_is_told(top):
+    with open("/dev/full", "wb") as full:
+        fault, said = explained("edit", ":memory:", "stdin", given=FIRST, stdout=full)
+        assert fault == "Write" and "No space left on device" in said[0], said
+    fault, said = explained("page", str(top / "none" / "page"))
+    assert fault == "Write" and said[0].startswith(f"explain: {top / 'none' / 'page'}: the folder could not be made"), said
+
+
+def test_nothing_is_explained_to_a_reader_that_went():
+    sheet = long_sheet(500)[0]
+    for words in (["edit", ":memory:", "stdin"], ["edit", ":memory:", "stdin", "--explain"]):
+        reader, writer = os.pipe()
+        os.close(reader)
+        try:
+            ended, shown = on_terminal(["stderr"], *words, given=sheet, stdout=writer)
+        finally:
+            os.close(writer)
+        assert (ended.status, shown) == (3, b""), (ended, shown)
+
+
+def test_a_commit_that_fails_is_explained(top):
+    sheet = long_sheet(3_000)[0]
+    db = str(top / "roads.db")
+    ended = run("edit", db, "stdin", "--explain", given=sheet, **with_files_up_to(100_000))
+    *said, last = ended.stderr.decode().splitlines()
+    assert last == "roadlrs: fault Keep" and said[0].startswith(f"explain: {db}: the disk is full"), ended
+    assert "--resume" in said[2], said
+    assert run("edit", db, "stdin", "--resume", given=sheet).status == 0
+
+
+# ---- rows that break a rule
+
+BROKEN = {
+    "a stretch of nothing": ("UPDATE span SET hi = lo WHERE asset = 12", "span", "the row 12 A2 2999: it ends where it begins"),
+    "a kind of no class": ("UPDATE class SET kind = 7 WHERE name = 'RAIL'", "class", "the row RAIL: its kind is none of"),
+    "a link of no length": ("UPDATE link SET length = 0 WHERE number = 3", "link", "the row 3: its length is out of range"),
+    "an offset": ("UPDATE asset SET lateral = 100001 WHERE number = 11", "asset", "the row 11: its lateral offset"),
+    "a direction": ("UPDATE piece SET dir = 2 WHERE route = 'A2'", "piece", "the row A2 0: its direction"),
+    "a referent of no route": ("UPDATE ref SET route = 'B9'", "ref", "the row KM2: there is no such route"),
+    "a link that is not there": ("UPDATE piece SET link = 99", "piece", "a rule of its rows is broken: "),
+    "two marks that do not rise": ("UPDATE mark SET measure = 0 WHERE route = 'A1'", "mark", "a rule of its rows is broken: "),
+}
+
+
+@pytest.mark.parametrize("what", BROKEN)
+def test_a_row_that_breaks_a_rule_is_named(top, what):
+    statement, table, part = BROKEN[what]
     db = top / "roads.db"
     make_full(db)
-    with sqlite3.connect(db) as other:
-        other.execute("UPDATE span SET hi = lo")
-    other.close()
+    change(db, statement)
     fault, said = explained("totals", str(db))
-    assert fault.startswith("Unsound:") and fault in said, said
+    assert fault == f"Unsound:{table}" and said[0].startswith(f"explain: {db}: {fault}: {part}"), (fault, said)
 
 
 def test_nothing_is_explained_where_nothing_stops():

@@ -29,6 +29,7 @@ from program import (
 LONG, LONG_REPLIES = long_sheet(60_000)
 BAD_RECORD = b"of one field\n"
 PROGRESS_TAKEN_AWAY = rb"(?:\r\d+ records)+\r\x1b\[K"
+EXPLAINED = rb"(?:explain: [^\r\n]+\r\n)+"
 
 
 def onto_full_device(*words, given=b""):
@@ -191,11 +192,11 @@ def test_a_last_line_without_an_end_is_told_on_a_terminal():
 def test_progress_is_taken_away_before_a_fault():
     ended, shown = run_on_terminal(LONG + BAD_RECORD, "stderr")
     ends(ended, LONG_REPLIES, 3)
-    assert re.fullmatch(PROGRESS_TAKEN_AWAY + rb"roadlrs: fault BadCsv\r\n", shown), shown[-200:]
+    assert re.fullmatch(PROGRESS_TAKEN_AWAY + EXPLAINED + rb"roadlrs: fault BadCsv\r\n", shown), shown[-500:]
     with open("/dev/full", "wb") as full:
         ended, shown = run_on_terminal(LONG, "stderr", stdout=full)
     ends(ended, b"", 3)
-    assert shown == b"roadlrs: fault Write\r\n", shown[-200:]
+    assert re.fullmatch(EXPLAINED + rb"roadlrs: fault Write\r\n", shown), shown[-500:]
 
 
 def test_replies_on_a_terminal_are_whole_lines():

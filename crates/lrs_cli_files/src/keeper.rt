@@ -5,32 +5,29 @@ use crate::place::Place;
 use lrs_desk::{Batches, Change, CommitFault, Holder, Image, Keeper, LoadFault, Staged};
 use lrs_store::Tables;
 use lrs_store_image::Reader;
-use sqlite::{FileFrom, FileStore, Unknown};
+use sqlite::Alter;
 use std::alloc::{AllocError, Global};
 
 /// Keeps an inventory in the tables of a file and its log, at a path of the system. A write is done only where these files
 /// still stand there: else it would be acknowledged into nothing.
-pub struct FileTables {
-    pub(crate) tables: Tables<FileStore<FileFrom<Unknown>>, Reader>,
+pub struct FileTables<A: Alter> {
+    pub(crate) tables: Tables<A, Reader>,
     pub(crate) place: Place,
 }
 
-impl Holder for FileTables {
-    ghost may_hold = { λ k. ⟦<Tables<FileStore<FileFrom<Unknown>>, Reader> as Holder>⟧.may_hold k.tables };
+impl<A: Alter> Holder for FileTables<A> {
+    ghost may_hold = { λ k. ⟦<Tables<A, Reader> as Holder>⟧.may_hold k.tables };
 
-    ghost is_clean = { λ k. ⟦<Tables<FileStore<FileFrom<Unknown>>, Reader> as Holder>⟧.is_clean k.tables };
+    ghost is_clean = { λ k. ⟦<Tables<A, Reader> as Holder>⟧.is_clean k.tables };
 
-    ghost is_open = { λ k. ⟦<Tables<FileStore<FileFrom<Unknown>>, Reader> as Holder>⟧.is_open k.tables };
+    ghost is_open = { λ k. ⟦<Tables<A, Reader> as Holder>⟧.is_open k.tables };
 
-    ghost is_loaded = { λ k. ⟦<Tables<FileStore<FileFrom<Unknown>>, Reader> as Holder>⟧.is_loaded k.tables };
+    ghost is_loaded = { λ k. ⟦<Tables<A, Reader> as Holder>⟧.is_loaded k.tables };
 
-    ghost failures = { λ k. ⟦<Tables<FileStore<FileFrom<Unknown>>, Reader> as Holder>⟧.failures k.tables };
+    ghost failures = { λ k. ⟦<Tables<A, Reader> as Holder>⟧.failures k.tables };
 }
 
-impl Batches for FileTables {
-    ghost use Rattle.std.specs.Prelude.{refl};
-    ghost use Rattle.std.proofs.Common.{inl};
-    ghost use Rattle.sqlite_store.specs.Laws.{stays_at};
+impl<A: Alter> Batches for FileTables<A> {
     ghost use Rattle.lrs_store.specs.TableKeeper.HeldImages.{finds_left};
 
     fn load(&mut self, alloc: Global) -> Result<Image, LoadFault> {
@@ -48,33 +45,30 @@ impl Batches for FileTables {
         }
     }
 
-    ghost finds = { λ k clean opened. finds_left _ _ clean (stays_at k.tables.conn.store (λ f. inl refl) opened) };
+    ghost finds = { λ k clean opened. finds_left _ _ clean (A.Store.stays k.tables.conn.store opened) };
 }
 
 /// The same, with the changes that are staged for its tables.
-pub struct FileKeeper {
-    pub(crate) inner: Staged<FileTables>,
+pub struct FileKeeper<A: Alter> {
+    pub(crate) inner: Staged<FileTables<A>>,
 }
 
-impl Holder for FileKeeper {
-    ghost may_hold = { λ k. ⟦<Staged<FileTables> as Holder>⟧.may_hold k.inner };
+impl<A: Alter> Holder for FileKeeper<A> {
+    ghost may_hold = { λ k. ⟦<Staged<FileTables<A>> as Holder>⟧.may_hold k.inner };
 
-    ghost is_clean = { λ k. ⟦<Staged<FileTables> as Holder>⟧.is_clean k.inner };
+    ghost is_clean = { λ k. ⟦<Staged<FileTables<A>> as Holder>⟧.is_clean k.inner };
 
-    ghost is_open = { λ k. ⟦<Staged<FileTables> as Holder>⟧.is_open k.inner };
+    ghost is_open = { λ k. ⟦<Staged<FileTables<A>> as Holder>⟧.is_open k.inner };
 
-    ghost is_loaded = { λ k. ⟦<Staged<FileTables> as Holder>⟧.is_loaded k.inner };
+    ghost is_loaded = { λ k. ⟦<Staged<FileTables<A>> as Holder>⟧.is_loaded k.inner };
 
-    ghost failures = { λ k. ⟦<Staged<FileTables> as Holder>⟧.failures k.inner };
+    ghost failures = { λ k. ⟦<Staged<FileTables<A>> as Holder>⟧.failures k.inner };
 }
 
-impl Keeper for FileKeeper {
-    ghost use Rattle.std.specs.Prelude.{refl};
-    ghost use Rattle.std.proofs.Common.{inl};
-    ghost use Rattle.sqlite_store.specs.Laws.{stays_at};
+impl<A: Alter> Keeper for FileKeeper<A> {
     ghost use Rattle.lrs_store.specs.TableKeeper.HeldImages.{finds_left};
 
-    ghost staged = { λ k. ⟦<Staged<FileTables> as Keeper>⟧.staged k.inner };
+    ghost staged = { λ k. ⟦<Staged<FileTables<A>> as Keeper>⟧.staged k.inner };
 
     fn load(&mut self, alloc: Global) -> Result<Image, LoadFault> {
         self.inner.load(alloc)
@@ -88,5 +82,5 @@ impl Keeper for FileKeeper {
         self.inner.commit()
     }
 
-    ghost finds = { λ k clean opened. finds_left _ _ clean (stays_at k.inner.batches.tables.conn.store (λ f. inl refl) opened) };
+    ghost finds = { λ k clean opened. finds_left _ _ clean (A.Store.stays k.inner.batches.tables.conn.store opened) };
 }

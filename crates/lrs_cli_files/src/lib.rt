@@ -4,6 +4,8 @@
 mod keeper;
 mod place;
 mod stored;
+mod system;
 
 pub use keeper::FileKeeper;
 pub use stored::StoredFiles;
+pub use system::SystemFiles;

@@ -1,98 +1,192 @@
 //! What stands behind each fault of a job, and what to do about it: lines on standard error.
 
+use crate::contents::Contents;
+use crate::flaw::tell_flaw;
+use crate::holder::Holder;
 use crate::inspection::{Found, inspect};
-use crate::job_texts::{has_questions, inventory_of, port_of, sheet_of};
+use crate::job_texts::{
+    does_records, folder_of, has_questions, inventory_of, is_in_memory, makes_inventory, port_of,
+    sheet_kind, sheet_of, tries_sheet, wanted_header,
+};
+use crate::lines::{say, say_of};
+use crate::rules::{BrokenRow, broken_row, rules_of};
 use lrs_cli_words::Job;
-use std::fs;
+use lrs_sheet_advice::SheetFlaw;
+use lrs_sheet_records::Sheet;
+use std::io::ErrorKind;
 use std::rt::HostRuntime;
+use std::{fs, io};
 
-// A line of an explanation. Where standard error takes nothing, the status alone tells.
-fn say(rt: &HostRuntime, text: &str) {
-    let _ = eprintln!(rt; "explain: {text}");
+// What is said of a path where nothing is.
+fn nothing_there(job: &Job<'_>, existing: bool) -> &'static str {
+    if makes_inventory(job) && !existing {
+        "it is not there, and was not made: its folder is not open to you to write, or its disk is full"
+    } else {
+        "there is no such file"
+    }
 }
 
-fn say_of(rt: &HostRuntime, name: &str, text: &str) {
-    let _ = eprintln!(rt; "explain: {name}: {text}");
+fn tell_holder(rt: &HostRuntime, db: &str, holder: &Option<Holder>) {
+    match holder {
+        Some(Holder { process, name }) => {
+            let _ = eprintln!(rt;
+                "explain: {db}: another program has it open: {name}, process {process}"
+            );
+        }
+        None => say_of(
+            rt,
+            db,
+            "another program has it open, as roadlrs serve or sqlite3",
+        ),
+    }
 }
 
-/// The inventory cannot be opened: what is found at its path.
-pub fn explain_open(rt: &HostRuntime, job: &Job<'_>) {
-    let db = inventory_of(job).unwrap_or("");
-    match inspect(rt, db) {
-        Found::Nothing => {
-            say_of(rt, db, "there is no such file, or no such folder for one");
-            say(
-                rt,
-                "name a file that is there; edit and survey make one in a folder that is there",
-            );
+// Says what a database has.
+fn tell_contents(rt: &HostRuntime, db: &str, contents: &Contents) {
+    match contents {
+        Contents::Inventory => say_of(
+            rt,
+            db,
+            "the file is in order; its log named -wal could not be opened, or not made",
+        ),
+        Contents::OtherOrder => say_of(
+            rt,
+            db,
+            "the tables of an inventory, made in another order or with other columns",
+        ),
+        Contents::Added(sort, name) => {
+            let _ = eprintln!(rt; "explain: {db}: it has {sort} {name}, which no inventory has");
         }
-        Found::LogAlone => {
-            say_of(
-                rt,
-                db,
-                "it is missing or empty, and its log beside it, named -wal, has commits",
-            );
-            say(
-                rt,
-                "bring the file back to its log; what was committed is in both together",
-            );
-        }
-        Found::Folder => say_of(rt, db, "it is a folder; name a file"),
-        Found::Refused(why) => {
-            say_of(rt, db, why.as_str());
-            say(
-                rt,
-                "the file, its log named -wal and their folder must be open to you to write",
-            );
-        }
-        Found::InUse => {
-            say_of(
-                rt,
-                db,
-                "another program has it open, as roadlrs serve or sqlite3",
-            );
-            say(
-                rt,
-                "end that program, or ask it: one program at a time has the file",
-            );
-        }
-        Found::NoDatabase(why) => {
-            say_of(rt, db, why.as_str());
-            say(
-                rt,
-                "it is no database of SQLite, or is damaged or cut short: restore a copy",
-            );
-        }
-        Found::Tables(names) => {
-            let names = names.as_str();
+        Contents::Tables(names) => {
             let _ = eprintln!(rt;
                 "explain: {db}: a database with other tables than an inventory's:{names}"
             );
-            say(rt, "name another file; this one was not changed");
         }
-        Found::OtherOrder => {
-            say_of(
-                rt,
-                db,
-                "the tables of an inventory, made in another order or with other columns",
-            );
-            say(
-                rt,
-                "docs/OPERATING.md says how to copy its rows into a new file; this one was not changed",
-            );
-        }
+        Contents::Unreadable(why) => say_of(rt, db, why.as_str()),
+        Contents::Unknown => say_of(rt, db, "a database that is too large to be looked into here"),
     }
+}
+
+// Says what stands at the path of an inventory.
+fn tell_found(rt: &HostRuntime, job: &Job<'_>, existing: bool, db: &str, found: &Found) {
+    let what = match found {
+        Found::Nothing => nothing_there(job, existing),
+        Found::NoFolder(folder) => {
+            let _ = eprintln!(rt; "explain: {db}: there is no folder {folder}");
+            return;
+        }
+        Found::LogAlone => {
+            "it is missing or empty, and its log beside it, named -wal, has commits"
+        }
+        Found::Folder => "it is a folder",
+        Found::NoFile => "it is a device, a pipe or a socket",
+        Found::SecondName => "the file has a second name, by a hard link",
+        Found::Journal => "a journal of SQLite's lies beside it, or something else of that name",
+        Found::Empty => "the file is empty",
+        Found::Refused(why) => why.as_str(),
+        Found::InUse(holder) => return tell_holder(rt, db, holder),
+        Found::NoDatabase => "it is not a database of SQLite's",
+        Found::Database(contents) => return tell_contents(rt, db, contents),
+        Found::Unknown => "memory ran out before it was looked at",
+    };
+    say_of(rt, db, what);
+}
+
+// What to do where nothing is at a path.
+fn cure_of_nothing(job: &Job<'_>, existing: bool) -> &'static str {
+    if !makes_inventory(job) {
+        "name a file that is there; edit and survey make one"
+    } else if existing {
+        "name a file that is there; without --existing a new one is made"
+    } else {
+        "name a file in a folder where you may write, and make room"
+    }
+}
+
+// What to do about an empty file.
+fn cure_of_empty(job: &Job<'_>) -> &'static str {
+    if makes_inventory(job) {
+        "the file, its log named -wal and their folder must be open to you to write"
+    } else {
+        "name an inventory; edit and survey make one in an empty file"
+    }
+}
+
+// Says what to do about what a database has.
+fn tell_cure_of_contents(rt: &HostRuntime, db: &str, contents: &Contents) {
+    let cure = match contents {
+        Contents::Inventory => "the file, its log and their folder must be open to you to write",
+        Contents::OtherOrder => {
+            "docs/OPERATING.md says how to copy its rows into a new file; this one was not changed"
+        }
+        Contents::Added(sort, name) => {
+            let _ = eprintln!(rt;
+                "explain: sqlite3 {db} 'DROP {sort} {name}' takes it away; the file was not changed"
+            );
+            return;
+        }
+        Contents::Tables(_) => "name another file; this one was not changed",
+        Contents::Unreadable(_) => {
+            "it is damaged or cut short: restore a copy; or has a trigger, which sqlite3 shows by .schema"
+        }
+        Contents::Unknown => "sqlite3 shows by .schema what it has",
+    };
+    say(rt, cure);
+}
+
+// Says what to do about what stands at the path of an inventory.
+fn tell_cure(rt: &HostRuntime, job: &Job<'_>, existing: bool, db: &str, found: &Found) {
+    let cure = match found {
+        Found::Nothing => cure_of_nothing(job, existing),
+        Found::NoFolder(_) => "make the folder, or name another",
+        Found::LogAlone => {
+            "bring the file back to its log; what was committed is in both together"
+        }
+        Found::Folder | Found::NoFile => "name a file",
+        Found::SecondName => "take one of the names away: the log can lie beside one alone",
+        Found::Journal => "open it with sqlite3, which plays the journal back",
+        Found::Empty => cure_of_empty(job),
+        Found::Refused(_) => {
+            "the file, its log named -wal and their folder must be open to you to write"
+        }
+        Found::InUse(_) => "end that program, or ask it: one program at a time has the file",
+        Found::NoDatabase => "name another file, or restore a copy; this one was not changed",
+        Found::Database(contents) => return tell_cure_of_contents(rt, db, contents),
+        Found::Unknown => "give more memory",
+    };
+    say(rt, cure);
+}
+
+/// The inventory cannot be opened: what is found at its path. With `existing` none was to be made.
+pub fn explain_open(rt: &HostRuntime, job: &Job<'_>, existing: bool) {
+    let db = inventory_of(job).unwrap_or("");
+    let found = inspect(rt, db);
+    tell_found(rt, job, existing, db, &found);
+    tell_cure(rt, job, existing, db, &found);
 }
 
 /// What is kept is unsound: this table is.
 pub fn explain_unsound(rt: &HostRuntime, job: &Job<'_>, table: &str) {
     let db = inventory_of(job).unwrap_or("");
-    let _ = eprintln!(rt;
-        "explain: {db}: Unsound:{table}: rows of this table break its rules, or do not fit the other tables"
-    );
+    match broken_row(rt, db, table) {
+        Some(broken) => {
+            let BrokenRow { row, flaw } = broken;
+            let _ = eprintln!(rt; "explain: {db}: Unsound:{table}: the row {row}: {flaw}");
+        }
+        None => {
+            let rules = rules_of(table);
+            let _ = eprintln!(rt;
+                "explain: {db}: Unsound:{table}: a rule of its rows is broken: {rules}"
+            );
+        }
+    }
     say(
         rt,
         "something else than roadlrs wrote into it, or it is damaged: restore a copy; nothing was changed",
+    );
+    say(
+        rt,
+        "then give the sheets since that copy again, in order, each with --resume",
     );
 }
 
@@ -101,17 +195,35 @@ pub fn explain_memory(rt: &HostRuntime) {
     say(rt, "memory ran out; what was answered done is kept");
 }
 
+// Why a file that was open is not written.
+fn failed_keeping(rt: &HostRuntime, db: &str) -> &'static str {
+    match fs::metadata(rt, db) {
+        Err(error) if error.kind() == ErrorKind::NotFound => {
+            "the file was moved away or removed while it was open"
+        }
+        _ => "the disk is full or has failed, or the file or its log was moved away",
+    }
+}
+
 /// The inventory was not written.
 pub fn explain_keep(rt: &HostRuntime, job: &Job<'_>) {
-    say_of(
-        rt,
-        inventory_of(job).unwrap_or(""),
-        "the disk is full or has failed, or the file or its log was moved away",
-    );
+    let db = inventory_of(job).unwrap_or("");
+    say_of(rt, db, failed_keeping(rt, db));
     say(
         rt,
-        "what was answered done is kept; make room, then send the sheet again with --resume",
+        "what was answered done is kept; of the at most 256 records behind it all or none",
     );
+    if does_records(job) {
+        say(
+            rt,
+            "make room, or put the file and its log back, and give the sheet again with --resume",
+        );
+    } else {
+        say(
+            rt,
+            "make room, or put the file and its log back, and start the program again",
+        );
+    }
 }
 
 /// The inventory was not written before, and has to be opened again.
@@ -122,65 +234,149 @@ pub fn explain_reopening(rt: &HostRuntime) {
     );
 }
 
+// Why a sheet is not read, where that is known: whether it is so before any record.
+fn tell_unread(rt: &HostRuntime, sheet: &str) -> bool {
+    match fs::metadata(rt, sheet) {
+        Err(error) => {
+            let _ = eprintln!(rt; "explain: {sheet}: {error}");
+            return true;
+        }
+        Ok(found) if found.is_dir() => {
+            say_of(rt, sheet, "it is a folder; name a file");
+            return true;
+        }
+        Ok(found) if !found.is_file() => {}
+        Ok(_) => {
+            if let Err(error) = fs::open(rt, sheet) {
+                let _ = eprintln!(rt; "explain: {sheet}: {error}");
+                return true;
+            }
+        }
+    }
+    say_of(rt, sheet, "it could not be read to its end");
+    false
+}
+
+// What is so of the records of a sheet that was not read to its end.
+fn state_of_unread(job: &Job<'_>) -> &'static str {
+    if has_questions(job) {
+        "ask again: questions change nothing"
+    } else if !does_records(job) || tries_sheet(job) {
+        "nothing was done; give the sheet again"
+    } else if is_in_memory(job) {
+        "what was done in memory is gone; give the sheet again"
+    } else {
+        "what was answered done is kept; give the sheet again with --resume"
+    }
+}
+
 /// The sheet was not read.
 pub fn explain_read(rt: &HostRuntime, job: &Job<'_>) {
     let sheet = sheet_of(job).unwrap_or("");
     if sheet == "stdin" {
-        return say(rt, "standard input could not be read to its end");
+        say(rt, "standard input could not be read to its end");
+        say(rt, state_of_unread(job));
+    } else if tell_unread(rt, sheet) {
+        say(rt, "nothing was done; name a sheet that can be read");
+    } else {
+        say(rt, state_of_unread(job));
     }
-    match fs::open(rt, sheet) {
-        Ok(_) => say_of(rt, sheet, "it could not be read to its end"),
-        Err(error) => {
-            let _ = eprintln!(rt; "explain: {sheet}: {error}");
+}
+
+// Why the page is not written into its folder.
+fn unwritten_page(rt: &HostRuntime, folder: &str) -> &'static str {
+    match fs::metadata(rt, folder) {
+        Ok(found) if found.is_dir() => {
+            "index.html could not be written: the folder is not open to you to write, or its disk is full"
         }
-    }
-    if has_questions(job) {
-        say(rt, "ask again: questions change nothing");
-    } else {
-        say(
-            rt,
-            "send the sheet again: what was done is kept, and is answered again,N",
-        );
+        Ok(_) => "it is no folder",
+        Err(_) => "the folder could not be made: the one above it is missing, or not open to you",
     }
 }
 
-/// The answers, or the page, were not written.
-pub fn explain_write(rt: &HostRuntime) {
-    say(rt, "standard output, or the page's folder, took no more");
+// What is so of what was to be written to standard output.
+fn state_of_unwritten(job: &Job<'_>) -> &'static str {
+    if !does_records(job) {
+        "nothing was changed; ask again"
+    } else if is_in_memory(job) {
+        "what was done in memory is gone; give the sheet again"
+    } else {
+        "records up to some one are done, also some without a reply; give the sheet again with --resume"
+    }
 }
 
-// How a sheet is mended.
-fn say_cure(rt: &HostRuntime, job: &Job<'_>) {
-    if has_questions(job) {
-        say(
+/// The answers, or the page, were not written: the system's reason, where standard output told one.
+pub fn explain_write(rt: &HostRuntime, job: &Job<'_>, reason: Option<io::Error>) {
+    if let Some(folder) = folder_of(job) {
+        return say_of(rt, folder, unwritten_page(rt, folder));
+    }
+    match reason {
+        Some(error) => {
+            let _ = eprintln!(rt; "explain: standard output took no more: {error}");
+        }
+        None => say(rt, "standard output took no more"),
+    }
+    say(rt, state_of_unwritten(job));
+}
+
+// What says where a sheet is wrong that was not read again.
+fn tell_check(rt: &HostRuntime, job: &Job<'_>) {
+    match sheet_kind(job) {
+        Some(Sheet::Edits) => say(
             rt,
-            "the header is key,question,a,b,c,d; mend the sheet and ask again",
-        );
-    } else {
-        say(rt, "roadlrs check DB SHEET says where, and what is wanted");
+            "with the sheet in a file, roadlrs check DB FILE says where, and what is wanted",
+        ),
+        Some(Sheet::Survey) => say(
+            rt,
+            "with the sheet in a file, roadlrs check DB FILE --survey says where, and what is wanted",
+        ),
+        None => {}
     }
 }
 
 /// The sheet has another header.
 pub fn explain_header(rt: &HostRuntime, job: &Job<'_>) {
-    let what = if has_questions(job) {
-        "its first line is not the header of such a sheet; nothing was asked"
+    let sheet = sheet_of(job).unwrap_or("");
+    if tries_sheet(job) {
+        say_of(rt, sheet, "above stands what its first line has");
+    } else if tell_flaw(rt, job, SheetFlaw::Header).is_none() {
+        let header = wanted_header(job);
+        let _ = eprintln!(rt; "explain: {sheet}: its first line is not the header {header}");
+        tell_check(rt, job);
+    }
+    if has_questions(job) {
+        say(rt, "nothing was asked; mend the header and ask again");
     } else {
-        "its first line is not the header of such a sheet; nothing was done"
-    };
-    say_of(rt, sheet_of(job).unwrap_or(""), what);
-    say_cure(rt, job);
+        say(
+            rt,
+            "nothing was done; mend the header and give the sheet again",
+        );
+    }
+}
+
+// What is so of the records before one that has the wrong number of fields.
+fn state_before_record(job: &Job<'_>) -> &'static str {
+    if has_questions(job) {
+        "the questions before it are answered; mend the sheet and ask again"
+    } else if tries_sheet(job) {
+        "nothing was done; mend the sheet and give it again"
+    } else if is_in_memory(job) {
+        "the records before it were done in memory alone; mend the sheet and give it again"
+    } else {
+        "the records before it are as their replies say; mend the sheet, and give it again with --resume"
+    }
 }
 
 /// A record of the sheet has another number of fields than its header.
 pub fn explain_record(rt: &HostRuntime, job: &Job<'_>) {
-    let what = if has_questions(job) {
-        "a record has too few or too many fields; those before it are answered"
-    } else {
-        "a record has too few or too many fields; those before it are done"
-    };
-    say_of(rt, sheet_of(job).unwrap_or(""), what);
-    say_cure(rt, job);
+    let sheet = sheet_of(job).unwrap_or("");
+    if tries_sheet(job) {
+        say_of(rt, sheet, "above stands which record cannot be read");
+    } else if tell_flaw(rt, job, SheetFlaw::Width).is_none() {
+        say_of(rt, sheet, "a record has too few or too many fields");
+        tell_check(rt, job);
+    }
+    say(rt, state_before_record(job));
 }
 
 /// Two records of the sheet have one key, so it does not go on.

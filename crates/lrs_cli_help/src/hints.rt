@@ -41,6 +41,8 @@ fn wanted(word: BadWord, method: Option<&str>) -> &'static str {
         }
         BadWord::Port => "no port; a whole number from 1 to 65535, as 8080",
         BadWord::Max => "no number of connections; a whole number from 0 to 1000000",
+        BadWord::MostReply =>
+            "no length of a reply; a whole number of bytes from 1 to 1000000000000",
     }
 }
 

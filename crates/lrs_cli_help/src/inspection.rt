@@ -1,9 +1,11 @@
 //! What is found at the path of an inventory that cannot be opened.
 
-use sqlite::{Alter, Connection, Error, Unknown};
-use sqlite_std_file::open as open_pair;
+use crate::contents::{Contents, contents_at};
+use crate::holder::{Holder, holder_of, is_locked};
 use std::alloc::Global;
-use std::io::ErrorKind;
+use std::io::{ErrorKind, Read};
+use std::os::unix::fs::MetadataExt;
+use std::path::Path;
 use std::rt::HostRuntime;
 use std::{fs, io};
 
@@ -12,26 +14,29 @@ use std::{fs, io};
 pub(crate) enum Found {
     /// Neither a file nor the log of one.
     Nothing,
+    /// The folder of the path is not there.
+    NoFolder(String),
     /// No file, or an empty one, beside a log.
     LogAlone,
     Folder,
+    /// A device, a pipe or a socket.
+    NoFile,
+    /// A file with another name beside this one.
+    SecondName,
     /// The system does not say, or does not open it: why.
     Refused(String),
-    /// Another program has it open.
-    InUse,
-    /// No database, or one that is damaged: what the kit's `sqlite` says.
-    NoDatabase(String),
-    /// A database with these tables.
-    Tables(String),
-    /// The tables of an inventory, in another order or with other columns.
-    OtherOrder,
+    /// Another program has it open: which one, where the system tells that.
+    InUse(Option<Holder>),
+    /// A journal of SQLite's, which only SQLite can play back, or something else of its name.
+    Journal,
+    Empty,
+    /// No database of SQLite's.
+    NoDatabase,
+    /// A database of SQLite's.
+    Database(Contents),
+    /// Memory ran out.
+    Unknown,
 }
-
-// The tables of an inventory.
-const TABLES: [&str; 12] = [
-    "version", "link", "class", "asset", "piece", "mark", "ref", "span", "entered", "gone", "edit",
-    "origin",
-];
 
 // The fewest bytes of a log that has a commit: its header, and one frame with its header and the smallest page.
 const SHORTEST_LOG: u64 = 32 + 24 + 512;
@@ -47,93 +52,107 @@ fn has_log(rt: &HostRuntime, path: &str) -> bool {
     }
 }
 
-fn refused(rt: &HostRuntime, error: &io::Error) -> Found {
-    match format!(in rt.alloc(); "{error}") {
+fn refused(alloc: Global, error: &io::Error) -> Found {
+    match format!(in alloc; "{error}") {
         Ok(text) => Found::Refused(text),
-        Err(_) => Found::Nothing,
+        Err(_) => Found::Unknown,
     }
 }
 
-// The names of a database's tables, with a space between two.
-fn table_names<S: Alter>(alloc: Global, conn: &Connection<S>) -> Found {
-    let mut names = String::new(alloc);
-    for table in conn.schema().tables.as_slice() {
-        let Ok(name) = str::from_utf8(table.name.as_slice()) else {
-            return Found::Nothing;
-        };
-        if names.push_str(" ").is_err() || names.push_str(name).is_err() {
-            return Found::Nothing;
-        }
+// The first byte of a file.
+fn first_byte(rt: &HostRuntime, path: &str) -> Option<u8> {
+    let mut file = fs::open(rt, path).ok()?;
+    let mut first = [0u8; 1];
+    match file.read(&mut first) {
+        Ok(1) => Some(first[0]),
+        _ => None,
     }
-    Found::Tables(names)
 }
 
-// Whether a database has a table of this name.
-fn has_table<S: Alter>(conn: &Connection<S>, name: &str) -> bool {
-    for table in conn.schema().tables.as_slice() {
-        if table.name.as_slice() == name.as_bytes() {
-            return true;
-        }
-    }
-    false
-}
-
-// Whether a database has the tables of an inventory and no other, in whatever order.
-fn has_each_table<S: Alter>(conn: &Connection<S>) -> bool {
-    for name in &TABLES {
-        if !has_table(conn, name) {
-            return false;
-        }
-    }
-    conn.schema().tables.as_slice().len() == TABLES.len()
-}
-
-// What is found where the kit's `sqlite` was to open a file. Over any store, since a function over one that is in files
-// is costly to prove.
-fn found_in<S: Alter + Drop>(alloc: Global, conn: Result<Connection<S>, Error>) -> Found {
-    match conn {
-        Ok(conn) if has_each_table(&conn) => Found::OtherOrder,
-        Ok(conn) => table_names(alloc, &conn),
-        Err(error) => match format!(in alloc; "{error}") {
-            Ok(text) => Found::NoDatabase(text),
-            Err(_) => Found::Nothing,
+// Whether a journal of SQLite's has something to play back, or something else has its name. One that begins with a zero
+// is done with.
+fn has_journal(rt: &HostRuntime, path: &str) -> bool {
+    let Ok(journal) = format!(in rt.alloc(); "{path}-journal") else {
+        return false;
+    };
+    match fs::symlink_metadata(rt, journal.as_str()) {
+        Ok(found) if found.is_file() => match first_byte(rt, journal.as_str()) {
+            Some(first) => first != 0,
+            None => false,
         },
+        Ok(_) => true,
+        Err(_) => false,
     }
 }
 
-// What the kit's `sqlite` finds in the file.
+// Whether a file begins as the databases of SQLite do.
+fn begins_as_sqlite(rt: &HostRuntime, path: &str) -> io::Result<bool> {
+    let mut file = fs::open(rt, path)?;
+    let mut first = [0u8; 16];
+    match file.read(&mut first) {
+        Ok(16) => Ok(first.starts_with(b"SQLite format 3\0")),
+        Ok(_) => Ok(false),
+        Err(error) => Err(error),
+    }
+}
+
+// What is found in a file that nobody else has open.
 fn inside(rt: &HostRuntime, path: &str) -> Found {
-    found_in(rt.alloc(), Connection::open(rt, path))
-}
-
-// What opening the files of an inventory says.
-fn opened(rt: &HostRuntime, path: &str) -> Found {
-    match open_pair(rt, path, Unknown) {
-        Ok(files) => {
-            drop(files);
-            inside(rt, path)
-        }
-        Err(error) => match format!(in rt.alloc(); "{error}") {
-            Ok(text) if text.as_str() == "the database is in use" => Found::InUse,
-            Ok(text) => Found::Refused(text),
-            Err(_) => Found::Nothing,
-        },
+    match begins_as_sqlite(rt, path) {
+        Ok(true) => Found::Database(contents_at(rt, path)),
+        Ok(false) => Found::NoDatabase,
+        Err(error) => refused(rt.alloc(), &error),
     }
 }
 
-/// Looks at a path. A file that is there is opened once more; none is made, and nothing is written.
+// What is found of a file.
+fn file_found(rt: &HostRuntime, path: &str, len: u64) -> Found {
+    if let Some(holder) = holder_of(rt, path) {
+        return Found::InUse(Some(holder));
+    }
+    if is_locked(rt, path) {
+        return Found::InUse(None);
+    }
+    if len == 0 && has_log(rt, path) {
+        Found::LogAlone
+    } else if len < 2 {
+        Found::Empty
+    } else if has_journal(rt, path) {
+        Found::Journal
+    } else {
+        inside(rt, path)
+    }
+}
+
+// What is found of a path where nothing is: whether its folder is there.
+fn folder_found(rt: &HostRuntime, path: &str) -> Found {
+    let folder = match Path::new(path).parent() {
+        Some(folder) => folder.as_str(),
+        None => "",
+    };
+    if folder.is_empty() || fs::metadata(rt, folder).is_ok() {
+        return Found::Nothing;
+    }
+    match format!(in rt.alloc(); "{folder}") {
+        Ok(folder) => Found::NoFolder(folder),
+        Err(_) => Found::Unknown,
+    }
+}
+
+/// Looks at a path. Nothing there is made or changed, and no lock is kept.
 pub(crate) fn inspect(rt: &HostRuntime, path: &str) -> Found {
     match fs::metadata(rt, path) {
         Ok(found) if found.is_dir() => Found::Folder,
-        Ok(found) if found.len() == 0 && has_log(rt, path) => Found::LogAlone,
-        Ok(_) => opened(rt, path),
+        Ok(found) if !found.is_file() => Found::NoFile,
+        Ok(found) if found.nlink() > 1 => Found::SecondName,
+        Ok(found) => file_found(rt, path, found.len()),
         Err(error) if error.kind() == ErrorKind::NotFound => {
             if has_log(rt, path) {
                 Found::LogAlone
             } else {
-                Found::Nothing
+                folder_found(rt, path)
             }
         }
-        Err(error) => refused(rt, &error),
+        Err(error) => refused(rt.alloc(), &error),
     }
 }

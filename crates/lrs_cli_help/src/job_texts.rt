@@ -2,6 +2,7 @@
 
 use lrs_cli_words::{BadWord, Job};
 use lrs_events::ClassName;
+use lrs_sheet_records::Sheet;
 
 fn route_in<'a>(job: &Job<'a>) -> Option<&'a str> {
     match job {
@@ -87,6 +88,7 @@ fn other_in<'a>(job: &Job<'a>, word: BadWord) -> Option<&'a str> {
         (Job::Log { key, .. }, BadWord::Key) => *key,
         (Job::Serve { port, .. }, BadWord::Port) => Some(port),
         (Job::Serve { max, .. }, BadWord::Max) => Some(max),
+        (Job::Serve { most_reply, .. }, BadWord::MostReply) => *most_reply,
         _ => None,
     }
 }
@@ -111,7 +113,8 @@ pub(crate) fn given<'a>(job: &Job<'a>, word: BadWord) -> Option<&'a str> {
         | BadWord::Key
         | BadWord::FromBesideKey
         | BadWord::Port
-        | BadWord::Max => other_in(job, word),
+        | BadWord::Max
+        | BadWord::MostReply => other_in(job, word),
     }
 }
 
@@ -161,10 +164,62 @@ pub(crate) fn has_questions(job: &Job<'_>) -> bool {
     matches!(job, Job::Ask { .. })
 }
 
+/// Of which kind a job's sheet is, if it has one that is no sheet of questions.
+pub(crate) fn sheet_kind(job: &Job<'_>) -> Option<Sheet> {
+    match job {
+        Job::Survey { .. } | Job::Check { survey: true, .. } => Some(Sheet::Survey),
+        Job::Edit { .. } | Job::Check { .. } => Some(Sheet::Edits),
+        _ => None,
+    }
+}
+
+/// The header that a job's sheet has to have.
+pub(crate) fn wanted_header(job: &Job<'_>) -> &'static str {
+    match sheet_kind(job) {
+        Some(Sheet::Edits) => "key,verb,a,b,c,d,e,f,g,h,i",
+        Some(Sheet::Survey) => "key,asset,class,route,side,method,from,to,value,offset",
+        None => "key,question,a,b,c,d",
+    }
+}
+
+/// Whether a job tries its sheet before it does anything: so standard error says already where it cannot be read.
+pub(crate) fn tries_sheet(job: &Job<'_>) -> bool {
+    matches!(
+        job,
+        Job::Check { .. } | Job::Edit { all: true, .. } | Job::Survey { all: true, .. }
+    )
+}
+
+/// Whether a job makes its inventory where there is none.
+pub(crate) fn makes_inventory(job: &Job<'_>) -> bool {
+    matches!(
+        job,
+        Job::Edit { .. } | Job::Survey { .. } | Job::Serve { .. }
+    )
+}
+
+/// Whether a job does the records of a sheet.
+pub(crate) fn does_records(job: &Job<'_>) -> bool {
+    matches!(job, Job::Edit { .. } | Job::Survey { .. })
+}
+
+/// Whether a job's inventory ends with the program.
+pub(crate) fn is_in_memory(job: &Job<'_>) -> bool {
+    inventory_of(job) == Some(":memory:")
+}
+
 /// The port of a job, if it serves.
 pub(crate) fn port_of<'a>(job: &Job<'a>) -> Option<&'a str> {
     match job {
         Job::Serve { port, .. } => Some(port),
+        _ => None,
+    }
+}
+
+/// The folder of a job, if it writes the page.
+pub(crate) fn folder_of<'a>(job: &Job<'a>) -> Option<&'a str> {
+    match job {
+        Job::Page { dir } => Some(dir),
         _ => None,
     }
 }

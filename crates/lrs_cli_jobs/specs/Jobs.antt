@@ -78,6 +78,10 @@ ActsOnKept holds desk = HoldsOnly (holds desk.keeper) desk.image
 abbrev pub ActsOnFound : {K : Type 0} → (K → Result Image Table → Type 0) → (Result Image Table → Type 0) → DeskView K → Type 0
 ActsOnFound holds was_found desk = ActsOnKept holds desk × ((c : Result Image Table) → holds desk.keeper c → was_found c)
 
+-- what may be found was kept at the desk
+abbrev pub FindsKept : {K : Type 0} → (K → Result Image Table → Type 0) → DeskView K → (Result Image Table → Type 0) → Type 0
+FindsKept holds desk finds = (c : Result Image Table) → finds c → holds desk.keeper c
+
 -- the program ends so, and nothing is written
 abbrev pub EndsSilent : Option Text → Printed → Ending → Type 0
 EndsSilent old given ending = given ≡ Ok (old, ending)
@@ -86,10 +90,11 @@ EndsSilent old given ending = given ≡ Ok (old, ending)
 abbrev pub IsNotOpened : Option Text → Printed → Type 0
 IsNotOpened old given = (why : OpenFault) × EndsSilent old given (Stopped (fault_of_open why))
 
--- a question, or a sheet of them
+-- a question, or a sheet of them, or a sheet that is only tried
 abbrev pub Looks : Work → Type 0
 Looks (work.Question question) = ⊤
 Looks (work.Questions from) = ⊤
+Looks (work.Check kind from) = ⊤
 Looks w = ⊥
 
 -- a sheet that is only tried
@@ -111,15 +116,16 @@ module _ (text_of : Text → Option Text) where
   abbrev pub EndsInMemory : {M : Type 0} → (M → Result Image Table → Type 0) → Work → Option Text → Printed → Type 0
   EndsInMemory memory w old given = EndsSilent old given (Stopped Memory) ⊎ HasWorkedFrom memory text_of IsFresh w old given
 
-  -- in a file and its log: work was done on what they hold, or nothing was opened
-  abbrev pub EndsWithLog : {F : Type 0} → (F → Result Image Table → Type 0) → (Result Image Table → Type 0) → Work → Option Text → Printed → Type 0
-  EndsWithLog file has_opened w old given = IsNotOpened old given ⊎ HasWorkedFrom file text_of (ActsOnFound file has_opened) w old given
+  -- in a file and its log: work was done on what they hold, and an opening of them as they are closed finds what the desk kept, and nothing else; or nothing was opened
+  abbrev pub EndsWithLog : {F : Type 0} → (F → Result Image Table → Type 0) → (Result Image Table → Type 0) → (Result Image Table → Type 0) → Work → Option Text → Printed → Type 0
+  EndsWithLog file has_opened finds w old given =
+      IsNotOpened old given ⊎ ((it : HasWorkedFrom file text_of (ActsOnFound file has_opened) w old given) × FindsKept file it.after finds)
 
-module _ {M F Q : Type 0} (memory : M → Result Image Table → Type 0) (file : F → Result Image Table → Type 0) (looked : Q → Result Image Table → Type 0) (has_opened has_read : Result Image Table → Type 0) (text_of : Text → Option Text) where
+module _ {M F Q : Type 0} (memory : M → Result Image Table → Type 0) (file : F → Result Image Table → Type 0) (looked : Q → Result Image Table → Type 0) (has_opened has_read finds : Result Image Table → Type 0) (text_of : Text → Option Text) where
   -- in a file: work was done on what it holds; or what only looks was answered of what it held, or a sheet was tried in an empty inventory; or nothing was opened
   abbrev pub EndsInFile : Work → Option Text → Printed → Type 0
   EndsInFile w old given =
-      EndsWithLog text_of file has_opened w old given
+      EndsWithLog text_of file has_opened finds w old given
       ⊎ (Looks w × HasWorkedFrom looked text_of (ActsOnFound looked has_read) w old given)
       ⊎ (Tries w × EndsInMemory text_of memory w old given)
 

@@ -18,7 +18,7 @@ use std::rt::HostRuntime;
 /// opened for another cause.
 pub(crate) fn open_desk<F: Files>(
     rt: &HostRuntime,
-    files: F,
+    files: &mut F,
     path: &str,
     new_has_sums: bool,
 ) -> Result<Desk<F::Kept>, OpenFault>

@@ -2,10 +2,11 @@
 
 ghost use Rattle.std.specs.Prelude.{◌≡◌, ◌↔◌, false, true, IsTrue};
 ghost use Rattle.lrs_desk.specs.DeskView.{DeskView};
-ghost use Rattle.lrs_cli_jobs.specs.Jobs.{EndsInFile, EndsInMemory, EndsJob, EndsPage, EndsTask, EndsWithLog, HasWorked, Looks, printed};
+ghost use Rattle.lrs_cli_jobs.specs.Jobs.{EndsInFile, EndsInMemory, EndsJob, EndsPage, EndsTask, EndsWithLog, FindsKept, HasWorked, Looks, printed};
 
 use crate::desk::{open_desk, open_desk_to_look};
 use crate::service::do_service;
+use lrs_cli_help::{Site, site_at};
 use lrs_cli_sheets::{
     Pace, ProgressDisplay, Sheets, World, do_audit, do_check, do_questions, do_records,
 };
@@ -13,8 +14,7 @@ use lrs_cli_tasks::{
     Ending, ProgramFault, Task, Work, answer, do_page, is_in_memory, open_in_memory, task_of,
 };
 use lrs_cli_words::{Job, QuestionFault, new_has_sums};
-use lrs_desk::{Desk, Files, Holder, Keeper, Plain};
-use lrs_machine::Question;
+use lrs_desk::{Desk, Files, Holder, Keeper, OpenFault, Plain};
 use std::alloc::Global;
 use std::fs;
 use std::io::Write;
@@ -99,6 +99,7 @@ fn cleared<T>(rt: &HostRuntime, was_said: bool, opened: T) -> T
 // Does work at a desk, whose keeper is then closed.
 fn do_and_close<F: Files, S: Sheets, W: Write + Drop>(
     world: &World<'_, HostRuntime, S>,
+    files: &mut F,
     mut desk: Desk<F::Kept>,
     work: Work<'_>,
     to: W,
@@ -106,10 +107,11 @@ fn do_and_close<F: Files, S: Sheets, W: Write + Drop>(
     requires behind { desk.is_ahead ≡ false }
     ensures { (after : DeskView F.Kept) × HasWorked F.Kept.may_hold
         (S.text_of world.now.sheets.now) work.entry desk after
-        (W.contents to) (printed W.contents result) }
+        (W.contents to) (printed W.contents result)
+        × FindsKept F.Kept.may_hold after (F.may_find files.new) }
 {
     let given = do_work(world, &mut desk, work, Pace::InGroups, to);
-    F::close(desk.into_keeper());
+    files.close(desk.into_keeper());
     given
 }
 
@@ -117,14 +119,14 @@ fn do_and_close<F: Files, S: Sheets, W: Write + Drop>(
 // what was committed. Each reply goes out once its record is committed.
 fn do_with_log<F: Files, S: Sheets, W: Write + Drop>(
     world: &World<'_, HostRuntime, S>,
-    files: F,
+    files: &mut F,
     path: &str,
     new_has_sums: bool,
     work: Work<'_>,
     to: W,
 ) -> Result<(W, Ending), ProgramFault>
     ensures { EndsWithLog (S.text_of world.now.sheets.now) F.Kept.may_hold F.has_opened
-        work.entry (W.contents to) (printed W.contents result) }
+        (F.may_find files.new) work.entry (W.contents to) (printed W.contents result) }
 {
     let was_said = tell_opening(world.rt, path, world.shown);
     match cleared(
@@ -132,7 +134,7 @@ fn do_with_log<F: Files, S: Sheets, W: Write + Drop>(
         was_said,
         open_desk(world.rt, files, path, new_has_sums),
     ) {
-        Ok(desk) => do_and_close::<F, S, W>(world, desk, work, to),
+        Ok(desk) => do_and_close(world, files, desk, work, to),
         Err(fault) => Ok((to, Ending::Stopped(ProgramFault::from(fault)))),
     }
 }
@@ -154,48 +156,41 @@ fn look<F: Files, S: Sheets, W: Write + Drop>(
     given
 }
 
-// Whether a file with a byte is at a path. One that is missing or empty may stand beside a log with commits, which must
-// stay, so it is left to the opening that knows that.
-fn has_bytes(rt: &HostRuntime, path: &str) -> bool {
-    match fs::metadata(rt, path) {
-        Ok(found) => found.len() > 0,
-        Err(_) => false,
-    }
-}
-
-// Whether work is a question, or a sheet of them.
+// Whether work is a question, a sheet of them, or a sheet that is only tried.
 fn looks(work: &Work<'_>) -> bool
     ensures { IsTrue result ↔ Looks work.now }
 {
-    matches!(work, Work::Question(_) | Work::Questions { .. })
+    matches!(
+        work,
+        Work::Question(_) | Work::Questions { .. } | Work::Check { .. }
+    )
 }
 
 // Does work in the inventory of a file. What only looks is answered without a connection, where that opening takes the
 // file.
 fn do_in_file<F: Files, S: Sheets, W: Write + Drop>(
     world: &World<'_, HostRuntime, S>,
-    files: F,
+    files: &mut F,
     path: &str,
     new_has_sums: bool,
     work: Work<'_>,
     to: W,
 ) -> Result<(W, Ending), ProgramFault>
     ensures { EndsInFile ⟦<Plain as Holder>⟧.may_hold F.Kept.may_hold F.Seen.may_hold
-        F.has_opened F.has_read (S.text_of world.now.sheets.now)
+        F.has_opened F.has_read (F.may_find files.new) (S.text_of world.now.sheets.now)
         work.entry (W.contents to) (printed W.contents result) }
 {
+    if matches!(work, Work::Audit) {
+        return audit_with_log(world, files, path, new_has_sums, work, to);
+    }
     if !looks(&work) {
         return do_with_log(world, files, path, new_has_sums, work, to);
     }
-    if !has_bytes(world.rt, path) {
-        return do_with_log(world, files, path, new_has_sums, work, to);
-    }
-    let mut files = files;
     let was_said = tell_opening(world.rt, path, world.shown);
     match cleared(
         world.rt,
         was_said,
-        open_desk_to_look(world.rt, &mut files, path),
+        open_desk_to_look(world.rt, files, path),
     ) {
         Ok(Some(desk)) => look::<F, S, W>(world, desk, work, to),
         Ok(None) => do_with_log(world, files, path, new_has_sums, work, to),
@@ -203,40 +198,73 @@ fn do_in_file<F: Files, S: Sheets, W: Write + Drop>(
     }
 }
 
-// Whether something is at a path. Where that is not known, opening it tells why.
-fn is_there(rt: &HostRuntime, path: &str) -> bool {
-    match fs::exists(rt, path) {
-        Ok(exists) => exists,
-        Err(_) => true,
+// Looks at the file of an inventory, and lets it go.
+fn try_to_look<F: Files>(rt: &HostRuntime, files: &mut F, path: &str) -> Result<(), OpenFault> {
+    if let Some(keeper) = files.open_to_look(rt, path)? {
+        F::discard_seen(keeper);
+    }
+    Ok(())
+}
+
+// Audits the inventory of a file, which is opened as for edits, since that tests the indexes too. It is looked at before:
+// beside a file that is no inventory nothing is made.
+fn audit_with_log<F: Files, S: Sheets, W: Write + Drop>(
+    world: &World<'_, HostRuntime, S>,
+    files: &mut F,
+    path: &str,
+    new_has_sums: bool,
+    work: Work<'_>,
+    to: W,
+) -> Result<(W, Ending), ProgramFault>
+    ensures { EndsWithLog (S.text_of world.now.sheets.now) F.Kept.may_hold F.has_opened
+        (F.may_find files.new) work.entry (W.contents to) (printed W.contents result) }
+{
+    match try_to_look(world.rt, files, path) {
+        Ok(()) => do_with_log(world, files, path, new_has_sums, work, to),
+        Err(fault) => Ok((to, Ending::Stopped(ProgramFault::from(fault)))),
     }
 }
 
-// Whether neither the file of an inventory nor its log is there.
-fn is_new(rt: &HostRuntime, path: &str) -> bool {
-    match format!(in rt.alloc(); "{path}-wal") {
-        Ok(log) => !is_there(rt, path) && !is_there(rt, log.as_str()),
-        Err(_) => false,
+// Whether work makes an inventory where there is none.
+fn makes(work: &Work<'_>) -> bool {
+    matches!(work, Work::Sheet { .. } | Work::Service(_))
+}
+
+// Says on a terminal that an inventory is made.
+fn tell_making(rt: &HostRuntime, path: &str, shown: ProgressDisplay) {
+    if shown != ProgressDisplay::Nowhere {
+        let _ = eprintln!(rt; "makes a new inventory: {path}");
     }
 }
 
-// Whether work needs an inventory that is there: an audit, a sheet of questions, and the questions that came after the first
-// formats. Those of the first formats make one.
-fn needs_file(work: &Work<'_>) -> bool {
-    matches!(
-        work,
-        Work::Questions { .. }
-            | Work::Audit
-            | Work::Question(
-                Question::Where(_) | Question::Lengths(_) | Question::List(_) | Question::Health
-            )
-    )
+// Makes an inventory, or goes on with one whose making was cut off, and does work in it. What makes none has none; but a
+// sheet is tried in a fresh one.
+fn do_in_new<F: Files, S: Sheets, W: Write + Drop>(
+    world: &World<'_, HostRuntime, S>,
+    files: &mut F,
+    path: &str,
+    new_has_sums: bool,
+    work: Work<'_>,
+    to: W,
+) -> Result<(W, Ending), ProgramFault>
+    ensures { EndsInFile ⟦<Plain as Holder>⟧.may_hold F.Kept.may_hold F.Seen.may_hold
+        F.has_opened F.has_read (F.may_find files.new) (S.text_of world.now.sheets.now)
+        work.entry (W.contents to) (printed W.contents result) }
+{
+    if makes(&work) {
+        tell_making(world.rt, path, world.shown);
+        return do_with_log(world, files, path, new_has_sums, work, to);
+    }
+    if matches!(work, Work::Check { .. }) {
+        return do_in_memory(world, work, to);
+    }
+    Ok((to, Ending::Stopped(ProgramFault::Open)))
 }
 
-// Does work in the inventory of a file. A check of none looks at a fresh inventory, and what needs one has none. Nor is one
-// made where it has to be there.
+// Does work at a path, by what stands there. Where an inventory has to be there, none is made.
 fn do_at_path<F: Files, S: Sheets, W: Write + Drop>(
     world: &World<'_, HostRuntime, S>,
-    files: F,
+    files: &mut F,
     path: &str,
     new_has_sums: bool,
     existing: bool,
@@ -244,16 +272,17 @@ fn do_at_path<F: Files, S: Sheets, W: Write + Drop>(
     to: W,
 ) -> Result<(W, Ending), ProgramFault>
     ensures { EndsInFile ⟦<Plain as Holder>⟧.may_hold F.Kept.may_hold F.Seen.may_hold
-        F.has_opened F.has_read (S.text_of world.now.sheets.now)
+        F.has_opened F.has_read (F.may_find files.new) (S.text_of world.now.sheets.now)
         work.entry (W.contents to) (printed W.contents result) }
 {
-    if (existing || needs_file(&work)) && is_new(world.rt, path) {
-        return Ok((to, Ending::Stopped(ProgramFault::Open)));
+    match site_at(world.rt, path) {
+        Site::Inventory => do_in_file(world, files, path, new_has_sums, work, to),
+        Site::Vacant if !existing => do_in_new(world, files, path, new_has_sums, work, to),
+        Site::Remnant if !existing && makes(&work) => {
+            do_in_new(world, files, path, new_has_sums, work, to)
+        }
+        _ => Ok((to, Ending::Stopped(ProgramFault::Open))),
     }
-    if matches!(work, Work::Check { .. }) && is_new(world.rt, path) {
-        return do_in_memory(world, work, to);
-    }
-    do_in_file(world, files, path, new_has_sums, work, to)
 }
 
 // Writes the page, which says nothing to the writer.
@@ -270,14 +299,14 @@ fn give_page<R: Runtime<A = Global>, W: Write + Drop>(
 // Does a task: writes the page, or works in the inventory that it names.
 fn do_task<F: Files, S: Sheets, W: Write + Drop>(
     world: &World<'_, HostRuntime, S>,
-    files: F,
+    files: &mut F,
     task: Task<'_>,
     new_has_sums: bool,
     existing: bool,
     to: W,
 ) -> Result<(W, Ending), ProgramFault>
     ensures { EndsTask ⟦<Plain as Holder>⟧.may_hold F.Kept.may_hold F.Seen.may_hold
-        F.has_opened F.has_read (S.text_of world.now.sheets.now)
+        F.has_opened F.has_read (F.may_find files.new) (S.text_of world.now.sheets.now)
         task.entry (W.contents to) (printed W.contents result) }
 {
     match task {
@@ -293,19 +322,19 @@ fn do_task<F: Files, S: Sheets, W: Write + Drop>(
 
 /// Reads the words of a job, and then opens its inventory, if it has one. With `existing` no file is made. All answers are
 /// written to `to`, replies to the sheets of a file in groups, and it is given back with how the program ends; the page
-/// goes into its folder.
+/// goes into its folder. `files` has then the files that were closed.
 ///
 /// # Errors
 /// `Write` where not all was written, and `Memory` where there is none for what is to be written.
 pub fn do_job<F: Files, S: Sheets, W: Write + Drop>(
     world: &World<'_, HostRuntime, S>,
-    files: F,
+    files: &mut F,
     job: &Job<'_>,
     existing: bool,
     to: W,
 ) -> Result<(W, Ending), ProgramFault>
     ensures { EndsJob ⟦<Plain as Holder>⟧.may_hold F.Kept.may_hold F.Seen.may_hold
-        F.has_opened F.has_read (S.text_of world.now.sheets.now)
+        F.has_opened F.has_read (F.may_find files.new) (S.text_of world.now.sheets.now)
         job.now (W.contents to) (printed W.contents result) }
 {
     match task_of(world.rt.alloc(), job) {

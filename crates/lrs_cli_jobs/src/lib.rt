@@ -4,8 +4,11 @@
 mod desk;
 mod explanation;
 mod jobs;
+mod output;
 mod program;
 mod service;
+#[cfg(test)]
+mod tests;
 
 pub use jobs::do_job;
 pub use lrs_cli_sheets::{Sheets, SystemSheets, World};

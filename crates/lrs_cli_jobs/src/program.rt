@@ -2,32 +2,54 @@
 
 use crate::explanation::explain;
 use crate::jobs::do_job;
+use crate::output::Output;
 use lrs_cli_help::{Options, hint_at, is_reader_gone, keep_job_words, options_of, verb_help};
-use lrs_cli_sheets::{Output, ProgressDisplay, Sheets, World};
+use lrs_cli_sheets::{ProgressDisplay, Sheets, World};
 use lrs_cli_tasks::{Ending, ProgramFault, status};
 use lrs_cli_words::{Job, WordsFault, job_of};
 use lrs_desk::Files;
+use std::cell::Cell;
+use std::env;
 use std::io::{ErrorKind, IsTerminal};
 use std::process::ExitCode;
 use std::rt::HostRuntime;
-use std::{env, io};
 
-// Does a job, and prints its answers. Says what was given for a word that cannot be read, and where that is asked for
-// explains the fault that stops it.
+// Whether the status alone tells of a fault: where the reader of the program's output has gone, as `head` goes.
+fn is_quiet(rt: &HostRuntime, fault: ProgramFault) -> bool {
+    fault == ProgramFault::Write && is_reader_gone(rt)
+}
+
+// Whether a fault is explained: where that is asked for, and where standard error is a terminal.
+fn is_explained(
+    rt: &HostRuntime,
+    shown: ProgressDisplay,
+    options: Options,
+    fault: ProgramFault,
+) -> bool {
+    let is_wanted = options.explain || shown != ProgressDisplay::Nowhere;
+    is_wanted && !is_quiet(rt, fault)
+}
+
+// Does a job, and prints its answers. Says what was given for a word that cannot be read, and explains the fault that
+// stops it.
 fn do_explained<F: Files, S: Sheets>(
     world: &World<'_, HostRuntime, S>,
-    files: F,
+    mut files: F,
     job: &Job<'_>,
     options: Options,
 ) -> Ending {
     let rt = world.rt;
-    let ending = match do_job(world, files, job, options.existing, Output::new(io::writer(rt), rt)) {
+    let failure = Cell::new(None);
+    let output = Output::new(rt, &failure);
+    let ending = match do_job(world, &mut files, job, options.existing, output) {
         Ok((_, ending)) => ending,
         Err(fault) => Ending::Stopped(fault),
     };
     match ending {
         Ending::Unreadable(word) => hint_at(rt, job, word),
-        Ending::Stopped(fault) if options.explain => explain(rt, job, fault),
+        Ending::Stopped(fault) if is_explained(rt, world.shown, options, fault) => {
+            explain(rt, job, options.existing, fault, failure.get());
+        }
         _ => {}
     }
     ending
@@ -112,12 +134,14 @@ fn do_words<F: Files, S: Sheets>(world: &World<'_, HostRuntime, S>, files: F) ->
     do_given(world, files, words.as_slice(), options)
 }
 
-// Says how the program ends. Where the reader of its output has gone, as `head` goes, the status alone tells.
+// Says how the program ends.
 fn tell_ending(rt: &HostRuntime, ending: Ending) {
-    if ending == Ending::Stopped(ProgramFault::Write) && is_reader_gone(rt) {
-        return;
+    match ending {
+        Ending::Stopped(fault) if is_quiet(rt, fault) => {}
+        _ => {
+            let _ = eprint!(rt; "{ending}");
+        }
     }
-    let _ = eprint!(rt; "{ending}");
 }
 
 /// Does what the words of the program say, over what opens its files and gives its sheets, and gives its status.

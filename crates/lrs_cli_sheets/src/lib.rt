@@ -16,6 +16,6 @@ pub use audit::do_audit;
 pub use progress::ProgressDisplay;
 pub use question_sheets::{QuestionPace, answer_sheet, do_questions};
 pub use sheets::Pace;
-pub use streams::Output;
+pub use streams::write_out;
 pub use trial::{do_check, do_records};
 pub use world::{Sheets, SystemSheet, SystemSheets, World};

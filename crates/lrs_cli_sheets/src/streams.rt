@@ -1,12 +1,14 @@
 //! Standard streams that do not wait, as other programs may set their pipes: they are waited for.
 
+ghost use Rattle.std.specs.Io.{WritesAtMost};
+
 use mio::unix::SourceFd;
 use mio::{Events, Interest, Poll, Token};
 use std::alloc::Global;
 use std::io;
 use std::io::{ErrorKind, Write};
 use std::net::Net;
-use std::rt::Runtime;
+use std::rt::{HostRuntime, Runtime};
 use std::time::Duration;
 
 // The descriptors of standard input and standard output.
@@ -48,32 +50,18 @@ pub(crate) fn wait_for_input<R: Runtime<A = Global> + Net>(
     wait_out(rt, error, INPUT, Interest::READABLE)
 }
 
-/// Standard output, which is waited for where it takes nothing.
-#[derive(Drop)]
-pub struct Output<'a, W: Write + Drop, R: Runtime<A = Global> + Net> {
-    to: W,
-    rt: &'a R,
-}
-
-impl<'a, W: Write + Drop, R: Runtime<A = Global> + Net> Output<'a, W, R> {
-    /// Standard output, which this writer writes to.
-    pub fn new(to: W, rt: &'a R) -> Output<'a, W, R> {
-        Output { to, rt }
-    }
-}
-
-impl<'a, W: Write + Drop, R: Runtime<A = Global> + Net> Write for Output<'a, W, R> {
-    fn write(&mut self, buf: &[u8]) -> io::Result<usize> {
-        for _turn in 0..u64::MAX {
-            match self.to.write(buf) {
-                Ok(count) => return Ok(count),
-                Err(error) => wait_out(self.rt, error, OUTPUT, Interest::WRITABLE)?,
-            }
+/// Writes to standard output, which is waited for where it takes nothing.
+///
+/// # Errors
+/// Where it cannot be waited for, and any other error than that it was not ready.
+pub fn write_out(rt: &HostRuntime, buf: &[u8]) -> io::Result<usize>
+    ensures { WritesAtMost result buf.now }
+{
+    for _turn in 0..u64::MAX {
+        match io::writer(rt).write(buf) {
+            Ok(count) => return Ok(count),
+            Err(error) => wait_out(rt, error, OUTPUT, Interest::WRITABLE)?,
         }
-        Err(io::Error::from(ErrorKind::WouldBlock))
     }
-
-    fn flush(&mut self) -> io::Result<()> {
-        self.to.flush()
-    }
+    Err(io::Error::from(ErrorKind::WouldBlock))
 }

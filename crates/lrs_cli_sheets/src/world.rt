@@ -116,7 +116,9 @@ impl<'a, R: Runtime<A = Global> + Net> SystemSheet<'a, R> {
     fn tell_end(&mut self) {
         if let Some(last) = self.last {
             if self.says && last != b'\n' && last != b'\r' {
-                let _ = eprintln!(self.rt; "note: the last line of the sheet has no end; look whether it was cut off");
+                let _ = eprintln!(self.rt;
+                    "note: the last line of the sheet has no end; look whether it was cut off"
+                );
             }
         }
         self.last = None;

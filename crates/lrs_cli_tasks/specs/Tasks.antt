@@ -1,5 +1,5 @@
 -- What a job has the program do.
-use Rattle.std.specs.Prelude.{◌≡◌, ⊤, Bool, true, false, Option, Some, None}
+use Rattle.std.specs.Prelude.{◌≡◌, ⊤, Bool, true, false, Option, Some, None, option_map}
 use Rattle.clap.specs.Words.{Text}
 use Rattle.lrs_sheet_records.specs.declared.sheet.Sheet.{Sheet}
 use Rattle.lrs_sheet_records.specs.declared.sheet.Sheet.TheVariants.{Edits, Survey}
@@ -30,7 +30,7 @@ inventory_of (job.Rows db route from to class asset) = Some db.now
 inventory_of (job.Gone db edit) = Some db.now
 inventory_of (job.Log db from key) = Some db.now
 inventory_of (job.Audit db) = Some db.now
-inventory_of (job.Serve db port max sums log end_on_fault) = Some db.now
+inventory_of (job.Serve db port max sums log end_on_fault most_reply) = Some db.now
 inventory_of (job.Page dir) = None
 
 -- of which kind a sheet is that is checked
@@ -45,7 +45,7 @@ IsWorkOf (job.Survey db sheet sums resume all) (work.Sheet kind from resumes who
 IsWorkOf (job.Check db sheet survey) (work.Check kind from) = (kind ≡ kind_checked survey) × (from.now ≡ sheet.now)
 IsWorkOf (job.Ask db questions) (work.Questions from) = from.now ≡ questions.now
 IsWorkOf (job.Audit db) work.Audit = ⊤
-IsWorkOf (job.Serve db port max sums log end_on_fault) (work.Service service) = SaysService port.now max.now log end_on_fault service
+IsWorkOf (job.Serve db port max sums log end_on_fault most_reply) (work.Service service) = SaysService port.now max.now log end_on_fault (option_map (λ w. w.now) most_reply) service
 IsWorkOf j (work.Question question) = Asks j question
 IsWorkOf j w = ⊥
 

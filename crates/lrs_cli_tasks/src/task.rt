@@ -97,10 +97,11 @@ pub fn task_of<'a>(alloc: Global, job: &Job<'a>) -> Result<Task<'a>, QuestionFau
             max,
             log,
             end_on_fault,
+            most_reply,
             ..
         } => (
             db,
-            Work::Service(service_of(port, max, *log, *end_on_fault)?),
+            Work::Service(service_of(port, max, *log, *end_on_fault, *most_reply)?),
         ),
         Job::At { db, .. }
         | Job::Where { db, .. }

@@ -106,12 +106,22 @@ SaysList text _ = ⊥
 abbrev pub SaysMost : Text → ℕ → Type 0
 SaysMost = SaysNumber 0 1_000_000
 
+-- a length of replies, in bytes
+abbrev pub SaysReplyLength : Text → ℕ → Type 0
+SaysReplyLength = SaysNumber 1 1_000_000_000_000
+
+-- how long a reply is at most: as the word says, or 64 MiB
+abbrev pub SaysMostReply : Option Text → ℕ → Type 0
+SaysMostReply (Some text) bytes = SaysReplyLength text bytes
+SaysMostReply None bytes = bytes ≡ 67_108_864
+
 -- the port and how many connections, as these words say, and how they are served, as the options do
-pub record SaysService (at most : Text) (tells ends : Bool) (service : Service) : Type 0 where
+pub record SaysService (at most : Text) (tells ends : Bool) (longest : Option Text) (service : Service) : Type 0 where
   pub port : SaysPort at service.port
   pub max : SaysMost most service.max
   pub logs : service.logs ≡ tells
   pub ends_on_fault : service.ends_on_fault ≡ ends
+  pub most_reply : SaysMostReply longest service.most_reply
 
 -- ---- questions
 
@@ -122,7 +132,7 @@ AsksNothing (job.Survey db sheet sums resume all) = ⊤
 AsksNothing (job.Check db sheet survey) = ⊤
 AsksNothing (job.Ask db questions) = ⊤
 AsksNothing (job.Audit db) = ⊤
-AsksNothing (job.Serve db port max sums log end_on_fault) = ⊤
+AsksNothing (job.Serve db port max sums log end_on_fault most_reply) = ⊤
 AsksNothing (job.Page dir) = ⊤
 AsksNothing _ = ⊥
 
@@ -237,9 +247,10 @@ abbrev pub CannotDiagram : Text → List Text → Option Text → Option Text �
 CannotDiagram route classes from to fault =
     Cannot word.Route (SaysRoute route) fault ⊎ (fault ≡ Memory) ⊎ CannotClass classes fault ⊎ CannotEnd word.From from fault ⊎ CannotEnd word.To to fault
 
--- the port, or how many connections
-abbrev pub CannotServe : Text → Text → QuestionFault → Type 0
-CannotServe port max fault = Cannot word.Port (SaysPort port) fault ⊎ Cannot word.Max (SaysMost max) fault
+-- the port, how many connections, or how long a reply may be
+abbrev pub CannotServe : Text → Text → Option Text → QuestionFault → Type 0
+CannotServe port max longest fault =
+    Cannot word.Port (SaysPort port) fault ⊎ Cannot word.Max (SaysMost max) fault ⊎ CannotIfGiven word.MostReply SaysReplyLength longest fault
 
 -- the route, or the chainage
 abbrev pub CannotPlace : Text → Text → QuestionFault → Type 0
@@ -279,7 +290,7 @@ IsFaultOf (job.Rows db route from to class asset) fault =
     CannotRows (option_map (λ w. w.now) route) (option_map (λ w. w.now) from) (option_map (λ w. w.now) to) (option_map (λ w. w.now) class) (option_map (λ w. w.now) asset) fault
 IsFaultOf (job.Gone db edit) fault = CannotIfGiven word.Edit SaysEdit (option_map (λ w. w.now) edit) fault
 IsFaultOf (job.Log db from key) fault = CannotLog (option_map (λ w. w.now) from) (option_map (λ w. w.now) key) fault
-IsFaultOf (job.Serve db port max sums log end_on_fault) fault = CannotServe port.now max.now fault
+IsFaultOf (job.Serve db port max sums log end_on_fault most_reply) fault = CannotServe port.now max.now (option_map (λ w. w.now) most_reply) fault
 IsFaultOf _ fault = ⊥
 
 -- what a word is not
@@ -304,3 +315,4 @@ bad_word_text word.Link = codes "LINK is no link number"
 bad_word_text word.Millimetre = codes "MM is no millimetre of a link"
 bad_word_text word.Port = codes "PORT is no port number"
 bad_word_text word.Max = codes "MAX is no number of connections"
+bad_word_text word.MostReply = codes "BYTES is no length of a reply"

@@ -80,12 +80,12 @@ rules_of job.Audit = required (codes "DB") ∷ []
 rules_of job.Serve = required (codes "DB") ∷ required (codes "PORT") ∷ required (codes "MAX") ∷ []
 rules_of job.Page = required (codes "DIR") ∷ []
 
--- what may be left out: those jobs that may make a file have `--sums`, those that do a sheet also `--resume` and `--all`, a service also `--log` and `--end-on-fault`, a check says of which kind its sheet is, a place on a link has its millimetre, a diagram has its classes and its ends, and a list may be narrowed
+-- what may be left out: those jobs that may make a file have `--sums`, those that do a sheet also `--resume` and `--all`, a service also `--log`, `--end-on-fault` and `--most-reply`, a check says of which kind its sheet is, a place on a link has its millimetre, a diagram has its classes and its ends, and a list may be narrowed
 abbrev pub options_of : JobName → List Rule
 options_of job.Edit = flag (codes "sums") ∷ flag (codes "resume") ∷ flag (codes "all") ∷ []
 options_of job.Survey = flag (codes "sums") ∷ flag (codes "resume") ∷ flag (codes "all") ∷ []
 options_of job.Check = flag (codes "survey") ∷ []
-options_of job.Serve = flag (codes "sums") ∷ flag (codes "log") ∷ flag (codes "end-on-fault") ∷ []
+options_of job.Serve = flag (codes "sums") ∷ flag (codes "log") ∷ flag (codes "end-on-fault") ∷ option (codes "most-reply") ∷ []
 options_of job.Where = optional (codes "MM") ∷ []
 options_of job.Lengths = option (codes "route") ∷ []
 options_of job.Diagram = any (codes "CLASS") ∷ option (codes "from") ∷ option (codes "to") ∷ []
@@ -140,7 +140,7 @@ job_name (Rows db route from to class asset) = job.Rows
 job_name (Gone db edit) = job.Gone
 job_name (Log db from key) = job.Log
 job_name (Audit db) = job.Audit
-job_name (Serve db port max sums log end_on_fault) = job.Serve
+job_name (Serve db port max sums log end_on_fault most_reply) = job.Serve
 job_name (Page dir) = job.Page
 
 -- its words that stand once, each with what it is called
@@ -163,7 +163,7 @@ words_of (Rows db route from to class asset) = (codes "DB", db.now) ∷ []
 words_of (Gone db edit) = (codes "DB", db.now) ∷ []
 words_of (Log db from key) = (codes "DB", db.now) ∷ []
 words_of (Audit db) = (codes "DB", db.now) ∷ []
-words_of (Serve db port max sums log end_on_fault) = (codes "DB", db.now) ∷ (codes "PORT", port.now) ∷ (codes "MAX", max.now) ∷ []
+words_of (Serve db port max sums log end_on_fault most_reply) = (codes "DB", db.now) ∷ (codes "PORT", port.now) ∷ (codes "MAX", max.now) ∷ []
 words_of (Page dir) = (codes "DIR", dir.now) ∷ []
 
 -- the classes of a strip or a diagram are all the words of their place
@@ -176,7 +176,7 @@ HasClasses _ rows = ⊤
 abbrev pub IsValue : Text → List Row → Option Text → Type 0
 IsValue id rows word = first_of id rows ≡ word
 
--- the ends of a diagram, the millimetre of a link, and what narrows a list, are the values that were given
+-- the ends of a diagram, the millimetre of a link, what narrows a list, and the length of replies, are the values that were given
 abbrev pub HasValues : Job → List Row → Type 0
 HasValues (Diagram db route classes from to) rows =
     IsValue (codes "from") rows (option_map (λ w. w.now) from) × IsValue (codes "to") rows (option_map (λ w. w.now) to)
@@ -188,6 +188,7 @@ HasValues (Where db route chainage mm) rows = IsValue (codes "MM") rows (option_
 HasValues (Lengths db route) rows = IsValue (codes "route") rows (option_map (λ w. w.now) route)
 HasValues (Gone db edit) rows = IsValue (codes "edit") rows (option_map (λ w. w.now) edit)
 HasValues (Log db from key) rows = IsValue (codes "FROM") rows (option_map (λ w. w.now) from) × IsValue (codes "key") rows (option_map (λ w. w.now) key)
+HasValues (Serve db port max sums log end_on_fault most_reply) rows = IsValue (codes "most-reply") rows (option_map (λ w. w.now) most_reply)
 HasValues _ rows = ⊤
 
 -- the option was given: `clap` reads `true` for it, and else `false`
@@ -198,7 +199,7 @@ IsSet id rows = first_of id rows ≡ Some (codes "true")
 abbrev pub HasSums : Job → List Row → Type 0
 HasSums (Edit db sheet sums resume all) rows = IsTrue sums ↔ IsSet (codes "sums") rows
 HasSums (Survey db sheet sums resume all) rows = IsTrue sums ↔ IsSet (codes "sums") rows
-HasSums (Serve db port max sums log end_on_fault) rows = IsTrue sums ↔ IsSet (codes "sums") rows
+HasSums (Serve db port max sums log end_on_fault most_reply) rows = IsTrue sums ↔ IsSet (codes "sums") rows
 HasSums _ rows = ⊤
 
 -- a sheet goes on behind its last record that is an edit exactly where `--resume` was given
@@ -220,7 +221,7 @@ HasKind _ rows = ⊤
 
 -- a service tells its requests exactly where `--log` was given, and ends on a fault exactly where `--end-on-fault` was
 abbrev pub HasManner : Job → List Row → Type 0
-HasManner (Serve db port max sums log end_on_fault) rows = (IsTrue log ↔ IsSet (codes "log") rows) × (IsTrue end_on_fault ↔ IsSet (codes "end-on-fault") rows)
+HasManner (Serve db port max sums log end_on_fault most_reply) rows = (IsTrue log ↔ IsSet (codes "log") rows) × (IsTrue end_on_fault ↔ IsSet (codes "end-on-fault") rows)
 HasManner _ rows = ⊤
 
 -- its words stand in their places, and its options are as they were given
@@ -239,7 +240,7 @@ IsJobOf words j = IsMet j (subcommand_of line_of_program words)
 abbrev pub has_new_sums : Job → Bool
 has_new_sums (Edit db sheet sums resume all) = sums
 has_new_sums (Survey db sheet sums resume all) = sums
-has_new_sums (Serve db port max sums log end_on_fault) = sums
+has_new_sums (Serve db port max sums log end_on_fault most_reply) = sums
 has_new_sums _ = false
 
 -- ---- words that are no job

@@ -11,7 +11,7 @@ use clap::Command;
 use std::alloc::{AllocError, Global};
 
 /// The version of the program, and the kit that proved it.
-static VERSION: &str = "0.8.14, proved by rattle-kit-13f logic dac8208d650f15bf";
+static VERSION: &str = "0.8.15, proved by rattle-kit-13f logic dac8208d650f15bf";
 
 // What help says of the words.
 const DB: &str = "The inventory's file, or :memory: for a fresh one in memory";
@@ -82,6 +82,9 @@ const MM: &str = "After the word link and a link's number: a millimetre of the l
 const TELLING: &str = "Writes a line for each request on standard error, and a count at the end";
 
 const END_ON_FAULT: &str = "Ends with status 3 once the inventory was not written";
+
+const MOST_REPLY: &str =
+    "How many bytes a reply has at most, 67108864 unless said; a longer one is a 503";
 
 const FROM_EDIT: &str = "The number of the first edit; else from the first one of all";
 
@@ -367,6 +370,7 @@ static SERVE: JobLine = JobLine {
         LinePart::Switch("sums", SUMS),
         LinePart::Switch("log", TELLING),
         LinePart::Switch("end-on-fault", END_ON_FAULT),
+        LinePart::Valued("most-reply", "BYTES", MOST_REPLY),
     ],
 };
 

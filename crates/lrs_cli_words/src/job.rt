@@ -144,7 +144,8 @@ pub enum Job<'a> {
         db: &'a str,
     },
     /// Serves `max` connections over HTTP on a port of this machine. With `log` each request is told on
-    /// standard error, and with `end_on_fault` a failed commit ends the service.
+    /// standard error, with `end_on_fault` a failed commit ends the service, and a reply has at most
+    /// `most_reply` bytes.
     Serve {
         db: &'a str,
         port: &'a str,
@@ -152,6 +153,7 @@ pub enum Job<'a> {
         sums: bool,
         log: bool,
         end_on_fault: bool,
+        most_reply: Option<&'a str>,
     },
     /// Writes the web page into the folder `dir`.
     Page {

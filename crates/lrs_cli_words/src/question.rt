@@ -2,7 +2,7 @@
 
 ghost use Rattle.std.specs.Prelude.{◌≡◌, ◌⊎◌, IfOk, IfErr, IfNone, IfSome, map, option_map};
 ghost use Rattle.lrs_position.specs.Readings.{States};
-ghost use Rattle.lrs_cli_words.specs.Questions.{Asks, AsksAt, AsksDiagram, AsksNothing, AsksStrip, AsksTranslate, Cannot, CannotAt, CannotClass, CannotDiagram, CannotEnd, CannotPosition, CannotServe, CannotStrip, CannotTranslate, IsFaultOf, SaysAsset, SaysClass, SaysDestination, SaysEnd, SaysMethod, SaysMost, SaysNumber, SaysPort, SaysPosition, SaysRoute, SaysService, SaysSide};
+ghost use Rattle.lrs_cli_words.specs.Questions.{Asks, AsksAt, AsksDiagram, AsksNothing, AsksStrip, AsksTranslate, Cannot, CannotAt, CannotClass, CannotDiagram, CannotEnd, CannotPosition, CannotIfGiven, CannotServe, CannotStrip, CannotTranslate, IsFaultOf, SaysAsset, SaysClass, SaysDestination, SaysEnd, SaysMethod, SaysMost, SaysMostReply, SaysNumber, SaysReplyLength, SaysPort, SaysPosition, SaysRoute, SaysService, SaysSide};
 
 use crate::job::Job;
 use crate::lists::{edit_if_given, list_of, log_of, place_of, route_if_given, rows_of};
@@ -20,6 +20,11 @@ const GREATEST_PORT: u64 = 65_535;
 /// The most connections that are served before the program ends.
 const MOST_CONNECTIONS: u64 = 1_000_000;
 
+/// How long a reply may be at the most, and how long where nothing is said.
+const LONGEST_REPLY: u64 = 1_000_000_000_000;
+
+const USUAL_REPLY: u64 = 67_108_864;
+
 /// Where an inventory is served: a port of this machine, for a number of connections; and how.
 #[derive(Clone, Copy, PartialEq, Eq)]
 pub struct Service {
@@ -29,6 +34,8 @@ pub struct Service {
     pub logs: bool,
     /// A failed commit ends the service.
     pub ends_on_fault: bool,
+    /// So many bytes a reply has at most.
+    pub most_reply: u64,
 }
 
 /// A word that cannot be read.
@@ -54,6 +61,7 @@ pub enum BadWord {
     Millimetre,
     Port,
     Max,
+    MostReply,
 }
 
 /// What the word is not.
@@ -85,6 +93,7 @@ impl fmt::Display for BadWord {
             BadWord::Millimetre => f.write_str("MM is no millimetre of a link"),
             BadWord::Port => f.write_str("PORT is no port number"),
             BadWord::Max => f.write_str("MAX is no number of connections"),
+            BadWord::MostReply => f.write_str("BYTES is no length of a reply"),
         }
     }
 }
@@ -318,6 +327,17 @@ fn most_of(text: &str) -> Result<u32, QuestionFault>
     Ok(max as u32)
 }
 
+fn most_reply_of(text: Option<&str>) -> Result<u64, QuestionFault>
+    ensures read { IfOk result (SaysMostReply (option_map (λ t. t.now) text.entry)) }
+    ensures unread { IfErr result (CannotIfGiven BadWord.MostReply SaysReplyLength
+        (option_map (λ t. t.now) text.entry)) }
+{
+    match text {
+        Some(text) => number_of(text, 1, LONGEST_REPLY, BadWord::MostReply),
+        None => Ok(USUAL_REPLY),
+    }
+}
+
 /// Where and how an inventory is served, as these words and options say.
 ///
 /// # Errors
@@ -327,17 +347,22 @@ pub fn service_of(
     max: &str,
     logs: bool,
     ends_on_fault: bool,
+    most_reply: Option<&str>,
 ) -> Result<Service, QuestionFault>
-    ensures read { IfOk result (SaysService port.now max.now logs ends_on_fault) }
-    ensures unread { IfErr result (CannotServe port.now max.now) }
+    ensures read { IfOk result (SaysService port.now max.now logs ends_on_fault
+        (option_map (λ t. t.now) most_reply.entry)) }
+    ensures unread { IfErr result (CannotServe port.now max.now
+        (option_map (λ t. t.now) most_reply.entry)) }
 {
     let port = port_of(port)?;
     let max = most_of(max)?;
+    let most_reply = most_reply_of(most_reply)?;
     Ok(Service {
         port,
         max,
         logs,
         ends_on_fault,
+        most_reply,
     })
 }
 

@@ -371,6 +371,7 @@ fn serve_job<'a>(given: &ArgMatches<'a>) -> Job<'a>
     let sums = is_set(given, "sums");
     let log = is_set(given, "log");
     let end_on_fault = is_set(given, "end-on-fault");
+    let most_reply = word_in(given, "most-reply");
     Job::Serve {
         db,
         port,
@@ -378,6 +379,7 @@ fn serve_job<'a>(given: &ArgMatches<'a>) -> Job<'a>
         sums,
         log,
         end_on_fault,
+        most_reply,
     }
 }
 

@@ -1,7 +1,7 @@
 -- Commands that are done together, and what is kept of them.
-use Rattle.std.proofs.Common.{◌≡◌, ◌⊎◌, inl, inr, ℕ, zero, suc, ◌+◌, ◌-◌, ◌≤◌, ◌<◌, Bool, true, false, List, [], ◌∷◌, ◌++◌, length, take, get_or, Result, Ok, Err, IfOk, OnOk, OnErr, refl, sym, ap, subst, ◌∙◌, arith, length-append}
+use Rattle.std.proofs.Common.{◌≡◌, ◌⊎◌, inl, inr, ℕ, zero, suc, ◌+◌, ◌-◌, ◌≤◌, ◌<◌, true, List, [], ◌∷◌, ◌++◌, length, take, get_or, Option, Some, None, Result, Ok, Err, IfSome, IfNone, IfOk, OnOk, OnErr, refl, sym, ap, subst, ◌∙◌, arith, length-append}
 use Rattle.std.specs.List.{AllByRecursion}
-use Rattle.std.proofs.lemmas.List.{take_more, take_all, take-map, map-append, length-map, length-take-le}
+use Rattle.std.proofs.lemmas.List.{append-nil, take_more, take_all, take-map, map-append, length-map, length-take-le}
 use Rattle.lrs_measure.specs.Texts.{Name}
 use Rattle.lrs_machine.specs.declared.answer.Answer.{Answer}
 use Rattle.lrs_machine.specs.declared.answer.Answer.TheVariants.{Done}
@@ -16,17 +16,17 @@ use Rattle.lrs_machine.specs.State.{State}
 use Rattle.lrs_image.specs.declared.change.Change.{Change}
 use Rattle.lrs_image.specs.declared.keeper.CommitFault.{CommitFault}
 use Rattle.lrs_image.specs.declared.keeper.CommitFault.TheVariants as commit
-use Rattle.lrs_image.specs.Change.{apply, CanMake}
+use Rattle.lrs_image.specs.Change.{apply, CanMake, rows_of}
 use Rattle.lrs_image.specs.KeeperCalls.{HasRisen, HoldsOnly, HoldsSound}
-use Rattle.lrs_image.specs.ChangeLists.{apply_all, CanMakeAll, IsChangedBy}
-use Rattle.lrs_image.proofs.Together.{apply_more, can_more, edits_after}
+use Rattle.lrs_image.specs.ChangeLists.{apply_all, CanMakeAll, IsChangedBy, rows_in}
+use Rattle.lrs_image.proofs.Together.{apply_more, can_more, edits_after, rows_more}
 use Rattle.lrs_machine.specs.Stop.StoppedRuns.{IsAccepted}
 use Rattle.lrs_machine.proofs.Keeping.{only_done_changes}
-use Rattle.lrs_desk.specs.Desk.{BreaksAmid, EndsRefused, OneIsDone, records_of}
+use Rattle.lrs_desk.specs.Desk.{AreBounded, BreaksAmid, EndsLarge, EndsRefused, IsMade, OneIsDone, most_rows, records_of}
 use Rattle.lrs_machine.specs.declared.stops.fault.Fault.{Fault}
 use Rattle.lrs_machine.specs.declared.stops.fault.Fault.TheVariants.{Memory, Keep, MustReopen}
 use Rattle.lrs_desk.specs.DeskView.{DeskView}
-use Rattle.lrs_desk.specs.Group.{MayBeChanged, DoesNext, IsMade, HasDone, GoesOn, IsGroup}
+use Rattle.lrs_desk.specs.Group.{MayBeChanged, DoesNext, EndsGroup, GoesOnBy, HasDone, GoesOn, IsGroup, MayFollow}
 use Rattle.lrs_desk.proofs.Deciding.{kept_edit}
 
 module _ {X : Type 0} where
@@ -111,9 +111,9 @@ module _ (limits : Limits) where
     }
 
     module _ (given given_after : List Answer) (changes changes_after : List Change) where
-      pub one_more : (goes_on : Bool) → HasDone limits rs i before given changes → DoesNext limits r.key r.command before after given given_after changes changes_after goes_on
+      pub one_more : (rows : Option ℕ) → HasDone limits rs i before given changes → DoesNext limits r.key r.command before after given given_after changes changes_after rows
           → HasDone limits (rs ++ r ∷ []) i after given_after changes_after
-      one_more goes_on done next =
+      one_more rows done next =
           let state = next.state ∙ ap (λ (s : State). (step_record limits r s).state) done.state ∙ sym (state_more rs r (state_of i)) in
           record {
             answered = next.answered ∙ (λ j. done.answered j ++ (step_record limits r (done.state j)).answer ∷ []) ∙ sym (answers_more rs r (state_of i));
@@ -121,16 +121,50 @@ module _ (limits : Limits) where
             made = made_more changes changes_after done.made next.changed;
           }
 
-      pub one_more_accepted : (goes_on : Bool) → goes_on ≡ true → GoesOn limits rs i before given changes → DoesNext limits r.key r.command before after given given_after changes changes_after goes_on
+      pub one_more_accepted : (rows : ℕ) → GoesOn limits rs i before given changes → DoesNext limits r.key r.command before after given given_after changes changes_after (Some rows)
           → GoesOn limits (rs ++ r ∷ []) i after given_after changes_after
-      one_more_accepted goes_on goes so_far next = record {
-        done = one_more goes_on so_far.done next;
+      one_more_accepted rows so_far next = record {
+        done = one_more (Some rows) so_far.done next;
         accepted = subst (AllByRecursion IsAccepted) (sym (answers_more rs r (state_of i)))
             (all_more IsAccepted (answers limits rs (state_of i)) (step_record limits r (state_after limits rs (state_of i))).answer so_far.accepted
-            (subst (λ (s : State). IsAccepted (step_record limits r s).answer) so_far.done.state (next.accepted goes)));
+            (subst (λ (s : State). IsAccepted (step_record limits r s).answer) so_far.done.state next.goes_on.accepted));
         none = λ e. absurd (omega (arith, length-append rs (r ∷ []), ap (λ (qs : List Record). length qs) e));
         no_changes = λ e. absurd (omega (arith, length-append rs (r ∷ []), ap (λ (qs : List Record). length qs) e));
       }
+
+-- whether another command may follow one that changes nothing
+pub follows_still : (answer : Answer) (changes : List Change) (rows : ℕ) (next : Option ℕ) → rows ≡ rows_in changes → rows ≤ most_rows → IfSome next (λ n. IsAccepted answer × (n ≡ rows))
+    → IfNone next (IsAccepted answer → ⊥) → GoesOnBy answer changes next
+follows_still answer changes rows None listed few some none = inl none
+follows_still answer changes rows (Some n) listed few some none = record {
+  accepted = some.0;
+  counted = some.1 ∙ listed;
+  few = (let same = some.1 in omega (arith, few, same));
+}
+
+-- ... or one that makes a change
+pub follows_with : (answer : Answer) (number : ℕ) → answer ≡ Done number → (changes changes_after : List Change) (change : Change) → changes_after ≡ changes ++ change ∷ [] → (rows : ℕ) (next : Option ℕ) → rows ≡ rows_in changes
+    → IfSome next (λ n. (n ≡ rows + rows_of change.difference) × (n ≤ most_rows)) → IfNone next (most_rows < rows + rows_of change.difference) → GoesOnBy answer changes_after next
+follows_with answer number done changes changes_after change kept rows None listed some none =
+    let all : rows_in changes_after ≡ rows_in changes + rows_of change.difference = ap rows_in kept ∙ rows_more changes change in
+    inr ((number, done), omega (arith, none, all, listed))
+follows_with answer number done changes changes_after change kept rows (Some n) listed some none =
+    let all : rows_in changes_after ≡ rows_in changes + rows_of change.difference = ap rows_in kept ∙ rows_more changes change in
+    let sum = some.0 in
+    record {
+      accepted = subst IsAccepted (sym done) tt;
+      counted = omega (arith, sum, all, listed);
+      few = some.1;
+    }
+
+-- what lists few rows is bounded
+pub bounded_all : (changes : List Change) → rows_in changes ≤ most_rows → AreBounded changes
+bounded_all changes few = record { front = changes; last = []; are = sym (append-nil changes); one = omega arith; few = few }
+
+-- ... and so with one more change
+pub bounded_after : (changes changes_after : List Change) (before after : Image) → rows_in changes ≤ most_rows → MayBeChanged changes changes_after before after → AreBounded changes_after
+bounded_after changes changes_after before after few (inl same) = bounded_all changes_after (subst (λ (cs : List Change). rows_in cs ≤ most_rows) (sym same.0) few)
+bounded_after changes changes_after before after few (inr c) = record { front = changes; last = c.change ∷ []; are = c.kept; one = omega arith; few = few }
 
 -- the first commands of a list
 
@@ -213,30 +247,48 @@ module _ (commands : List (Name × Command)) where
       (is_group_so_far limits n i j given changes so_far (omega (arith, many, some)) few)))
 
   -- one more command, which another may follow or not
-  module _ (limits : Limits) (n : ℕ) (r : Name × Command) (i before after : Image) (given given_after : List Answer) (changes changes_after : List Change) (goes_on : Bool)
+  module _ (limits : Limits) (n : ℕ) (r : Name × Command) (i before after : Image) (given given_after : List Answer) (changes changes_after : List Change) (rows : Option ℕ)
       (within : n < length commands) (is : r ≡ get_or commands n r)
       (so_far : GoesOn limits (records_of (take n commands)) i before given changes)
-      (next : DoesNext limits r.0 r.1 before after given given_after changes changes_after goes_on) where
+      (next : DoesNext limits r.0 r.1 before after given given_after changes changes_after rows) where
     front_is : records_of (take n commands) ++ record_of r ∷ [] ≡ records_of (take (n + 1) commands)
     front_is = sym (at_next n r within is)
 
-    pub group_grows : goes_on ≡ true → GoesOn limits (records_of (take (n + 1) commands)) i after given_after changes_after
-    group_grows goes =
+    all_done : HasDone limits (records_of (take (n + 1) commands)) i after given_after changes_after
+    all_done =
+        subst (λ (rs : List Record). HasDone limits rs i after given_after changes_after) front_is
+        (one_more limits (records_of (take n commands)) (record_of r) i before after given given_after changes changes_after rows so_far.done next)
+
+    pub group_grows : (more : ℕ) → rows ≡ Some more → GoesOn limits (records_of (take (n + 1) commands)) i after given_after changes_after
+    group_grows more goes =
         subst (λ (rs : List Record). GoesOn limits rs i after given_after changes_after) front_is
-        (one_more_accepted limits (records_of (take n commands)) (record_of r) i before after given given_after changes changes_after goes_on goes so_far next)
+        (one_more_accepted limits (records_of (take n commands)) (record_of r) i before after given given_after changes changes_after more so_far
+        (subst (DoesNext limits r.0 r.1 before after given given_after changes changes_after) goes next))
+
+    -- ... so many rows are listed then
+    pub rows_follow : (more : ℕ) → rows ≡ Some more → MayFollow (step limits r.0 r.1 (state_of before)).answer changes_after more
+    rows_follow more goes = subst (GoesOnBy (step limits r.0 r.1 (state_of before)).answer changes_after) goes next.goes_on
 
     pub group_ends : IsGroup limits (records_of commands) i after given_after changes_after
     group_ends =
-        is_group limits (n + 1) i after given_after changes_after
-        (subst (λ (rs : List Record). HasDone limits rs i after given_after changes_after) front_is
-        (one_more limits (records_of (take n commands)) (record_of r) i before after given given_after changes changes_after goes_on so_far.done next))
+        is_group limits (n + 1) i after given_after changes_after all_done
         (omega arith) (omega (arith, within))
         (subst (λ (rs : List Record). AllByRecursion IsAccepted (answers limits rs (state_of i)))
         (sym (take-map record_of n commands) ∙ ap (λ (m : ℕ). take m (records_of commands)) (let e : n ≡ (n + 1) - 1 = omega arith in e)) so_far.accepted)
 
-    -- a group that ends with it ends refused
-    pub ends_refused : goes_on ≡ false → EndsRefused given_after
-    ends_refused stops = (given, (step limits r.0 r.1 (state_of before)).answer, next.answered, next.refused stops)
+    -- a group that ends with it ends refused, or is large
+    pub ends_so : rows ≡ None → EndsRefused given_after ⊎ EndsLarge i after given_after
+    ends_so goes = by (subst (GoesOnBy said changes_after) goes next.goes_on)
+      where
+        said : Answer
+        said = (step limits r.0 r.1 (state_of before)).answer
+
+        by : EndsGroup said changes_after → EndsRefused given_after ⊎ EndsLarge i after given_after
+        by (inl refused) = inl (given, said, next.answered, refused)
+        by (inr ((number, done), many)) = inr (
+          (given, number, next.answered ∙ ap (λ (a : Answer). given ++ a ∷ []) done),
+          (changes_after, all_done.made, many),
+        )
 
 -- what is kept
 
@@ -255,10 +307,10 @@ module _ (may found : Result Image Table → Type 0) (i j : Image) (changes : Li
       let by = changed c h in
       by.2 ∙ ap (λ (image : Image). let r : Result Image Table = Ok (apply_all changes image) in r) (image_is by.0 by.1) ∙ ap (λ (image : Image). let r : Result Image Table = Ok image in r) (sym made)
 
-module _ {K : Type 0} (holds : K → Result Image Table → Type 0) (failures : K → ℕ) (records : List Record) (old new : DeskView K) (given : List Answer) (changes : List Change) where
+module _ {K : Type 0} (holds : K → Result Image Table → Type 0) (records : List Record) (old new : DeskView K) (given : List Answer) (changes : List Change) where
   pub breaks_amid : IsGroup old.limits records old.image new.image given changes → HoldsOnly (holds old.keeper) old.image
       → ((c : Result Image Table) → holds new.keeper c → holds old.keeper c ⊎ IsChangedBy (holds old.keeper) changes c)
-      → (length new.image.edits ≡ length old.image.edits → ⊥) → new.must_reopen ≡ true → new.is_ahead ≡ true → HasRisen (failures old.keeper) (failures new.keeper) → BreaksAmid holds failures records old new
+      → (length new.image.edits ≡ length old.image.edits → ⊥) → new.must_reopen ≡ true → new.is_ahead ≡ true → HasRisen old.failures new.failures → BreaksAmid holds records old new
   breaks_amid group only found differ reopen ahead cause =
       let many : length given ≡ (length given - 1) + 1 = omega (arith, group.first.some) in
       let state : state_of new.image ≡ state_after old.limits (take ((length given - 1) + 1) records) (state_of old.image) = group.first.state ∙ ap (λ (n : ℕ). state_after old.limits (take n records) (state_of old.image)) many in

@@ -13,6 +13,8 @@ use Rattle.lrs_machine.specs.declared.image.Image.{Image}
 use Rattle.lrs_machine.specs.Image.{state_of}
 use Rattle.lrs_machine.specs.Machine.{Record, answers, state_after, step}
 use Rattle.lrs_machine.specs.Sound.{IsSound}
+use Rattle.lrs_image.specs.declared.change.Change.{Change}
+use Rattle.lrs_image.specs.ChangeLists.{apply_all, CanMakeAll, rows_in}
 use Rattle.lrs_image.specs.KeeperCalls.{HasRisen, HoldsOnly}
 use Rattle.lrs_machine.specs.Stop.StoppedRuns.{IsAccepted}
 use Rattle.lrs_image.specs.declared.keeper.LoadFault.{LoadFault}
@@ -47,13 +49,13 @@ abbrev pub IsOldOrNext : Limits → List Record → Image → Result Image Table
 IsOldOrNext limits records before c = (c ≡ Ok before) ⊎ ((image : Image) × (c ≡ Ok image) × (state_of image ≡ state_after limits records (state_of before)) × IsSound image)
 
 -- The commit of a command that is done failed: what is found is the old image, or a sound one of the next state. The desk knows what it knew.
-pub record HasBroken {K : Type 0} (holds : K → Result Image Table → Type 0) (failures : K → ℕ) (key : Name) (command : Command) (old new : DeskView K) : Type 0 where
+pub record HasBroken {K : Type 0} (holds : K → Result Image Table → Type 0) (key : Name) (command : Command) (old new : DeskView K) : Type 0 where
   pub done : (number : ℕ) × ((step old.limits key command (state_of old.image)).answer ≡ Done number)
   pub image : new.image ≡ old.image
   pub content : (c : Result Image Table) → holds new.keeper c → IsOldOrNext old.limits (record { key = key; command = command } ∷ []) old.image c
   pub must_reopen : new.must_reopen ≡ true
   pub is_ahead : new.is_ahead ≡ false
-  pub cause : HasRisen (failures old.keeper) (failures new.keeper)
+  pub cause : HasRisen old.failures new.failures
 
 -- commands under keys, as the ground machine is given them
 abbrev pub records_of : List (Name × Command) → List Record
@@ -71,17 +73,47 @@ pub record DoesFirst (limits : Limits) (records : List Record) (before after : S
 abbrev pub EndsRefused : List Answer → Type 0
 EndsRefused given = (front : List Answer) × (last : Answer) × (given ≡ front ++ last ∷ []) × (IsAccepted last → ⊥)
 
--- Why no more of so many commands are answered: there are no more, or the last one is refused; or memory ran out for the next one.
-abbrev pub StopsBy : Bool → ℕ → List Answer → Type 0
-StopsBy false count given = (length given ≡ count) ⊎ EndsRefused given
-StopsBy true count given = length given < count
+-- the last of these answers says that a command is done
+abbrev pub EndsDone : List Answer → Type 0
+EndsDone given = (front : List Answer) × (number : ℕ) × (given ≡ front ++ Done number ∷ [])
+
+-- The changes make this image, which is sound, of the one before.
+pub record IsMade (before after : Image) (changes : List Change) : Type 0 where
+  pub can : CanMakeAll changes before
+  pub made : after ≡ apply_all changes before
+  pub sound : IsSound after
+
+-- how many rows the changes of one commit may list before its last one
+abbrev pub most_rows : ℕ
+most_rows = 4_096
+
+-- all of these changes but the last one list no more
+pub record AreBounded (changes : List Change) : Type 0 where
+  pub front : List Change
+  pub last : List Change
+  pub are : changes ≡ front ++ last
+  pub one : length last ≤ 1
+  pub few : rows_in front ≤ most_rows
+
+-- so of changes that make the one image of the other
+abbrev pub MakesBounded : Image → Image → Type 0
+MakesBounded before after = (changes : List Change) × IsMade before after changes × AreBounded changes
+
+-- the answers end behind a command that is done, and the changes that make the one image of the other list more
+abbrev pub EndsLarge : Image → Image → List Answer → Type 0
+EndsLarge before after given = EndsDone given × ((changes : List Change) × IsMade before after changes × (most_rows < rows_in changes))
+
+-- Why no more of so many commands are answered, which make the one image of the other: there are no more, or the last one is refused, or with it too many rows are listed; or memory ran out for the next one.
+abbrev pub StopsBy : Bool → ℕ → Image → Image → List Answer → Type 0
+StopsBy false count before after given = (length given ≡ count) ⊎ (EndsRefused given ⊎ EndsLarge before after given)
+StopsBy true count before after given = length given < count
 
 -- one of these answers says that a command is done
 abbrev pub OneIsDone : List Answer → Type 0
 OneIsDone given = (number : ℕ) × In (Done number) given
 
 -- The first of these commands are in flight: their commit failed. One of them is done, each before the last was accepted, what is found is the old image or the state after all of them, and the desk's image is ahead: it is that after all of them.
-pub record BreaksAmid {K : Type 0} (holds : K → Result Image Table → Type 0) (failures : K → ℕ) (records : List Record) (old new : DeskView K) : Type 0 where
+pub record BreaksAmid {K : Type 0} (holds : K → Result Image Table → Type 0) (records : List Record) (old new : DeskView K) : Type 0 where
   -- how many are in flight beside the last one
   pub accepted : ℕ
   pub few : accepted < length records
@@ -91,4 +123,4 @@ pub record BreaksAmid {K : Type 0} (holds : K → Result Image Table → Type 0)
   pub content : (c : Result Image Table) → holds new.keeper c → IsOldOrNext old.limits (take (accepted + 1) records) old.image c
   pub must_reopen : new.must_reopen ≡ true
   pub is_ahead : new.is_ahead ≡ true
-  pub cause : HasRisen (failures old.keeper) (failures new.keeper)
+  pub cause : HasRisen old.failures new.failures

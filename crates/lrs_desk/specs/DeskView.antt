@@ -1,5 +1,5 @@
 -- What is seen of a desk.
-use Rattle.std.specs.Prelude.{◌≡◌, Bool, true, false, List, [], Result}
+use Rattle.std.specs.Prelude.{◌≡◌, ℕ, Bool, true, false, List, [], Result}
 use Rattle.lrs_machine.specs.declared.answer.Limits.{Limits}
 use Rattle.lrs_machine.specs.declared.image.Image.{Image}
 use Rattle.lrs_machine.specs.declared.table.Table.{Table}
@@ -16,6 +16,8 @@ pub record DeskView (K : Type 0) : Type 0 where
   -- whether that commit was of several commands, which the image has then and an opening may not find
   pub is_ahead : Bool
   pub keeper : K
+  -- how often the keeper has counted a failure
+  pub failures : ℕ
 
 -- What a desk relies on of its keeper: what an opening may find, whether the device is clean and reached, what is loaded and staged.
 pub record Relied : Type 1 where

@@ -11,7 +11,7 @@ ghost use Rattle.lrs_image.specs.KeeperCalls.{HasLoaded, HasRisen, HoldsOnly};
 ghost use Rattle.lrs_image.specs.ChangeLists.{KeepsOne};
 ghost use Rattle.lrs_report_answers.specs.Tally.RunningCounts.{IsCounted};
 ghost use Rattle.lrs_inventory.specs.Plans.{change_of, TellsGround};
-ghost use Rattle.lrs_desk.specs.Desk.{IsUnchanged, HasBroken, DoesFirst, BreaksAmid, FindsImage, KeepsImage, StopsBy, records_of};
+ghost use Rattle.lrs_desk.specs.Desk.{IsUnchanged, HasBroken, DoesFirst, BreaksAmid, FindsImage, KeepsImage, MakesBounded, StopsBy, records_of};
 
 use crate::decision::{Decision, decide, known_edit};
 use crate::group::{FirstAnswers, class_of, do_first};
@@ -68,6 +68,7 @@ impl<K: Keeper> Model for Desk<K> {
       must_reopen = d.must_reopen;
       is_ahead = d.is_ahead;
       keeper = d.keeper;
+      failures = K.failures d.keeper;
     } };
 
     ghost invariant = { λ d. IsWorking d.inventory d.counts d.must_reopen d.is_ahead (record {
@@ -85,7 +86,8 @@ impl<K: Keeper> Desk<K> {
     ///
     /// # Errors
     ///
-    /// `Unsound` with the first unsound table of what is kept, `Keep` if the keeper counts a failure.
+    /// `Unsound` with the first unsound table of what is kept, which a clean device does give back; `Keep` if the keeper
+    /// counts a failure.
     pub fn open(mut keeper: K, limits: Limits, alloc: Global) -> Result<Desk<K>, (OpenFault, K)>
         ensures image { IfOk result (λ desk. HoldsOnly (K.may_hold desk.keeper) desk.image) }
         ensures content { IfOk result (λ desk. (c : Result ImageRows Table)
@@ -93,10 +95,13 @@ impl<K: Keeper> Desk<K> {
         ensures limits { IfOk result (λ desk. desk.limits ≡ limits) }
         ensures open { IfOk result (λ desk. desk.must_reopen ≡ false) }
         ensures behind { IfOk result (λ desk. desk.is_ahead ≡ false) }
+        ensures failures { IfOk result (λ desk. desk.failures ≡ K.failures keeper) }
         ensures found { IfOk result (λ desk. K.is_clean desk.keeper
             → K.may_hold desk.keeper (Ok desk.image)) }
         ensures unsound { IfErr result (λ e. (t : Table) → e.0 ≡ OpenFault.Unsound t
             → (c : Result ImageRows Table) → K.may_hold e.1 c → c ≡ Err t) }
+        ensures named { IfErr result (λ e. (t : Table) → e.0 ≡ OpenFault.Unsound t
+            → K.is_clean e.1 → K.may_hold e.1 (Err t)) }
         ensures cause { IfErr result (λ e. e.0 ≡ OpenFault.Keep
             → HasRisen (K.failures keeper) (K.failures e.1)) }
         ensures quiet { IfErr result (λ e. (e.0 ≡ OpenFault.Keep → ⊥)
@@ -127,10 +132,12 @@ impl<K: Keeper> Desk<K> {
     }
 
     /// Gives the caller's proof what this desk keeps: while it need not be opened again, an opening finds its image and
-    /// nothing else, and does find it where the device is clean. It does nothing.
+    /// nothing else, and does find it where the device is clean; and that it tells the keeper's count of failures. It does
+    /// nothing.
     pub fn prove_kept(&self)
         ensures kept { KeepsImage K.may_hold self.now }
         ensures found { FindsImage K.may_hold K.is_clean self.now }
+        ensures failures { self.now.failures ≡ K.failures self.now.keeper }
     {
         let _ = &self.keeper;
     }
@@ -224,8 +231,9 @@ impl<K: Keeper> Desk<K> {
         ensures memory { result ≡ Err Fault.Memory → IsUnchanged K.may_hold self.old self.new }
 
         // A commit fails only where the keeper counts it; the image is then as before.
-        ensures keep { result ≡ Err Fault.Keep → HasBroken K.may_hold K.failures key command.now
+        ensures keep { result ≡ Err Fault.Keep → HasBroken K.may_hold key command.now
             self.old self.new }
+        ensures counts { self.old.failures ≤ self.new.failures }
 
         // From then on the desk asks to be opened again, and at no other time.
         ensures reopen { (result ≡ Err Fault.MustReopen) ↔ IsTrue self.old.must_reopen }
@@ -267,8 +275,9 @@ impl<K: Keeper> Desk<K> {
 }
 
 impl<K: Keeper> Desk<K> {
-    /// Does the first of these commands, in order: all of them, or up to the first that is refused, or up to one for which
-    /// memory ran out. What they change is kept before they are answered, all of it by one commit.
+    /// Does the first of these commands, in order: all of them, or up to the first that is refused, or up to one whose change
+    /// lists with those before it more than 4,096 rows, or up to one for which memory ran out. What they change is kept
+    /// before they are answered, all of it by one commit.
     ///
     /// # Errors
     ///
@@ -281,7 +290,8 @@ impl<K: Keeper> Desk<K> {
         ensures does { IfOk result (λ done. DoesFirst self.old.limits (records_of commands.now)
             (state_of self.old.image) (state_of self.new.image) done.answers.items) }
         ensures stops { IfOk result (λ done. StopsBy done.ran_out (length commands.now)
-            done.answers.items) }
+            self.old.image self.new.image done.answers.items) }
+        ensures bounded { OnOk result (MakesBounded self.old.image self.new.image) }
         ensures content { OnOk result (HoldsOnly (K.may_hold self.new.keeper) self.new.image) }
         // Whatever is answered, while it need not be opened again.
         ensures found { FindsImage K.may_hold K.is_clean self.new }
@@ -290,8 +300,9 @@ impl<K: Keeper> Desk<K> {
         ensures memory { result ≡ Err Fault.Memory → IsUnchanged K.may_hold self.old self.new }
 
         // A commit fails only where the keeper counts it, and then all of them are kept or none.
-        ensures keep { result ≡ Err Fault.Keep → BreaksAmid K.may_hold K.failures
+        ensures keep { result ≡ Err Fault.Keep → BreaksAmid K.may_hold
             (records_of commands.now) self.old self.new }
+        ensures counts { self.old.failures ≤ self.new.failures }
 
         // From then on the desk asks to be opened again, and at no other time.
         ensures reopen { (result ≡ Err Fault.MustReopen) ↔ IsTrue self.old.must_reopen }

@@ -1,17 +1,18 @@
 //! Commands that are done together: here first, by changes that are kept then.
 
-ghost use Rattle.std.specs.Prelude.{◌≡◌, ◌+◌, ◌<◌, ◌≤◌, ◌∷◌, ◌++◌, [], IfOk, OnOk, OnErr, length, true, false, vec_len, vec_capacity};
-ghost use Rattle.lrs_image.specs.Change.{apply, CanMake};
+ghost use Rattle.std.specs.Prelude.{◌≡◌, ◌+◌, ◌<◌, ◌≤◌, ◌∷◌, ◌++◌, [], IfNone, IfOk, IfSome, OnOk, OnErr, length, vec_len, vec_capacity};
+ghost use Rattle.lrs_image.specs.Change.{apply, CanMake, rows_of};
+ghost use Rattle.lrs_image.specs.ChangeLists.{rows_in};
 ghost use Rattle.lrs_image.specs.KeeperCalls.{OnlyStages};
 ghost use Rattle.lrs_machine.specs.Stop.StoppedRuns.{IsAccepted};
 ghost use Rattle.lrs_report_answers.specs.Tally.RunningCounts.{IsCounted};
 ghost use Rattle.lrs_inventory.specs.Plans.{change_of, TellsGround};
-ghost use Rattle.lrs_desk.specs.Desk.{StopsBy, records_of};
+ghost use Rattle.lrs_desk.specs.Desk.{AreBounded, StopsBy, most_rows, records_of};
 ghost use Rattle.lrs_desk.specs.Group.{DoesNext, IsGroup};
 
 use crate::decision::{Decision, decide};
 use lrs_events::Class;
-use lrs_image::Keeper;
+use lrs_image::{Difference, Keeper};
 use lrs_inventory::{Inventory, Plan};
 use lrs_machine::{Answer, Command, Edit, Key, Limits};
 use lrs_report_answers::Counts;
@@ -26,8 +27,12 @@ pub struct FirstAnswers {
     pub ran_out: bool,
 }
 
-/// Does the first of these commands, in order: one at least, and no more after one that is refused. What they change is
-/// staged. Where memory runs out for another one than the first, those before it are done.
+/// The most rows that the changes of a group list before its last one.
+const MOST_ROWS: u64 = 4_096;
+
+/// Does the first of these commands, in order: one at least, and no more after one that is refused, or by which more than
+/// 4,096 rows are listed. What they change is staged. Where memory runs out for another one than the first, those before
+/// it are done.
 ///
 /// # Errors
 /// When memory runs out for the first; nothing has changed then.
@@ -45,7 +50,8 @@ pub fn do_first<K: Keeper>(
     ensures does { IfOk result (λ done. IsGroup limits.now (records_of commands.now)
         inventory.old inventory.new done.answers.items (K.staged keeper.new)) }
     ensures stops { IfOk result (λ done. StopsBy done.ran_out (length commands.now)
-        done.answers.items) }
+        inventory.old inventory.new done.answers.items) }
+    ensures bounded { AreBounded (K.staged keeper.new) }
     ensures memory { OnErr result (inventory.new ≡ inventory.old) }
     ensures not_staged { OnErr result (K.staged keeper.new ≡ []) }
     ensures rest { OnlyStages K.Holder keeper.old keeper.new }
@@ -53,12 +59,13 @@ pub fn do_first<K: Keeper>(
 {
     inventory.prove_sound();
     let mut given = Vec::new(alloc);
+    let mut rows = 0;
     for (key, command) in commands {
         match do_next(
-            alloc, limits, inventory, counts, keeper, key, command, &mut given,
+            alloc, limits, inventory, counts, keeper, key, command, rows, &mut given,
         ) {
-            Ok(true) => {}
-            Ok(false) => {
+            Ok(Some(more)) => rows = more,
+            Ok(None) => {
                 return Ok(FirstAnswers {
                     answers: given,
                     ran_out: false,
@@ -81,8 +88,8 @@ pub fn do_first<K: Keeper>(
     })
 }
 
-// Does one more command, and says whether another may follow: none does behind a refusal. Lack of memory
-// changes nothing.
+// Does one more command behind those that list so many rows, and says how many are listed then, if another may follow:
+// none does behind a refusal, or where they are too many. Lack of memory changes nothing.
 fn do_next<K: Keeper>(
     alloc: Global,
     limits: &Limits,
@@ -91,9 +98,12 @@ fn do_next<K: Keeper>(
     keeper: &mut K,
     key: &Key,
     command: &Command,
+    rows: u64,
     given: &mut Vec<Answer>,
-) -> Result<bool, AllocError>
+) -> Result<Option<u64>, AllocError>
     requires counted { IsCounted inventory.old counts.old }
+    requires listed { rows ≡ rows_in (K.staged keeper.old) }
+    requires few { rows ≤ most_rows }
     ensures does { IfOk result (DoesNext limits.now key.now command.now
         inventory.old inventory.new given.old.items given.new.items
         (K.staged keeper.old) (K.staged keeper.new)) }
@@ -107,28 +117,39 @@ fn do_next<K: Keeper>(
     let line = command.line(alloc)?;
     match decide(alloc, inventory, limits, key, command, &line)? {
         Decision::Stay(answer) => {
-            let goes_on = is_accepted(&answer);
+            let next = rows_behind(&answer, rows);
             push_in_room(given, answer);
-            Ok(goes_on)
+            Ok(next)
         }
         Decision::Make(plan) => {
+            let next = rows_with(rows, &plan.difference);
             let edit = Edit { key: *key, line };
             let answer = make(alloc, inventory, counts, keeper, edit, plan)?;
             push_in_room(given, answer);
-            Ok(true)
+            Ok(next)
         }
     }
 }
 
-// Whether an answer says that the command is an edit.
-fn is_accepted(answer: &Answer) -> bool
-    ensures accepted { result ≡ true → IsAccepted answer.now }
-    ensures refused { result ≡ false → IsAccepted answer.now → ⊥ }
+// So many rows still, behind a command that is answered so and changes nothing, unless it is refused.
+fn rows_behind(answer: &Answer, rows: u64) -> Option<u64>
+    ensures accepted { IfSome result (λ n. IsAccepted answer.now × (n ≡ rows)) }
+    ensures refused { IfNone result (IsAccepted answer.now → ⊥) }
 {
     match answer {
-        Answer::Done(_) | Answer::Again(_) => true,
-        Answer::Refused(_) => false,
+        Answer::Done(_) | Answer::Again(_) => Some(rows),
+        Answer::Refused(_) => None,
     }
+}
+
+// The rows with those of one more change, unless they are too many.
+fn rows_with(rows: u64, difference: &Difference) -> Option<u64>
+    requires few { rows ≤ most_rows }
+    ensures few { IfSome result (λ n. (n ≡ rows + rows_of difference.now) × (n ≤ most_rows)) }
+    ensures many { IfNone result (most_rows < rows + rows_of difference.now) }
+{
+    let sum = rows.saturating_add(difference.rows());
+    if sum <= MOST_ROWS { Some(sum) } else { None }
 }
 
 // Puts an element at the end of a vector that has room for it.

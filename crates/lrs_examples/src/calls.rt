@@ -5,7 +5,6 @@ ghost use Rattle.std.specs.List.{list_all};
 ghost use Rattle.lrs_events.specs.Spans.{is_row};
 ghost use Rattle.lrs_events.specs.Row.Joins.{end_by, have_room, is_of_one_class, are_of_one_class};
 
-use lrs_events::rows::removals::Removal;
 use lrs_events::{Span, Spans};
 use lrs_measure::limits::LONGEST_ROUTE;
 use std::alloc::{AllocError, Global};
@@ -59,20 +58,6 @@ pub fn add(spans: &mut Spans, alloc: Global, span: &Span) -> Result<bool, AllocE
     }
     spans.add(alloc, *span)?;
     Ok(true)
-}
-
-/// Takes away what lies on the stretch, if it has a millimetre.
-pub fn remove_within(
-    spans: &mut Spans,
-    alloc: Global,
-    low: u64,
-    high: u64,
-) -> Result<Option<Removal>, AllocError> {
-    if low >= high {
-        return Ok(None);
-    }
-    let removal = spans.remove_within(alloc, low, high)?;
-    Ok(Some(removal))
 }
 
 /// Lets the route go on as the other, where that can be, and answers whether it could.

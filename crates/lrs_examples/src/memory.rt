@@ -77,6 +77,7 @@ fn list_of(rt: &(impl Abort + AllocGlobal), spans: &Spans) -> Vec<Span>
 enum MemoryCall {
     Add,
     RemoveWithin,
+    RemoveNothing,
     RemoveAssetWithin,
     RemoveClassPlaces,
     Cut,
@@ -94,8 +95,14 @@ fn fill_gap(rt: &impl Abort, alloc: Global, spans: &mut Spans) -> Result<usize, 
 }
 
 fn clear(spans: &mut Spans, alloc: Global) -> Result<usize, AllocError> {
-    let removal = calls::remove_within(spans, alloc, 3, 8)?;
-    Ok(usize::from(removal.is_some()))
+    let removal = spans.remove_within(alloc, 3, 8)?;
+    Ok(removal.left.len())
+}
+
+/// An empty stretch has nothing to take away.
+fn clear_nothing(spans: &mut Spans, alloc: Global) -> Result<usize, AllocError> {
+    let removal = spans.remove_within(alloc, 8, 8)?;
+    Ok(removal.left.len())
 }
 
 fn clear_asset(rt: &impl Abort, alloc: Global, spans: &mut Spans) -> Result<usize, AllocError> {
@@ -165,6 +172,7 @@ fn done(
     match call {
         MemoryCall::Add => fill_gap(rt, alloc, spans),
         MemoryCall::RemoveWithin => clear(spans, alloc),
+        MemoryCall::RemoveNothing => clear_nothing(spans, alloc),
         MemoryCall::RemoveAssetWithin => clear_asset(rt, alloc, spans),
         MemoryCall::RemoveClassPlaces => clear_side(rt, alloc, spans),
         MemoryCall::Cut => cut(spans, alloc),
@@ -223,7 +231,8 @@ fn leaves_the_rows(rt: &(impl Abort + Print + AllocGlobal), call: MemoryCall, na
 
 fn spans_are_changed(rt: &(impl Abort + Print + AllocGlobal)) {
     leaves(rt, MemoryCall::Add, "Spans::add", 2, 1);
-    leaves(rt, MemoryCall::RemoveWithin, "Spans::remove_within", 4, 1);
+    leaves(rt, MemoryCall::RemoveWithin, "Spans::remove_within", 4, 3);
+    leaves(rt, MemoryCall::RemoveNothing, "Spans::remove_within", 3, 0);
     leaves(
         rt,
         MemoryCall::RemoveAssetWithin,
@@ -256,10 +265,19 @@ fn rows_are_found(rt: &(impl Abort + Print + AllocGlobal)) {
     leaves(rt, MemoryCall::Met, "Spans::met", 3, 3);
 }
 
+/// Who is found over a stretch: nobody over one without a millimetre.
+fn stretches_are_asked(rt: &(impl Abort + Print + AllocGlobal)) {
+    let spans = route(rt);
+    let sign = class(rt, b"SIGN");
+    assert!(rt; spans.over(8, 8, sign, Side::B).is_none());
+    assert!(rt; spans.over(8, 9, sign, Side::B) == Some(3));
+}
+
 #[test]
 fn each_call_bears_a_refused_growth(rt: HostRuntime) {
     spans_are_changed(&rt);
     routes_are_cut_and_joined(&rt);
     spans_are_made_of_others(&rt);
     rows_are_found(&rt);
+    stretches_are_asked(&rt);
 }

@@ -46,6 +46,7 @@ keeps_none h memory store differ change image k has = record {
   none = λ e c m. m;
   either = λ e. absurd (differ (cc e));
   cause = λ e. absurd (differ (cc e));
+  counts = omega arith;
   loaded = has.loaded;
   reached = λ other. has.reached;
 }
@@ -70,6 +71,7 @@ module _ {K X Y : Type 0} (h : Holder K) (change : Change) (i : Image) (old new 
     none = λ e. absurd (cc e);
     either = λ e. absurd (cc e);
     cause = λ e. absurd (cc e);
+    counts = keeps.counts;
     loaded = keeps.loaded;
     reached = λ other. keeps.reached (λ e. absurd (cc e));
   }
@@ -80,6 +82,7 @@ module _ {K X Y : Type 0} (h : Holder K) (change : Change) (i : Image) (old new 
     none = λ e. keeps.memory (ap Err (cc e));
     either = λ e c found. old_or_next (h.may_hold old) i only change c (keeps.store (ap Err (cc e)) c found);
     cause = λ e. cause (cc e);
+    counts = keeps.counts;
     loaded = keeps.loaded;
     reached = λ other. keeps.reached (λ e. other (ap Err (cc e)));
   }
@@ -92,6 +95,7 @@ module _ {K X Y F G : Type 0} (h : Holder K) (memory store : F) (named_memory na
     none = λ e. absurd (cc e);
     either = λ e. absurd (cc e);
     cause = λ e. absurd (cc e);
+    counts = keeps.counts;
     loaded = keeps.loaded;
     reached = λ other. keeps.reached (λ e. absurd (cc e));
   }
@@ -103,6 +107,7 @@ module _ {K X Y F G : Type 0} (h : Holder K) (memory store : F) (named_memory na
     none = λ e. keeps.none (ap Err (is_memory (cc e)));
     either = λ e. keeps.either (ap Err (is_store (cc e)));
     cause = λ e. keeps.cause (ap Err (is_store (cc e)));
+    counts = keeps.counts;
     loaded = keeps.loaded;
     reached = λ other. keeps.reached (λ e. other (ap Err (was_store (cc e))));
   }

@@ -4,8 +4,8 @@ use Rattle.std.proofs.lemmas.List.{take_more, take-append-drop, length_push}
 use Rattle.lrs_machine.specs.declared.image.Image.{Image}
 use Rattle.lrs_machine.specs.Sound.{IsSound}
 use Rattle.lrs_image.specs.declared.change.Change.{Change}
-use Rattle.lrs_image.specs.Change.{apply, CanMake}
-use Rattle.lrs_image.specs.ChangeLists.{apply_all, CanMakeAll}
+use Rattle.lrs_image.specs.Change.{apply, CanMake, rows_of}
+use Rattle.lrs_image.specs.ChangeLists.{apply_all, CanMakeAll, rows_in}
 
 -- the image after more changes
 pub apply_append : (xs ys : List Change) (i : Image) → apply_all (xs ++ ys) i ≡ apply_all ys (apply_all xs i)
@@ -63,3 +63,8 @@ edits_after (x ∷ xs) i = edits_after xs (apply x i) ∙ one_more x xs i
   where
     one_more : (y : Change) (ys : List Change) (j : Image) → length (apply y j).edits + length ys ≡ length j.edits + length (y ∷ ys)
     one_more y ys j = omega (arith, length_push j.edits y.edit)
+
+-- One more change lists its rows more.
+pub rows_more : (xs : List Change) (c : Change) → rows_in (xs ++ c ∷ []) ≡ rows_in xs + rows_of c.difference
+rows_more [] c = omega arith
+rows_more (x ∷ xs) c = let rest = rows_more xs c in omega (arith, rest)

@@ -1,10 +1,11 @@
 -- What a change makes of an image: removed rows and inserted rows, table by table.
-use Rattle.std.specs.Prelude.{◌≡◌, Bool, true, false, not, List, [], ◌∷◌, ◌++◌, map, filter, Option, Some, None, unwrap_or, ⊤}
+use Rattle.std.specs.Prelude.{◌≡◌, ℕ, ◌+◌, Bool, true, false, not, List, [], ◌∷◌, ◌++◌, length, map, filter, Option, Some, None, unwrap_or, ⊤}
 use Rattle.std.specs.List.{list_any, list_all, find}
 use Rattle.std.specs.Option.{option_map}
 use Rattle.lrs_measure.specs.Lists.{each_two}
 use Rattle.lrs_measure.specs.OrderedLists.{insert_some, insert_all}
 use Rattle.lrs_measure.specs.Texts.{Name, same_name}
+use Rattle.lrs_element.specs.Course.{piece_count}
 use Rattle.lrs_element.specs.declared.link.Ground.{Ground}
 use Rattle.lrs_element.specs.declared.marks.Mark.{Mark}
 use Rattle.lrs_position.specs.declared.route.Referent.{Referent}
@@ -169,3 +170,28 @@ pub record CanDiffer (d : Difference) (i : Image) : Type 0 where
 pub record CanMake (c : Change) (i : Image) : Type 0 where
   pub differ : CanDiffer c.difference i
   pub sound : IsSound (apply c i)
+
+-- how many rows a difference lists
+
+abbrev pub piece_rows : Option (List Ground) → ℕ
+piece_rows None = 0
+piece_rows (Some course) = piece_count course
+
+abbrev pub mark_rows : Option (List Mark) → ℕ
+mark_rows None = 0
+mark_rows (Some marks) = length marks
+
+abbrev pub key_rows : RouteKeys → ℕ
+key_rows k = length k.refs + length k.spans
+
+abbrev pub changed_rows : Option RouteChange → ℕ
+changed_rows None = 0
+changed_rows (Some c) = piece_rows c.course + mark_rows c.marks + key_rows c.keys + length c.refs.gone + length c.refs.come + length c.spans_gone + length c.spans_come
+
+abbrev pub made_rows : Option RouteRow → ℕ
+made_rows None = 0
+made_rows (Some e) = piece_count e.route.course + length e.route.marks + length e.route.refs + length e.spans
+
+-- The pieces, marks, referents and spans of routes, and the parts of both ledgers, that a difference lists: what comes, and what goes by its key.
+abbrev pub rows_of : Difference → ℕ
+rows_of d = changed_rows d.changed + key_rows d.keys + made_rows d.made + length d.entered + length d.gone

@@ -1,12 +1,12 @@
 -- Several changes, one after the other, that are kept together.
-use Rattle.std.specs.Prelude.{◌≡◌, ◌⊎◌, ◌≤◌, List, [], ◌∷◌, Result, Ok, Err, IfOk, OnOk, ⊤, true}
+use Rattle.std.specs.Prelude.{◌≡◌, ◌⊎◌, ℕ, ◌+◌, ◌≤◌, List, [], ◌∷◌, Result, Ok, Err, IfOk, OnOk, ⊤, true}
 use Rattle.lrs_machine.specs.declared.image.Image.{Image}
 use Rattle.lrs_machine.specs.declared.table.Table.{Table}
 use Rattle.lrs_image.specs.declared.change.Change.{Change}
 use Rattle.lrs_image.specs.declared.holder.Holder.{Ghosts as Holder}
 use Rattle.lrs_image.specs.declared.keeper.CommitFault.{CommitFault}
 use Rattle.lrs_image.specs.declared.keeper.CommitFault.TheVariants as commit
-use Rattle.lrs_image.specs.Change.{apply, CanMake}
+use Rattle.lrs_image.specs.Change.{apply, CanMake, rows_of}
 use Rattle.lrs_image.specs.KeeperCalls.{HasRisen, HoldsOnly, HoldsSound, HoldsOldOrNew}
 
 -- the image after all of them
@@ -18,6 +18,11 @@ apply_all (c ∷ cs) i = apply_all cs (apply c i)
 abbrev pub CanMakeAll : List Change → Image → Type 0
 CanMakeAll [] i = ⊤
 CanMakeAll (c ∷ cs) i = CanMake c i × CanMakeAll cs (apply c i)
+
+-- how many rows they list
+abbrev pub rows_in : List Change → ℕ
+rows_in [] = 0
+rows_in (c ∷ cs) = rows_of c.difference + rows_in cs
 
 -- what the changes make of an image that could be found before them
 abbrev pub IsChangedBy : (Result Image Table → Type 0) → List Change → Result Image Table → Type 0
@@ -43,5 +48,6 @@ pub record KeepsOne {K X F : Type 0} (h : Holder K) (memory store : F) (change :
   pub none : result ≡ Err memory → (c : Result Image Table) → h.may_hold new c → h.may_hold old c
   pub either : result ≡ Err store → HoldsOldOrNew change (h.may_hold new) image
   pub cause : result ≡ Err store → HasRisen (h.failures old) (h.failures new)
+  pub counts : h.failures old ≤ h.failures new
   pub loaded : h.is_loaded new ≡ true
   pub reached : (result ≡ Err store → ⊥) → h.is_clean new → h.is_open new

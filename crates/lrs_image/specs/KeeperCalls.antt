@@ -42,12 +42,13 @@ HoldsSame old new = (c : Result Image Table) → new c ↔ old c
 abbrev pub HoldsOldOrNew : Change → (Result Image Table → Type 0) → Image → Type 0
 HoldsOldOrNew change may image = (c : Result Image Table) → may c → (c ≡ Ok image) ⊎ (c ≡ Ok (apply change image))
 
--- Loading answers the image that alone may be found, and it is sound; or the first unsound table of all that may be found; or the device has failed. What may be found stays in any case.
+-- Loading answers the image that alone may be found, and it is sound; or the first unsound table of all that may be found, and that is found where the device is clean; or the device has failed. What may be found stays in any case.
 pub record Loads {K : Type 0} (h : Holder K) (old new : K) (result : Result Image LoadFault) : Type 0 where
   pub image : IfOk result (λ image. HoldsOnly (h.may_hold new) image)
   pub sound : IfOk result (λ image. IsSound image)
   pub loaded : OnOk result (h.is_loaded new ≡ true)
   pub unsound : (t : Table) → result ≡ Err (load.Unsound t) → (c : Result Image Table) → h.may_hold new c → c ≡ Err t
+  pub named : (t : Table) → result ≡ Err (load.Unsound t) → h.is_clean new → h.may_hold new (Err t)
   pub store : result ≡ Err load.Store → HasRisen (h.failures old) (h.failures new)
   pub quiet : (result ≡ Err load.Store → ⊥) → h.failures new ≡ h.failures old
   pub counts : h.failures old ≤ h.failures new

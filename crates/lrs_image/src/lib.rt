@@ -10,6 +10,7 @@ mod keeper;
 mod lists;
 mod open_route;
 mod routes;
+mod row_counts;
 mod staged;
 
 pub use batches::Batches;

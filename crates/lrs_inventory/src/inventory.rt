@@ -97,13 +97,6 @@ impl Inventory {
         self.kept.links.len() as u64
     }
 
-    /// How many classes there are.
-    pub fn classes(&self) -> u64
-        ensures { result ≡ length self.now.classes }
-    {
-        self.kept.classes.len() as u64
-    }
-
     /// How many assets there are.
     pub fn assets(&self) -> u64
         ensures { result ≡ length self.now.assets }

@@ -1,15 +1,16 @@
 -- What is left of a keeper, whatever ends a sheet or a request.
 use Rattle.std.specs.Prelude.{MatchOption}
-use Rattle.std.proofs.Common.{◌≡◌, ◌⊎◌, inl, inr, ℕ, Bool, true, false, [], Option, Some, None, Result, Ok, Err, IfOk, IfSome, refl, sym, subst}
+use Rattle.std.proofs.Common.{◌≡◌, ◌⊎◌, inl, inr, ℕ, Bool, true, false, [], Option, Some, None, Result, Ok, Err, IfOk, IfSome, refl, sym, subst, arith}
 use Rattle.lrs_machine.specs.Image.{state_of}
 use Rattle.lrs_machine.specs.Lines.{Text}
 use Rattle.lrs_machine.specs.declared.image.Image.{Image}
 use Rattle.lrs_machine.specs.declared.table.Table.{Table}
+use Rattle.lrs_image.specs.KeeperCalls.{HasRisen}
 use Rattle.lrs_desk.specs.DeskView.{DeskView}
 use Rattle.lrs_machine.specs.declared.stops.fault.Fault.TheVariants as stop
 use Rattle.lrs_sheet_records.specs.declared.sheet.Sheet.{Sheet}
 use Rattle.lrs_sheet.specs.Runs.{IsWholeRun}
-use Rattle.lrs_sheet.specs.Sheets.{GoesAlong, LeavesDesk, StandsAmid}
+use Rattle.lrs_sheet.specs.Sheets.{CountsFailures, GoesAlong, LeavesDesk, StandsAmid}
 use Rattle.lrs_sheet_records.specs.declared.fault.SheetFault.{SheetFault}
 use Rattle.lrs_sheet_records.specs.declared.fault.SheetFault.TheVariants as fault
 use Rattle.lrs_sheet.specs.declared.reply.Tally.{Tally}
@@ -45,6 +46,26 @@ module _ {K : Type 0} (holds : K → Result Image Table → Type 0) (old new : D
   sheet_keeps (Err (fault.Desk stop.Memory)) desk found = inl desk
   sheet_keeps (Err (fault.Desk stop.MustReopen)) desk found = inl desk.0
   sheet_keeps (Err (fault.Desk stop.Keep)) desk found = inr (record { desk = desk; found = found refl })
+
+  counted_along : (failures : K → ℕ) (ended : Result Tally SheetFault) → old.failures ≡ failures old.keeper → new.failures ≡ failures new.keeper → (ended ≡ Err (fault.Desk stop.Keep) → ⊥) → GoesAlong holds old new
+      → CountsFailures failures old new ended
+  counted_along failures ended was is other along = record { counts = omega (arith, was, is, along.counts); cause = λ e. absurd (other e) }
+
+  -- what is counted of a run, by a desk that tells its keeper's count
+  pub counts_failures : (failures : K → ℕ) (ended : Result Tally SheetFault) → old.failures ≡ failures old.keeper → new.failures ≡ failures new.keeper → LeavesDesk holds old new ended
+      → CountsFailures failures old new ended
+  counts_failures failures (Ok tally) was is desk = counted_along failures (Ok tally) was is (λ e. absurd (cc e)) desk
+  counts_failures failures (Err fault.BadHeader) was is desk = counted_along failures (Err fault.BadHeader) was is (λ e. absurd (cc e)) desk.0
+  counts_failures failures (Err fault.BadCsv) was is desk = counted_along failures (Err fault.BadCsv) was is (λ e. absurd (cc e)) desk
+  counts_failures failures (Err fault.Read) was is desk = counted_along failures (Err fault.Read) was is (λ e. absurd (cc e)) desk
+  counts_failures failures (Err fault.Write) was is desk = counted_along failures (Err fault.Write) was is (λ e. absurd (cc e)) desk
+  counts_failures failures (Err fault.Memory) was is desk = counted_along failures (Err fault.Memory) was is (λ e. absurd (cc e)) desk
+  counts_failures failures (Err (fault.Desk stop.Memory)) was is desk = counted_along failures (Err (fault.Desk stop.Memory)) was is (λ e. absurd (cc e)) desk
+  counts_failures failures (Err (fault.Desk stop.MustReopen)) was is desk = counted_along failures (Err (fault.Desk stop.MustReopen)) was is (λ e. absurd (cc e)) desk.0
+  counts_failures failures (Err (fault.Desk stop.Keep)) was is desk = record {
+    counts = omega (arith, was, is, desk.counts);
+    cause = λ e. subst (HasRisen (failures old.keeper)) is (subst (λ (n : ℕ). HasRisen n new.failures) was desk.cause);
+  }
 
   posted_keeps : (kind : Option Sheet) (resumes : Bool) (body : Text) (answer : Answer) → MatchOption kind (AnswersQuestions body old answer new) (λ k. DoesSheet holds k resumes body old answer new) → Kept
   posted_keeps None resumes body answer (same, told, ahead) = same_keeps same

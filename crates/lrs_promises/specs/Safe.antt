@@ -1,5 +1,5 @@
 -- Safe and total: what each call leaves, by what it answers.
-use Rattle.std.specs.Prelude.{◌≡◌, ◌⊎◌, ◌↔◌, ℕ, true, false, Option, Result, Ok, Err, IfOk, IfSome}
+use Rattle.std.specs.Prelude.{◌≡◌, ◌≤◌, ◌⊎◌, ◌↔◌, ℕ, true, false, Option, Result, Ok, Err, IfOk, IfSome}
 use Rattle.lrs_machine.specs.Image.{state_of}
 use Rattle.lrs_machine.specs.Lines.{Text}
 use Rattle.lrs_machine.specs.Machine.{Record, step_record}
@@ -40,18 +40,20 @@ pub record IsAnswered {K : Type 0} (holds : K → Result Image Table → Type 0)
   pub ahead : new.is_ahead ≡ old.is_ahead
 
 -- What a command leaves of a desk, by its answer.
-pub record ActLeaves {K : Type 0} (holds : K → Result Image Table → Type 0) (clean : K → Type 0) (failures : K → ℕ) (r : Record) (old new : DeskView K) (result : Result Answer Fault) : Type 0 where
+pub record ActLeaves {K : Type 0} (holds : K → Result Image Table → Type 0) (clean : K → Type 0) (r : Record) (old new : DeskView K) (result : Result Answer Fault) : Type 0 where
   pub answered : IfOk result (IsAnswered holds clean r old new)
   -- too little memory: nothing has changed, and the desk goes on
   pub memory : result ≡ Err stop.Memory → IsUnchanged holds old new
   -- the device failed: the image is as it was, an opening finds this or the command done, and from then on the desk asks to be opened again
-  pub broken : result ≡ Err stop.Keep → HasBroken holds failures r.key r.command old new
+  pub broken : result ≡ Err stop.Keep → HasBroken holds r.key r.command old new
   -- it asks so exactly where a commit failed before, and nothing has changed
   pub reopen : (result ≡ Err stop.MustReopen) ↔ (old.must_reopen ≡ true)
   pub stays : result ≡ Err stop.MustReopen → IsUnchanged holds old new
   pub same : result ≡ Err stop.MustReopen → new ≡ old
   -- whatever is answered, while it need not be opened again a clean device gives this image
   pub found : FindsImage holds clean new
+  -- the keeper's count of failures is never lowered
+  pub counts : old.failures ≤ new.failures
   pub limits : new.limits ≡ old.limits
 
 -- ---- requests

@@ -3,6 +3,7 @@
 ghost use Rattle.std.specs.Prelude.{◌≤◌};
 ghost use Rattle.lrs_desk.specs.Desk.{FindsImage, KeepsImage};
 ghost use Rattle.lrs_sheet.specs.Runs.{IsWholeRun};
+ghost use Rattle.lrs_sheet.specs.Sheets.{CountsFailures};
 ghost use Rattle.lrs_promises.specs.Safe.{ActLeaves, RequestLeaves};
 
 use lrs_desk::{Answer, Command, Desk, Fault, Keeper, Key};
@@ -17,8 +18,8 @@ use std::io::{Read, Write};
 /// # Errors
 /// Those of `Desk::act`.
 pub fn act<K: Keeper>(desk: &mut Desk<K>, key: Key, command: &Command) -> Result<Answer, Fault>
-    ensures { ActLeaves K.may_hold K.is_clean K.failures
-        (record { key = key; command = command.now }) desk.old desk.new result }
+    ensures { ActLeaves K.may_hold K.is_clean (record { key = key; command = command.now })
+        desk.old desk.new result }
 {
     desk.act(key, command)
 }
@@ -41,7 +42,10 @@ pub fn sheet<R: Read + Drop, W: Write, K: Keeper>(
         (W.contents writer.old) (W.contents writer.new) result }
     // While no commit has failed, an opening finds the image where the device is clean.
     ensures found { FindsImage K.may_hold K.is_clean desk.new }
+    // The keeper counts a commit that fails, and forgets no failure.
+    ensures counts { CountsFailures K.failures desk.old desk.new result }
 {
+    desk.prove_kept();
     let ended = run_sheet(alloc, sheet, together, reader, writer, desk);
     desk.prove_kept();
     ended

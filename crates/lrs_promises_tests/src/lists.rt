@@ -1,12 +1,15 @@
-//! What a desk makes one by one, made in a list: the segments of a route, and the strip of them. And a desk's calls for one
-//! kind of question each.
+//! What a desk makes one by one, made in a list: the segments of a route, and the strip of them; and totals. And a desk's
+//! calls for one kind of question each.
+
+ghost use Rattle.lrs_machine.specs.Sound.{IsSound};
 
 use crate::words::print;
-use lrs_desk::{Desk, Inventory, Keeper};
+use lrs_desk::{Desk, Image, Inventory, Keeper, Plain};
 use lrs_events::{ClassName, Side, read_side};
-use lrs_machine::Segment;
+use lrs_machine::{Segment, Total};
 use lrs_position::{Route, RouteName, read_expr, read_method};
 use lrs_report::{segments, strip};
+use lrs_report_answers::totals_of_image;
 
 /// Prints the strip of these segments of a route.
 fn print_strip(
@@ -105,4 +108,34 @@ pub fn show_asked<K: Keeper>(rt: &HostRuntime, desk: &Desk<K>, words: &str) -> O
     let totals = totalled(desk)?;
     let is_segmented = is_segmented(desk, &name, &wanted);
     println!(rt; "{holders} {stretches} {totals} {is_segmented}").ok()
+}
+
+/// Whether the totals of an image, counted over its lists, are these.
+fn are_counted(rt: &HostRuntime, image: &Image, totals: &[Total]) -> bool
+    requires { IsSound image.now }
+{
+    match totals_of_image(rt.alloc(), image) {
+        Ok(counted) => counted.as_slice() == totals,
+        Err(_) => false,
+    }
+}
+
+/// Prints whether the totals of a desk, which it counts edit by edit, are those that are counted over the lists of its image.
+fn show_counted<K: Keeper>(rt: &HostRuntime, desk: &Desk<K>, image: &Image)
+    requires { IsSound image.now }
+{
+    if let Ok(totals) = desk.totals() {
+        let agree = are_counted(rt, image, totals.as_slice());
+        let _ = println!(rt; "{agree}");
+    }
+}
+
+/// A keeper of a copy of what a desk knows; whether its totals agree is printed.
+pub fn copy_of<K: Keeper>(rt: &HostRuntime, desk: &Desk<K>) -> Option<Plain> {
+    let Ok(image) = desk.inventory().image(rt.alloc()) else {
+        return None;
+    };
+    show_counted(rt, desk, &image);
+    let copy = image.copy(rt.alloc()).ok()?;
+    Plain::new(copy, rt.alloc()).ok()
 }

@@ -2,8 +2,9 @@
 //! disks in memory, which are closed then; and over these files again. Each word names a call and the file that it
 //! reads, as `edits:first.csv`, or a position to translate and back, as `trip:int:1/3:abs` on route A1. What each writes
 //! is printed, and then how many edits there are. `strip:A1:L:SPEED` prints a strip, and `asks:A1:SPEED:10` what the single
-//! questions of a desk find; `meets:`, `covers:`, `link:` and `measure:` ask routes. What was made in memory is copied, and
-//! all is done over the copy too; then `lost:` calls, over a keeper of it whose first commit fails.
+//! questions of a desk find; `meets:`, `covers:`, `link:` and `measure:` ask routes. What was made in memory is copied, its
+//! totals are counted over its lists, and all is done over the copy too; then `lost:` calls, over a keeper of it whose first
+//! commit fails.
 //!
 //! Behind it connections of a door in memory are served at a desk of its own. A word lets one more connection wait, with
 //! the request of a file, as `waits:totals.http`, or with a first read that fails, as `fails:totals.http`; or so many are
@@ -29,8 +30,8 @@ use ends::run_ends;
 use failure::{run_failing, run_lost};
 use ground::{show_covers, show_link, show_located, show_meets};
 use limits::run_limited;
-use lists::{show_asked, show_strip};
-use lrs_desk::{Desk, Inventory, Keeper, Plain, Staged};
+use lists::{copy_of, show_asked, show_strip};
+use lrs_desk::{Desk, Keeper, Plain, Staged};
 use lrs_machine::Limits;
 use lrs_position::{EnteredPosition, RouteName, read_expr, read_method, read_target};
 use lrs_promises::{round_trip, rows};
@@ -162,18 +163,11 @@ fn run_files<D: Disk + Drop>(rt: &HostRuntime, words: &[String], files: Files<D>
 fn copied(rt: &HostRuntime, plain: Plain) -> (Plain, Option<Plain>) {
     match open(rt, Limits::full(), plain) {
         Ok(desk) => {
-            let copy = copy_of(rt, desk.inventory());
+            let copy = copy_of(rt, &desk);
             (desk.into_keeper(), copy)
         }
         Err(plain) => (plain, None),
     }
-}
-
-/// A keeper of a copy of this image.
-fn copy_of(rt: &HostRuntime, inventory: &Inventory) -> Option<Plain> {
-    let image = inventory.image(rt.alloc()).ok()?;
-    let copy = image.copy(rt.alloc()).ok()?;
-    Plain::new(copy, rt.alloc()).ok()
 }
 
 /// Over a copy of what was made in memory; and then over a keeper of it that fails.

@@ -115,8 +115,8 @@ ahead_by limits n commands before after some few state = (
   state ∙ ap (λ (rs : List Record). state_after limits rs before) (front_of n commands),
 )
 
-module _ {K : Type 0} (holds : K → Result Image Table → Type 0) (failures : K → ℕ) (before after : DeskView K) where
-  flies_alone : (c : Text × Command) → HasBroken holds failures c.0 c.1 before after → CommandsInFlight holds before.limits (c ∷ []) (state_of before.image) after
+module _ {K : Type 0} (holds : K → Result Image Table → Type 0) (before after : DeskView K) where
+  flies_alone : (c : Text × Command) → HasBroken holds c.0 c.1 before after → CommandsInFlight holds before.limits (c ∷ []) (state_of before.image) after
   flies_alone c broken = record {
     flying = 1;
     some = omega arith;
@@ -126,7 +126,7 @@ module _ {K : Type 0} (holds : K → Result Image Table → Type 0) (failures : 
     content = λ x h. found_either before.limits 1 (c ∷ []) before.image x (broken.content x h);
   }
 
-  flies_together : (commands : List (Text × Command)) → 2 ≤ length commands → BreaksAmid holds failures (records_of commands) before after → CommandsInFlight holds before.limits commands (state_of before.image) after
+  flies_together : (commands : List (Text × Command)) → 2 ≤ length commands → BreaksAmid holds (records_of commands) before after → CommandsInFlight holds before.limits commands (state_of before.image) after
   flies_together commands several broken = record {
     flying = broken.accepted + 1;
     some = omega arith;
@@ -146,11 +146,11 @@ module _ {K : Type 0} (holds : K → Result Image Table → Type 0) (failures : 
   did_not commands text stop.Keep memory keep stays = (refl, keep refl)
   did_not commands text stop.MustReopen memory keep stays = ((stays refl).image, refl)
 
-  pub stops_alone : (c : Text × Command) (text : Option Text) (e : Fault) → (e ≡ stop.Memory → IsUnchanged holds before after) → (e ≡ stop.Keep → HasBroken holds failures c.0 c.1 before after)
+  pub stops_alone : (c : Text × Command) (text : Option Text) (e : Fault) → (e ≡ stop.Memory → IsUnchanged holds before after) → (e ≡ stop.Keep → HasBroken holds c.0 c.1 before after)
       → (e ≡ stop.MustReopen → IsUnchanged holds before after) → StopsAtFirst holds (c ∷ []) before after text text (fault.Desk e)
   stops_alone c text e memory keep stays = did_not (c ∷ []) text e memory (λ is. flies_alone c (keep is)) stays
 
-  pub stops_together : (commands : List (Text × Command)) (text : Option Text) (e : Fault) → 2 ≤ length commands → (e ≡ stop.Memory → IsUnchanged holds before after) → (e ≡ stop.Keep → BreaksAmid holds failures (records_of commands) before after)
+  pub stops_together : (commands : List (Text × Command)) (text : Option Text) (e : Fault) → 2 ≤ length commands → (e ≡ stop.Memory → IsUnchanged holds before after) → (e ≡ stop.Keep → BreaksAmid holds (records_of commands) before after)
       → (e ≡ stop.MustReopen → IsUnchanged holds before after) → StopsAtFirst holds commands before after text text (fault.Desk e)
   stops_together commands text e several memory keep stays = did_not commands text e memory (λ is. flies_together commands several (keep is)) stays
 

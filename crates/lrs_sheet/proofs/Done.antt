@@ -1,5 +1,5 @@
 -- Records done one after the other.
-use Rattle.std.proofs.Common.{◌≡◌, ℕ, Ok, Err, List, [], ◌∷◌, ◌++◌, ◌+◌, ◌≤◌, Option, Some, Bool, length, refl, sym, ap, subst, ◌∙◌, length-append, arith}
+use Rattle.std.proofs.Common.{◌≡◌, inl, inr, ℕ, Ok, Err, List, [], ◌∷◌, ◌++◌, ◌+◌, ◌≤◌, Option, Some, Bool, length, refl, sym, ap, subst, ◌∙◌, length-append, arith}
 use Rattle.std.specs.Prelude.{count_by}
 use Rattle.std.proofs.Common.{cond}
 use Rattle.std.proofs.lemmas.List.Sums.{sum_by-append}
@@ -15,6 +15,7 @@ use Rattle.lrs_machine.specs.State.{State}
 use Rattle.lrs_machine.specs.declared.answer.Limits.{Limits}
 use Rattle.lrs_machine.specs.declared.answer.Answer.{Answer}
 use Rattle.lrs_machine.specs.declared.answer.Answer.TheVariants.{Done, Again, Refused}
+use Rattle.lrs_image.specs.KeeperCalls.{HasRisen}
 use Rattle.lrs_desk.specs.DeskView.{DeskView}
 use Rattle.lrs_machine.specs.declared.stops.fault.Fault.TheVariants as stop
 use Rattle.lrs_sheet.specs.declared.reply.Reply.{Reply}
@@ -83,11 +84,16 @@ count-more-answer tally (Refused cause) = omega arith
 
 -- a desk that stays goes along
 pub stays : {K : Type 0} {holds : K → Result Image Table → Type 0} (desk : DeskView K) → GoesAlong holds desk desk
-stays desk = record { limits = refl; kept = λ kept. kept; reopen = refl; ahead = refl }
+stays desk = record { limits = refl; kept = λ kept. kept; reopen = refl; ahead = refl; counts = omega arith }
 
 -- one that goes along, and goes along
 pub along : {K : Type 0} {holds : K → Result Image Table → Type 0} (a b c : DeskView K) → GoesAlong holds a b → GoesAlong holds b c → GoesAlong holds a c
-along a b c first next = record { limits = next.limits ∙ first.limits; kept = λ kept. next.kept (first.kept kept); reopen = next.reopen ∙ first.reopen; ahead = next.ahead ∙ first.ahead }
+along a b c first next = record { limits = next.limits ∙ first.limits; kept = λ kept. next.kept (first.kept kept); reopen = next.reopen ∙ first.reopen; ahead = next.ahead ∙ first.ahead; counts = omega (arith, first.counts, next.counts) }
+
+-- a count that has risen since, has risen
+risen_since : (a b c : ℕ) → a ≤ b → HasRisen b c → HasRisen a c
+risen_since a b c least (inl more) = inl (omega (arith, least, more))
+risen_since a b c least (inr most) = inr most
 
 -- before the first turn
 pub start-done : {K : Type 0} {holds : K → Result Image Table → Type 0} {R : Type 0} (sheet : Sheet) (rem : R → Option (List ℕ)) (rows : Reader R) (desk : DeskView K) (contents : Option (List ℕ)) (tally : Tally)
@@ -180,7 +186,12 @@ read_leaves rem now before after (fault.Desk m) why goes = absurd why
 -- a record left the desk after others
 module _ {K : Type 0} {holds : K → Result Image Table → Type 0} (X Y : Type 0) (a b c : DeskView K) where
   by-fault : (e : SheetFault) → (e ≡ fault.BadHeader → ⊥) → GoesAlong holds a b → LeavesDesk {X = Y} holds b c (Err e) → LeavesDesk {X = X} holds a c (Err e)
-  by-fault (fault.Desk stop.Keep) read first next = record { limits = next.limits ∙ first.limits; reopen = next.reopen }
+  by-fault (fault.Desk stop.Keep) read first next = record {
+    limits = next.limits ∙ first.limits;
+    reopen = next.reopen;
+    counts = omega (arith, first.counts, next.counts);
+    cause = risen_since a.failures b.failures c.failures first.counts next.cause;
+  }
   by-fault (fault.Desk stop.Memory) read first next = along a b c first next
   by-fault (fault.Desk stop.MustReopen) read first next = (along a b c first next.0, sym first.reopen ∙ next.1)
   by-fault fault.BadHeader read first next = absurd (read refl)

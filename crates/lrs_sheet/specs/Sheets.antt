@@ -13,7 +13,7 @@ use Rattle.lrs_machine.specs.declared.answer.Limits.{Limits}
 use Rattle.lrs_machine.specs.declared.image.Image.{Image}
 use Rattle.lrs_machine.specs.declared.table.Table.{Table}
 use Rattle.lrs_desk.specs.DeskView.{DeskView}
-use Rattle.lrs_image.specs.KeeperCalls.{HoldsOnly}
+use Rattle.lrs_image.specs.KeeperCalls.{HasRisen, HoldsOnly}
 use Rattle.lrs_machine.specs.declared.stops.fault.Fault.TheVariants as stop
 use Rattle.lrs_sheet.specs.declared.reply.Reply.{Reply}
 use Rattle.lrs_sheet.specs.declared.reply.Tally.{Tally}
@@ -136,11 +136,14 @@ pub record GoesAlong {K : Type 0} (holds : K → Result Image Table → Type 0) 
   pub kept : HoldsOnly (holds old.keeper) old.image → HoldsOnly (holds new.keeper) new.image
   pub reopen : new.must_reopen ≡ old.must_reopen
   pub ahead : new.is_ahead ≡ old.is_ahead
+  pub counts : old.failures ≤ new.failures
 
--- a commit of the desk has failed
+-- a commit of the desk has failed, which its keeper has counted
 pub record MustReopen {K : Type 0} (old new : DeskView K) : Type 0 where
   pub limits : new.limits ≡ old.limits
   pub reopen : new.must_reopen ≡ true
+  pub counts : old.failures ≤ new.failures
+  pub cause : HasRisen old.failures new.failures
 
 -- What a run leaves of a desk.
 abbrev pub LeavesDesk : {X K : Type 0} → (K → Result Image Table → Type 0) → DeskView K → DeskView K → Result X SheetFault → Type 0
@@ -153,6 +156,11 @@ LeavesDesk holds old new (Err fault.BadCsv) = GoesAlong holds old new
 LeavesDesk holds old new (Err fault.Read) = GoesAlong holds old new
 LeavesDesk holds old new (Err fault.Write) = GoesAlong holds old new
 LeavesDesk holds old new (Err fault.Memory) = GoesAlong holds old new
+
+-- Whatever ends a run, the keeper's count of failures is never lowered; where a commit failed it has risen.
+pub record CountsFailures {X K : Type 0} (failures : K → ℕ) (old new : DeskView K) (result : Result X SheetFault) : Type 0 where
+  pub counts : failures old.keeper ≤ failures new.keeper
+  pub cause : result ≡ Err (fault.Desk stop.Keep) → HasRisen (failures old.keeper) (failures new.keeper)
 
 -- what a keeper has stands for the state
 abbrev pub StandsFor : Result Image Table → State → Type 0

@@ -130,6 +130,13 @@ impl<S: Alter, R: ReadImage + Drop> Tables<S, R> {
         let _live = self.conn.schema();
     }
 
+    /// Whether a write has failed, or the store was given up.
+    pub fn has_failed(&self) -> bool
+        ensures { result ≡ self.now.is_broken }
+    {
+        self.is_broken
+    }
+
     /// Gives the store up, as where its files are no longer at their path. What an opening may find stays as it is; the
     /// count of failures rises, and each load and each write fails from now on.
     pub fn give_up(&mut self)
@@ -195,8 +202,8 @@ impl<S: Alter, R: ReadImage> Holder for Tables<S, R> {
 impl<S: Alter, R: ReadImage> Batches for Tables<S, R> {
     ghost use Rattle.lrs_store.specs.TableKeeper.HeldImages.{finds_left};
 
-    // The last four clauses are not of `Batches`: why the store fails, that all rows stay, whatever it answers, that an
-    // unsound table is found, and that no load gives the connection up.
+    // The last three clauses are not of `Batches`: why the store fails, that all rows stay, whatever it answers, and that
+    // no load gives the connection up.
     fn load(&mut self, alloc: Global) -> Result<Image, LoadFault>
         ensures image { IfOk result (λ image. (c : Result ImageRows DeclaredTable)
             → MayHold (state S.Store self.new.conn) c → c ≡ Ok image) }
@@ -205,6 +212,9 @@ impl<S: Alter, R: ReadImage> Batches for Tables<S, R> {
         ensures unsound { (t : DeclaredTable) → result ≡ Err (LoadFault.Unsound t)
             → (c : Result ImageRows DeclaredTable) → MayHold (state S.Store self.new.conn) c
             → c ≡ Err t }
+        ensures named { (t : DeclaredTable) → result ≡ Err (LoadFault.Unsound t)
+            → HasCleanDisk (state S.Store self.new.conn)
+            → MayHold (state S.Store self.new.conn) (Err t) }
         ensures store { result ≡ Err LoadFault.Store
             → HasRisen self.old.failures self.new.failures }
         ensures quiet { (result ≡ Err LoadFault.Store → ⊥)
@@ -218,9 +228,6 @@ impl<S: Alter, R: ReadImage> Batches for Tables<S, R> {
             → HasCleanDisk (state S.Store self.new.conn)
             → HasFailed (state S.Store self.old.conn) (state S.Store self.new.conn) }
         ensures rows { LeavesStore (state S.Store self.old.conn) (state S.Store self.new.conn) }
-        ensures named { (t : DeclaredTable) → result ≡ Err (LoadFault.Unsound t)
-            → HasCleanDisk (state S.Store self.new.conn)
-            → MayHold (state S.Store self.new.conn) (Err t) }
         ensures goes_on { self.new.is_broken ≡ self.old.is_broken }
     {
         if self.is_broken {

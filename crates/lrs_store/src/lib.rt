@@ -4,6 +4,7 @@
 //! that are given, `close_files` gives the files back, `discard_files` drops them, and `Tables::in_memory` is a new one in memory.
 #![tactic(auto)]
 
+mod close;
 mod commit;
 mod files;
 mod image;
@@ -14,6 +15,7 @@ mod restart;
 mod rows;
 mod verdict;
 
+pub use close::{closed_files, let_files_go};
 pub use files::{Left, NotOpened, close_files, discard_files, open_file, open_files};
 pub use keeper::Tables;
 pub use lrs_store_files::{CloseFault, Untaken};

@@ -135,6 +135,13 @@ module _ {S : Type 0} {view : S → View} {recovers : S → Trees → Type 0} wh
         let is : db ≡ (view mid).trees = settled db (still_open clean) may ∙ committed clean in
         subst (HasContent c) (sym is) (seen.seen clean)
 
+    -- ... and it does find that
+    pub may_tell : ((db : Trees) → IsTrue (view new).is_open → recovers new db → db ≡ (view new).committed) → (IsTrue (view new).is_open → recovers new (view new).committed) → IsClean (view new)
+        → MayTell view recovers c new
+    may_tell settled left clean =
+        let stays = left (still_open clean) in
+        (clean, ((view new).committed, stays, there settled clean (view new).committed stays))
+
 module _ {S : Type 0} (view : S → View) (recovers : S → Trees → Type 0) where
   -- what may be found is what was said
   pub told_only : (s : S) (c d : Result Image Table) → HoldsThere view recovers d s → MayTell view recovers c s → c ≡ d

@@ -1,3 +1,5 @@
+pub mod Notes
+pub mod StillFiles
 pub mod Looks
 pub mod PlainStores
 pub mod OpenedFiles

@@ -129,9 +129,9 @@ fn unopened<D: Disk>(
 /// database.
 ///
 /// # Errors
-/// When the files hold no database, or one with more than plain tables and indexes; when a page is damaged or a file
-/// fails; when the log of a file that keeps sums has pages; or when memory runs out. What is left of the files holds
-/// what they held.
+/// `Broken` when the log of a file that keeps sums has pages. Another error when the files hold no database, or one with
+/// more than plain tables and indexes; when a page is damaged or a file fails; or when memory runs out. What is left of the
+/// files holds what they held.
 pub(crate) fn open_store<D: Disk>(
     alloc: Global,
     mut files: Files<D>,

@@ -1,12 +1,12 @@
 //! The image of a store, read without a connection.
 
-ghost use Rattle.std.specs.Prelude.{◌≡◌, IfOk, OnOk, Result};
+ghost use Rattle.std.specs.Prelude.{◌≡◌, IfOk, OnOk, Err, Result};
 ghost use Rattle.sqlite_trees.specs.View.{IsClean};
 ghost use Rattle.lrs_machine.specs.declared.image.Image.{Image as ImageRows};
 ghost use Rattle.lrs_machine.specs.declared.table.Table.{Table as DeclaredTable};
 ghost use Rattle.lrs_machine.specs.Sound.{IsSound};
 ghost use Rattle.lrs_store_files.specs.SeenRows.{HasSeen, WasLookedAt};
-ghost use Rattle.lrs_store_questions.specs.Readings.{ListInventory, HasFirst, HasContent, Says, HoldsThere, IsTold};
+ghost use Rattle.lrs_store_questions.specs.Readings.{ListInventory, HasFirst, HasContent, Says, HoldsThere, IsTold, MayTell};
 
 use lrs_image::LoadFault;
 use lrs_machine::Image;
@@ -20,12 +20,12 @@ use sqlite_trees::store::Alter;
 use std::alloc::Global;
 
 /// How many tables an inventory has.
-const TABLES: usize = 12;
+pub(crate) const TABLES: usize = 12;
 
-/// Refuses a store that has not the tables of an inventory, or has others too.
-fn check_tables<S: Alter>(alloc: Global, store: &S) -> Result<(), StoreError>
-    ensures { IsClean (S.Store.view store.now)
-        → OnOk result (ListInventory (S.Store.view store.now).trees) }
+/// Which tables a store has.
+pub(crate) fn tables_in<S: Alter>(alloc: Global, store: &S) -> Result<Known, StoreError>
+    ensures { IsClean (S.Store.view store.now) → IfOk result (λ found. found ≡ Known.First 12
+        → ListInventory (S.Store.view store.now).trees) }
 {
     if store.is_broken() {
         return Err(StoreError::Broken);
@@ -34,7 +34,15 @@ fn check_tables<S: Alter>(alloc: Global, store: &S) -> Result<(), StoreError>
         return Err(StoreError::Corrupt);
     };
     let wanted = wanted(alloc)?;
-    match which(&schema, &wanted) {
+    Ok(which(&schema, &wanted))
+}
+
+/// Refuses a store that has not the tables of an inventory, or has others too.
+fn check_tables<S: Alter>(alloc: Global, store: &S) -> Result<(), StoreError>
+    ensures { IsClean (S.Store.view store.now)
+        → OnOk result (ListInventory (S.Store.view store.now).trees) }
+{
+    match tables_in(alloc, store)? {
         Known::First(count) if count == TABLES => Ok(()),
         _ => Err(StoreError::Corrupt),
     }
@@ -105,6 +113,9 @@ pub(crate) fn read_image<S: Alter>(alloc: Global, store: &mut S) -> Result<Image
     ensures sound { IfOk result IsSound }
     ensures told { OnOk result (IsClean (S.Store.view store.new)
         → IsTold S.Store.view store.new) }
+    ensures named { (t : DeclaredTable) → result ≡ Err (LoadFault.Unsound t)
+        → IsClean (S.Store.view store.new)
+        → MayTell S.Store.view S.Store.recovers (Err t) store.new }
 {
     store.rollback();
     read_content(alloc, store)

@@ -1,7 +1,7 @@
 //! An inventory in files, opened for questions without a connection.
 //!
-//! `open_for_questions` opens the file at a path, `files_for_questions` two files that are given, and `Questions` keeps
-//! what they hold: a desk over it answers questions, and takes no change.
+//! `open_for_questions` opens the file at a path, by a file layer of its own that only reads; `files_for_questions` opens
+//! two files that are given, and `Questions` keeps what they hold: a desk over it answers questions, and takes no change.
 #![tactic(auto)]
 
 mod access;
@@ -10,8 +10,14 @@ mod image;
 mod keeper;
 mod laws;
 mod look;
+mod overlay;
+mod pair;
 mod plain;
+mod record;
+mod still;
 
 pub use access::{QuestionsNotOpened, files_for_questions, open_for_questions};
 pub use keeper::Questions;
 pub use laws::same_answer;
+pub use pair::StillFrom;
+pub use still::Still;

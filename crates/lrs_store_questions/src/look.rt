@@ -112,7 +112,7 @@ fn keeps_sums<D: Disk>(
     }
 }
 
-/// Refuses a log with pages of a file that keeps sums: one that another program wrote there lacks its sum.
+/// Refuses a log with pages of a file that keeps sums, by `Broken`: one that another program wrote there lacks its sum.
 fn refuse_log<D: Disk>(
     alloc: Global,
     files: &mut Files<D>,
@@ -131,13 +131,13 @@ fn refuse_log<D: Disk>(
     }
     match probe_frames(alloc, &mut files.log, size) {
         Ok(numbers) if numbers.is_empty() => Ok(()),
-        Ok(_) => Err(StoreError::Io),
+        Ok(_) => Err(StoreError::Broken),
         Err(error) => Err(fault_of(error)),
     }
 }
 
 /// How long the pages of a database in these files are, and whether they end in sums. Files without a database are
-/// refused, and so is a log with pages that may lack their sums.
+/// refused, and so is, by `Broken`, a log with pages that may lack their sums.
 pub(crate) fn look<D: Disk>(
     alloc: Global,
     files: &mut Files<D>,

@@ -1,5 +1,5 @@
 -- What a request is answered, and what it leaves of the desk.
-use Rattle.std.specs.Prelude.{◌≡◌, ◌⊎◌, ℕ, [], Some, None, Option, Result, MatchOption, true}
+use Rattle.std.specs.Prelude.{◌≡◌, ◌⊎◌, ℕ, Bool, true, false, [], Some, None, Option, Result, MatchOption}
 use Rattle.std.specs.Io.KnownBytes.{Appends}
 use Rattle.lrs_machine.specs.Lines.{Text}
 use Rattle.lrs_machine.specs.declared.image.Image.{Image}
@@ -22,17 +22,23 @@ sheet_at path.Questions = None
 sheet_at path.Surveys = Some Survey
 sheet_at _ = Some Edits
 
+-- what is told only while commands are still committed: what is at a position, and the health
+abbrev pub needs_commits : Resource → Bool
+needs_commits path.At = true
+needs_commits path.Health = true
+needs_commits _ = false
+
 -- another method is wanted
 abbrev pub allowed_answer : RequestMethod → Answer
 allowed_answer verb = record { status = 405; content_type = None; allow = Some verb; body = [] }
 
--- What is asked for is done at the desk, and answered: a sheet is done, or its questions are answered. A query leaves the desk as it is. It has an empty 503 where memory runs out, and once a commit of several commands has failed: the image may be ahead of what is kept then. The health has an empty 503 once any commit has failed: no command is done then.
+-- What is asked for is done at the desk, and answered: a sheet is done, or its questions are answered. A query leaves the desk as it is. It has an empty 503 where memory runs out, or the reply would have more bytes than it may, and once a commit of several commands has failed: the image may be ahead of what is kept then. What needs commits has an empty 503 once any commit has failed: no command is done then.
 abbrev pub Does : {K : Type 0} → (K → Result Image Table → Type 0) → Asked → DeskView K → Answer → DeskView K → Type 0
 Does holds (refused status) old answer new = (new ≡ old) × (answer ≡ empty_answer status)
 Does holds (not_allowed verb) old answer new = (new ≡ old) × (answer ≡ allowed_answer verb)
 Does holds (query resource argument) old answer new =
     (new ≡ old) × (AnswersAsked old.image resource argument answer ⊎ (answer ≡ empty_answer 503)) × (old.is_ahead ≡ true → answer ≡ empty_answer 503)
-    × (resource ≡ path.Health → old.must_reopen ≡ true → answer ≡ empty_answer 503)
+    × (needs_commits resource ≡ true → old.must_reopen ≡ true → answer ≡ empty_answer 503)
 Does holds (sheet resource resumes bytes) old answer new =
     MatchOption (sheet_at resource) (AnswersQuestions bytes old answer new) (λ kind. DoesSheet holds kind resumes bytes old answer new)
 

@@ -44,7 +44,7 @@ abbrev pub IsRunSo : {K : Type 0} → (K → Result Image Table → Type 0) → 
 IsRunSo holds sheet false input before after old new = IsWholeRun holds sheet records_together (Some input) before after (Some old) (Some new)
 IsRunSo holds sheet true input before after old new = IsResumedRun holds sheet records_together input before after (Some old) (Some new)
 
--- the reply to such a run; where memory runs out for it, there is an empty 503 in its place
+-- the reply to such a run; where memory runs out for it, or it would have more bytes than it may, there is an empty 503 in its place
 abbrev pub IsAnswerAfter : {X : Type 0} → Result X SheetFault → Text → Answer → Type 0
 IsAnswerAfter ended lines answer = (answer ≡ answer_after ended lines) ⊎ (answer ≡ empty_answer 503)
 

@@ -39,6 +39,11 @@ pub trait Door {
     /// How often it has failed.
     ghost failures: { Self → ℕ };
 
+    /// How many bytes the body of a reply has at most. One that would have more is an empty 503.
+    fn most_reply(&self) -> usize {
+        usize::MAX
+    }
+
     /// The next connection.
     fn next(&mut self) -> Result<(Self::Reader, Self::Writer), DoorFault>
         ensures gives { IfOk result (λ connection.
@@ -75,6 +80,7 @@ fn is_full(written: Result<u16, WebFault>) -> bool
 /// Serves the request of a connection, and answers whether it was served in full.
 fn serve_by<R: Read, W: Write, K: Keeper>(
     alloc: Global,
+    most: usize,
     router: &Router<Resource>,
     reader: &mut R,
     writer: &mut W,
@@ -89,7 +95,7 @@ fn serve_by<R: Read, W: Write, K: Keeper>(
     ensures cut { IsCut K.may_hold (R.remaining reader.old) desk.old desk.new }
 {
     match receive(alloc, router, reader) {
-        Ok(task) => is_full(respond(alloc, &task, writer, desk)),
+        Ok(task) => is_full(respond(alloc, most, &task, writer, desk)),
         Err(BodyFault::Memory) => {
             let _ = refuse(writer);
             false
@@ -100,6 +106,7 @@ fn serve_by<R: Read, W: Write, K: Keeper>(
 
 fn serve_connection<R: Read, W: Write, K: Keeper>(
     alloc: Global,
+    most: usize,
     reader: &mut R,
     writer: &mut W,
     desk: &mut Desk<K>,
@@ -112,7 +119,7 @@ fn serve_connection<R: Read, W: Write, K: Keeper>(
     ensures cut { IsCut K.may_hold (R.remaining reader.old) desk.old desk.new }
 {
     match routes(alloc) {
-        Ok(router) => serve_by(alloc, &router, reader, writer, desk),
+        Ok(router) => serve_by(alloc, most, &router, reader, writer, desk),
         Err(_) => {
             let _ = refuse(writer);
             false
@@ -141,13 +148,14 @@ pub fn serve_all<D: Door, K: Keeper>(
         × Visited K.may_hold D.Reader.remaining D.Writer.contents (D.waiting door.old)
         (D.waiting door.new) (D.ended door.old) (D.ended door.new) full cut desk.old desk.new) }
 {
+    let most = door.most_reply();
     let mut full = 0;
     let mut cut = 0;
     for _turn in 0..max {
         let Ok((mut reader, mut writer)) = door.next() else {
             return Err(DoorFault);
         };
-        let is_full = serve_connection(alloc, &mut reader, &mut writer, desk);
+        let is_full = serve_connection(alloc, most, &mut reader, &mut writer, desk);
         door.take_back(writer);
         if is_full {
             full += 1;

@@ -8,25 +8,31 @@ use crate::sheet::reply_after;
 use http::StatusCode;
 use lrs_sheet::{Desk, Keeper};
 use lrs_sheet_questions::ask_all;
+use lrs_web_replies::BoundedBytes;
 use lrs_web_requests::Response;
 use std::alloc::Global;
 
-fn run_questions<K: Keeper>(alloc: Global, bytes: &[u8], desk: &Desk<K>) -> Response
+fn run_questions<K: Keeper>(alloc: Global, most: usize, bytes: &[u8], desk: &Desk<K>) -> Response
     requires behind { desk.now.is_ahead ≡ false }
     ensures { RepliesToQuestions desk.now.image bytes.now (answer_of result) }
 {
-    let mut lines = Vec::new(alloc);
+    let mut lines = BoundedBytes::new(alloc, most);
     let ended = ask_all(alloc, bytes, &mut lines, desk);
-    reply_after(ended, lines)
+    reply_after(ended, lines.bytes)
 }
 
 /// Answers a sheet of questions whose bytes have all come. Once a commit of several commands has failed, nothing is answered,
-/// and the reply is an empty 503.
-pub(crate) fn answer_questions<K: Keeper>(alloc: Global, bytes: &[u8], desk: &Desk<K>) -> Response
+/// and the reply is an empty 503; so it is where it would have too many bytes.
+pub(crate) fn answer_questions<K: Keeper>(
+    alloc: Global,
+    most: usize,
+    bytes: &[u8],
+    desk: &Desk<K>,
+) -> Response
     ensures { AnswersQuestions bytes.now desk.now (answer_of result) desk.now }
 {
     if desk.is_ahead() {
         return Response::empty(StatusCode::SERVICE_UNAVAILABLE);
     }
-    run_questions(alloc, bytes, desk)
+    run_questions(alloc, most, bytes, desk)
 }

@@ -3,12 +3,12 @@
 ghost use Rattle.std.specs.Prelude.{◌≡◌, ◌⊎◌, IfOk, IfSome, MatchOption, Err, true, false};
 ghost use Rattle.lrs_web_requests.specs.Request.{Asked, IsServed, asked_by};
 ghost use Rattle.lrs_web_requests.specs.Text.{Answer, answer_of, empty_answer};
-ghost use Rattle.lrs_web_requests.specs.declared.paths.Resource.TheVariants as path;
 ghost use Rattle.lrs_web_requests.specs.Request.{verb_of};
 ghost use Rattle.lrs_web_requests.specs.declared.response.RequestMethod.TheVariants.{Get};
 ghost use Rattle.lrs_web.specs.QueryAnswers.{AnswersAsked};
 ghost use Rattle.lrs_web.specs.Questions.{AnswersQuestions};
 ghost use Rattle.lrs_web.specs.Sheets.{DoesSheet};
+ghost use Rattle.lrs_web.specs.RequestAnswers as spec;
 ghost use Rattle.lrs_web.specs.RequestAnswers.{Does, Responds, Serves, Writes, allowed_answer, sheet_at};
 
 use crate::questions::answer_questions;
@@ -60,6 +60,34 @@ fn sheet_of(resource: Resource) -> Option<Sheet>
     }
 }
 
+// Whether a question is answered only while commands are still committed.
+fn needs_commits(resource: Resource) -> bool
+    ensures { result ≡ spec.needs_commits resource }
+{
+    match resource {
+        Resource::At | Resource::Health => true,
+        Resource::Route
+        | Resource::Segments
+        | Resource::Totals
+        | Resource::Translate
+        | Resource::Diagram
+        | Resource::Routes
+        | Resource::Find
+        | Resource::Log
+        | Resource::Links
+        | Resource::Classes
+        | Resource::Refs
+        | Resource::Marks
+        | Resource::Rows
+        | Resource::Lengths
+        | Resource::Gone
+        | Resource::Where
+        | Resource::Edits
+        | Resource::Surveys
+        | Resource::Questions => false,
+    }
+}
+
 fn allowed_reply(verb: RequestMethod) -> Response
     ensures { answer_of result ≡ allowed_answer verb }
 {
@@ -74,6 +102,7 @@ fn allowed_reply(verb: RequestMethod) -> Response
 #[tactic(auto, using(crate::proofs::Asking::answered, crate::proofs::Asking::refused))]
 fn question_reply<K: Keeper>(
     alloc: Global,
+    most: usize,
     resource: Resource,
     argument: &[u8],
     desk: &Desk<K>,
@@ -84,15 +113,30 @@ fn question_reply<K: Keeper>(
         (answer_of reply)) }
 {
     match question_of(alloc, resource, argument) {
-        Ok(question) => reply_to(alloc, desk.ask(question)),
+        Ok(question) => reply_to(alloc, most, desk.ask(question)),
         Err(fault) => unasked(alloc, fault),
     }
 }
 
-// Once a commit of several commands has failed, nothing is answered: not even that a parameter cannot be read. The
-// health is not told either once a commit of one command has failed.
+// A reply that has too many bytes gives way to an empty 503.
+fn limited(reply: Response, most: usize) -> Response
+    ensures { (answer_of result ≡ answer_of reply) ⊎ (answer_of result ≡ empty_answer 503) }
+{
+    let is_too_long = match &reply.content {
+        Some(content) => content.bytes.len() > most,
+        None => false,
+    };
+    if is_too_long {
+        return Response::empty(StatusCode::SERVICE_UNAVAILABLE);
+    }
+    reply
+}
+
+// Once a commit of several commands has failed, nothing is answered: not even that a parameter cannot be read. What needs
+// commits is not answered either once a commit of one command has failed.
 fn query_reply<K: Keeper>(
     alloc: Global,
+    most: usize,
     resource: Resource,
     argument: &[u8],
     desk: &Desk<K>,
@@ -101,17 +145,17 @@ fn query_reply<K: Keeper>(
     ensures answered { AnswersAsked desk.now.image resource argument.now (answer_of result)
         ⊎ (answer_of result ≡ empty_answer 503) }
     ensures broken { desk.now.is_ahead ≡ true → answer_of result ≡ empty_answer 503 }
-    ensures unhealthy { resource ≡ path.Health → desk.now.must_reopen ≡ true
+    ensures uncommitted { spec.needs_commits resource ≡ true → desk.now.must_reopen ≡ true
         → answer_of result ≡ empty_answer 503 }
 {
     if desk.is_ahead() {
         return Response::empty(StatusCode::SERVICE_UNAVAILABLE);
     }
-    if resource == Resource::Health && desk.must_reopen() {
+    if needs_commits(resource) && desk.must_reopen() {
         return Response::empty(StatusCode::SERVICE_UNAVAILABLE);
     }
-    match question_reply(alloc, resource, argument, desk) {
-        Ok(reply) => reply,
+    match question_reply(alloc, most, resource, argument, desk) {
+        Ok(reply) => limited(reply, most),
         Err(_) => Response::empty(StatusCode::SERVICE_UNAVAILABLE),
     }
 }
@@ -119,6 +163,7 @@ fn query_reply<K: Keeper>(
 /// Does a sheet, or answers the questions where it is of no kind that is done.
 fn do_posted<K: Keeper>(
     alloc: Global,
+    most: usize,
     kind: Option<Sheet>,
     resumes: bool,
     bytes: &[u8],
@@ -129,13 +174,13 @@ fn do_posted<K: Keeper>(
         desk.new) }
 {
     match kind {
-        Some(kind) => do_sheet(alloc, kind, resumes, bytes, desk),
-        None => answer_questions(alloc, bytes, desk),
+        Some(kind) => do_sheet(alloc, most, kind, resumes, bytes, desk),
+        None => answer_questions(alloc, most, bytes, desk),
     }
 }
 
-/// Does what is asked for.
-fn do_task<K: Keeper>(alloc: Global, task: &Request, desk: &mut Desk<K>) -> Response
+/// Does what is asked for. A reply with more bytes than that is an empty 503, as where memory runs out.
+fn do_task<K: Keeper>(alloc: Global, most: usize, task: &Request, desk: &mut Desk<K>) -> Response
     requires { IsServed (asked_by task.now) }
     ensures { Does K.may_hold (asked_by task.now) desk.old (answer_of result) desk.new }
 {
@@ -143,10 +188,11 @@ fn do_task<K: Keeper>(alloc: Global, task: &Request, desk: &mut Desk<K>) -> Resp
         Request::Refused(status) => Response::empty(*status),
         Request::NotAllowed(verb) => allowed_reply(*verb),
         Request::Query(resource, argument) => {
-            query_reply(alloc, *resource, argument.as_slice(), desk)
+            query_reply(alloc, most, *resource, argument.as_slice(), desk)
         }
         Request::Sheet(resource, resumes, bytes) => {
-            do_posted(alloc, sheet_of(*resource), *resumes, bytes.as_slice(), desk)
+            let kind = sheet_of(*resource);
+            do_posted(alloc, most, kind, *resumes, bytes.as_slice(), desk)
         }
     }
 }
@@ -174,9 +220,10 @@ pub(crate) fn refuse<W: Write>(writer: &mut W) -> Result<u16, WebFault>
     }
 }
 
-/// Does what is asked for, and writes the reply.
+/// Does what is asked for, and writes the reply, of at most so many bytes.
 pub(crate) fn respond<W: Write, K: Keeper>(
     alloc: Global,
+    most: usize,
     task: &Request,
     writer: &mut W,
     desk: &mut Desk<K>,
@@ -187,7 +234,7 @@ pub(crate) fn respond<W: Write, K: Keeper>(
     ensures done { (due : Answer) × Does K.may_hold (asked_by task.now) desk.old due desk.new }
     ensures fault { result ≡ Err WebFault.Read → ⊥ }
 {
-    let reply = do_task(alloc, task, desk);
+    let reply = do_task(alloc, most, task, desk);
     write_to(alloc, &reply, writer)
 }
 
@@ -219,7 +266,7 @@ pub fn serve_one<R: Read, W: Write, K: Keeper>(
         return refuse(writer);
     };
     match receive(alloc, &router, reader) {
-        Ok(task) => respond(alloc, &task, writer, desk),
+        Ok(task) => respond(alloc, usize::MAX, &task, writer, desk),
         Err(BodyFault::Memory) => refuse(writer),
         Err(BodyFault::Read(_)) => Err(WebFault::Read),
     }

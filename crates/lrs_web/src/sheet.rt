@@ -8,6 +8,7 @@ use http::StatusCode;
 use lrs_sheet::{
     Desk, Keeper, RECORDS_TOGETHER, ResumeFault, Sheet, SheetFault, Tally, resume_sheet, run_sheet,
 };
+use lrs_web_replies::BoundedBytes;
 use lrs_web_requests::{Content, ContentType, Response};
 use std::alloc::Global;
 
@@ -55,30 +56,44 @@ pub(crate) fn reply_after<T: Drop>(ended: Result<T, SheetFault>, lines: Vec<u8>)
 }
 
 /// Does a whole sheet.
-fn do_whole<K: Keeper>(alloc: Global, sheet: Sheet, bytes: &[u8], desk: &mut Desk<K>) -> Response
+fn do_whole<K: Keeper>(
+    alloc: Global,
+    most: usize,
+    sheet: Sheet,
+    bytes: &[u8],
+    desk: &mut Desk<K>,
+) -> Response
     ensures { RunsSheet K.may_hold sheet false bytes.now desk.old (answer_of result) desk.new }
 {
-    let mut lines = Vec::new(alloc);
+    let mut lines = BoundedBytes::new(alloc, most);
     let ended = run_sheet(alloc, sheet, RECORDS_TOGETHER, bytes, &mut lines, desk);
-    reply_after(ended, lines)
+    reply_after(ended, lines.bytes)
 }
 
 /// Goes on with a sheet behind its last record that is an edit, unless a key stands twice in it.
-fn go_on<K: Keeper>(alloc: Global, sheet: Sheet, bytes: &[u8], desk: &mut Desk<K>) -> Response
+fn go_on<K: Keeper>(
+    alloc: Global,
+    most: usize,
+    sheet: Sheet,
+    bytes: &[u8],
+    desk: &mut Desk<K>,
+) -> Response
     ensures { DoesSheet K.may_hold sheet true bytes.now desk.old (answer_of result) desk.new }
 {
-    let mut lines = Vec::new(alloc);
+    let mut lines = BoundedBytes::new(alloc, most);
     match resume_sheet(alloc, sheet, RECORDS_TOGETHER, bytes, &mut lines, desk) {
-        Ok(tally) => reply_after(Ok(tally), lines),
-        Err(ResumeFault::Sheet(fault)) => reply_after::<Tally>(Err(fault), lines),
-        Err(ResumeFault::RepeatedKey(_)) => faulty_reply(lines, b"-,fault,RepeatedKey\n"),
+        Ok(tally) => reply_after(Ok(tally), lines.bytes),
+        Err(ResumeFault::Sheet(fault)) => reply_after::<Tally>(Err(fault), lines.bytes),
+        Err(ResumeFault::RepeatedKey(_)) => { faulty_reply(lines.bytes, b"-,fault,RepeatedKey\n") }
     }
 }
 
 /// Does a sheet whose bytes have all come, or goes on with it behind its last record that is an edit. Where memory or the
-/// keeper fails, some of its records may be done, and the reply is an empty 503; then the sheet can go on.
+/// keeper fails, or the reply would have too many bytes, some of its records may be done, and the reply is an empty 503;
+/// then the sheet can go on.
 pub(crate) fn do_sheet<K: Keeper>(
     alloc: Global,
+    most: usize,
     sheet: Sheet,
     resumes: bool,
     bytes: &[u8],
@@ -87,8 +102,8 @@ pub(crate) fn do_sheet<K: Keeper>(
     ensures { DoesSheet K.may_hold sheet resumes bytes.now desk.old (answer_of result) desk.new }
 {
     if resumes {
-        go_on(alloc, sheet, bytes, desk)
+        go_on(alloc, most, sheet, bytes, desk)
     } else {
-        do_whole(alloc, sheet, bytes, desk)
+        do_whole(alloc, most, sheet, bytes, desk)
     }
 }

@@ -162,6 +162,7 @@ fn end_segments(alloc: Global, bytes: &mut Vec<u8>, side: Side) -> Result<(), Al
 #[tactic(auto, using(crate::proofs::Whole::segment_whole, crate::proofs::Listing::segments_text))]
 pub fn segments_json(
     alloc: Global,
+    most: usize,
     route: &RouteName,
     side: Side,
     segments: RouteSegments<'_>,
@@ -170,7 +171,7 @@ pub fn segments_json(
         (segments_data route.now side segments.entry)) }
 {
     let mut bytes = begin_segments(alloc, route)?;
-    add_segment_list(alloc, &mut bytes, segments)?;
+    add_segment_list(alloc, most, &mut bytes, segments)?;
     end_segments(alloc, &mut bytes, side)?;
     Ok(bytes)
 }

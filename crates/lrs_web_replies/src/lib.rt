@@ -2,6 +2,7 @@
 #![tactic(auto)]
 
 mod answers;
+mod bounded;
 mod entries;
 mod list;
 mod list_parameters;
@@ -14,6 +15,7 @@ mod question;
 mod replies;
 mod reply;
 
+pub use bounded::BoundedBytes;
 pub use question::{Parameter, QueryFault, question_of};
 pub use replies::reply_to;
 pub use reply::unasked;

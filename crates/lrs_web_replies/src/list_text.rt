@@ -46,11 +46,19 @@ pub(crate) fn add_text(alloc: Global, bytes: &mut Vec<u8>, text: &str) -> Result
     add_value(alloc, bytes, value)
 }
 
-/// Adds an item, with a comma before it.
-pub(crate) fn add_item(alloc: Global, bytes: &mut Vec<u8>, item: Value) -> Result<(), AllocError>
+/// Adds an item, with a comma before it, where the text has not so many bytes yet.
+pub(crate) fn add_item(
+    alloc: Global,
+    most: usize,
+    bytes: &mut Vec<u8>,
+    item: Value,
+) -> Result<(), AllocError>
     requires { has_float (view item) ≡ false }
     ensures { OnOk result (bytes.new.items ≡ bytes.old.items ++ item_text (view item)) }
 {
+    if bytes.len() >= most {
+        return Err(AllocError);
+    }
     bytes.push(b',')?;
     add_value(alloc, bytes, item)
 }
@@ -60,22 +68,28 @@ pub(crate) fn add_name(alloc: Global, bytes: &mut Vec<u8>, name: &str) -> Result
     ensures { OnOk result (bytes.new.items ≡ bytes.old.items ++ name_text name.now) }
 {
     let name = Value::try_from_str(alloc, name)?;
-    add_item(alloc, bytes, name)?;
+    add_item(alloc, usize::MAX, bytes, name)?;
     bytes.push(b':')?;
     Ok(())
 }
 
-fn add_one<T: Shown>(alloc: Global, bytes: &mut Vec<u8>, one: &T) -> Result<(), AllocError>
+fn add_one<T: Shown>(
+    alloc: Global,
+    most: usize,
+    bytes: &mut Vec<u8>,
+    one: &T,
+) -> Result<(), AllocError>
     requires whole { has_float (T.shown one.now) ≡ false }
     ensures { OnOk result (bytes.new.items ≡ bytes.old.items ++ item_text (T.shown one.now)) }
 {
     let value = one.value(alloc)?;
-    add_item(alloc, bytes, value)
+    add_item(alloc, most, bytes, value)
 }
 
 /// Adds each segment, with a comma before it.
 fn add_segments(
     alloc: Global,
+    most: usize,
     bytes: &mut Vec<u8>,
     mut segments: RouteSegments<'_>,
 ) -> Result<(), AllocError>
@@ -83,7 +97,7 @@ fn add_segments(
         ≡ bytes.old.items ++ flat_map (λ one. item_text (segment_data one)) segments.entry) }
 {
     while let Some(segment) = segments.first() {
-        add_one(alloc, bytes, segment)?;
+        add_one(alloc, most, bytes, segment)?;
         segments.pass();
     }
     Ok(())
@@ -92,6 +106,7 @@ fn add_segments(
 /// Adds each of a list, with a comma before it.
 pub(crate) fn add_each<T: Shown>(
     alloc: Global,
+    most: usize,
     bytes: &mut Vec<u8>,
     list: &Chunked<T>,
 ) -> Result<(), AllocError>
@@ -100,7 +115,7 @@ pub(crate) fn add_each<T: Shown>(
         ≡ bytes.old.items ++ flat_map (λ one. item_text (T.shown one)) list.now.rows) }
 {
     for one in list.iter() {
-        add_one(alloc, bytes, one)?;
+        add_one(alloc, most, bytes, one)?;
     }
     Ok(())
 }
@@ -133,6 +148,7 @@ fn close_list(bytes: &mut Vec<u8>, start: usize) -> Result<(), AllocError>
 /// Adds the list of segments, one by one.
 pub(crate) fn add_segment_list(
     alloc: Global,
+    most: usize,
     bytes: &mut Vec<u8>,
     segments: RouteSegments<'_>,
 ) -> Result<(), AllocError>
@@ -140,7 +156,7 @@ pub(crate) fn add_segment_list(
         ≡ bytes.old.items ++ compact_text (each segment_data segments.entry)) }
 {
     let start = bytes.len();
-    add_segments(alloc, bytes, segments)?;
+    add_segments(alloc, most, bytes, segments)?;
     close_list(bytes, start)
 }
 

@@ -14,6 +14,7 @@ ghost use Rattle.lrs_web_requests.specs.Text.{answer_of};
 ghost use Rattle.lrs_web_replies.specs.Listings.{all_gone_data, all_of, classes_data, gone_data, links_data, listing_answer, marks_data, named_list, refs_data, routes_data, row_data, rows_data};
 ghost use Rattle.lrs_web_replies.specs.Parts.{gone_part, item_text, row_part, rows_part};
 
+use crate::bounded::BoundedBytes;
 use crate::entries::{OnRoute, gone_value, row_value};
 use crate::list_text::{add_each, add_item, begin, end};
 use crate::reply::{found_reply, sheet_reply};
@@ -29,30 +30,30 @@ use lrs_sheet_log::{write_log, write_log_of_key};
 use lrs_web_requests::Response;
 use std::alloc::{AllocError, Global};
 
-fn routes_json(alloc: Global, kept: &ImageLists) -> Result<Vec<u8>, AllocError>
+fn routes_json(alloc: Global, most: usize, kept: &ImageLists) -> Result<Vec<u8>, AllocError>
     ensures { IfOk result (λ bytes. bytes.items ≡ compact_text (routes_data (image_of kept.now))) }
 {
     let mut bytes = begin(alloc, "routes")?;
     let start = bytes.len();
-    add_each(alloc, &mut bytes, &kept.routes)?;
+    add_each(alloc, most, &mut bytes, &kept.routes)?;
     end(bytes, start)
 }
 
-fn links_json(alloc: Global, kept: &ImageLists) -> Result<Vec<u8>, AllocError>
+fn links_json(alloc: Global, most: usize, kept: &ImageLists) -> Result<Vec<u8>, AllocError>
     ensures { IfOk result (λ bytes. bytes.items ≡ compact_text (links_data (image_of kept.now))) }
 {
     let mut bytes = begin(alloc, "links")?;
     let start = bytes.len();
-    add_each(alloc, &mut bytes, &kept.links)?;
+    add_each(alloc, most, &mut bytes, &kept.links)?;
     end(bytes, start)
 }
 
-fn classes_json(alloc: Global, kept: &ImageLists) -> Result<Vec<u8>, AllocError>
+fn classes_json(alloc: Global, most: usize, kept: &ImageLists) -> Result<Vec<u8>, AllocError>
     ensures { IfOk result (λ bytes. bytes.items ≡ compact_text (classes_data (image_of kept.now))) }
 {
     let mut bytes = begin(alloc, "classes")?;
     let start = bytes.len();
-    add_each(alloc, &mut bytes, &kept.classes)?;
+    add_each(alloc, most, &mut bytes, &kept.classes)?;
     end(bytes, start)
 }
 
@@ -60,6 +61,7 @@ fn classes_json(alloc: Global, kept: &ImageLists) -> Result<Vec<u8>, AllocError>
 
 fn add_on<T: OnRoute>(
     alloc: Global,
+    most: usize,
     bytes: &mut Vec<u8>,
     route: &Route,
     one: &T,
@@ -68,11 +70,12 @@ fn add_on<T: OnRoute>(
         ≡ bytes.old.items ++ item_text (T.shown route.now one.now)) }
 {
     let value = one.value_on(alloc, route)?;
-    add_item(alloc, bytes, value)
+    add_item(alloc, most, bytes, value)
 }
 
 fn add_each_on<T: OnRoute>(
     alloc: Global,
+    most: usize,
     bytes: &mut Vec<u8>,
     route: &Route,
     list: &[T],
@@ -81,13 +84,14 @@ fn add_each_on<T: OnRoute>(
         ≡ bytes.old.items ++ flat_map (λ one. item_text (T.shown route.now one)) list.now) }
 {
     for one in list {
-        add_on(alloc, bytes, route, one)?;
+        add_on(alloc, most, bytes, route, one)?;
     }
     Ok(())
 }
 
 fn add_all_of<T: OnRoute>(
     alloc: Global,
+    most: usize,
     bytes: &mut Vec<u8>,
     route_row: &RouteRow,
 ) -> Result<(), AllocError>
@@ -95,11 +99,12 @@ fn add_all_of<T: OnRoute>(
         ≡ bytes.old.items ++ flat_map item_text (all_of T.on T.shown route_row.now)) }
 {
     let route = &route_row.route;
-    add_each_on(alloc, bytes, route, T::all_on(route))
+    add_each_on(alloc, most, bytes, route, T::all_on(route))
 }
 
 fn add_all<T: OnRoute>(
     alloc: Global,
+    most: usize,
     bytes: &mut Vec<u8>,
     routes: &Chunked<RouteRow>,
 ) -> Result<(), AllocError>
@@ -107,38 +112,44 @@ fn add_all<T: OnRoute>(
         ++ flat_map (λ e. flat_map item_text (all_of T.on T.shown e)) routes.now.rows) }
 {
     for route_row in routes.iter() {
-        add_all_of::<T>(alloc, bytes, route_row)?;
+        add_all_of::<T>(alloc, most, bytes, route_row)?;
     }
     Ok(())
 }
 
 /// The list of all that the routes have, under its name.
-fn all_json<T: OnRoute>(alloc: Global, kept: &ImageLists, name: &str) -> Result<Vec<u8>, AllocError>
+fn all_json<T: OnRoute>(
+    alloc: Global,
+    most: usize,
+    kept: &ImageLists,
+    name: &str,
+) -> Result<Vec<u8>, AllocError>
     ensures { IfOk result (λ bytes. bytes.items ≡ compact_text
         (named_list name.now (flat_map (all_of T.on T.shown) (image_of kept.now).routes))) }
 {
     let mut bytes = begin(alloc, name)?;
     let start = bytes.len();
-    add_all::<T>(alloc, &mut bytes, &kept.routes)?;
+    add_all::<T>(alloc, most, &mut bytes, &kept.routes)?;
     end(bytes, start)
 }
 
-fn refs_json(alloc: Global, kept: &ImageLists) -> Result<Vec<u8>, AllocError>
+fn refs_json(alloc: Global, most: usize, kept: &ImageLists) -> Result<Vec<u8>, AllocError>
     ensures { IfOk result (λ bytes. bytes.items ≡ compact_text (refs_data (image_of kept.now))) }
 {
-    all_json::<Referent>(alloc, kept, "refs")
+    all_json::<Referent>(alloc, most, kept, "refs")
 }
 
-fn marks_json(alloc: Global, kept: &ImageLists) -> Result<Vec<u8>, AllocError>
+fn marks_json(alloc: Global, most: usize, kept: &ImageLists) -> Result<Vec<u8>, AllocError>
     ensures { IfOk result (λ bytes. bytes.items ≡ compact_text (marks_data (image_of kept.now))) }
 {
-    all_json::<Mark>(alloc, kept, "marks")
+    all_json::<Mark>(alloc, most, kept, "marks")
 }
 
 // ---- rows
 
 fn add_row(
     alloc: Global,
+    most: usize,
     bytes: &mut Vec<u8>,
     assets: &Chunked<Asset>,
     route: &Route,
@@ -149,12 +160,13 @@ fn add_row(
         ≡ bytes.old.items ++ item_text (row_data assets.now.rows route.now row.now)) }
 {
     let value = row_value(alloc, asset_numbered(assets, row.asset), route, row)?;
-    add_item(alloc, bytes, value)
+    add_item(alloc, most, bytes, value)
 }
 
 /// Adds a row where it is asked for.
 fn add_wanted_row(
     alloc: Global,
+    most: usize,
     bytes: &mut Vec<u8>,
     wanted: &RowsWanted,
     assets: &Chunked<Asset>,
@@ -166,13 +178,14 @@ fn add_wanted_row(
         ≡ bytes.old.items ++ row_part wanted.now assets.now.rows route.now row.now) }
 {
     if is_wanted(wanted, row) {
-        return add_row(alloc, bytes, assets, route, row);
+        return add_row(alloc, most, bytes, assets, route, row);
     }
     Ok(())
 }
 
 fn add_rows_on(
     alloc: Global,
+    most: usize,
     bytes: &mut Vec<u8>,
     wanted: &RowsWanted,
     assets: &Chunked<Asset>,
@@ -184,7 +197,7 @@ fn add_rows_on(
         ≡ bytes.old.items ++ flat_map (row_part wanted.now assets.now.rows route.now) rows.now) }
 {
     for row in rows {
-        add_wanted_row(alloc, bytes, wanted, assets, route, row)?;
+        add_wanted_row(alloc, most, bytes, wanted, assets, route, row)?;
     }
     Ok(())
 }
@@ -192,6 +205,7 @@ fn add_rows_on(
 /// Adds the rows of a route that are asked for.
 fn add_rows_of(
     alloc: Global,
+    most: usize,
     bytes: &mut Vec<u8>,
     wanted: &RowsWanted,
     assets: &Chunked<Asset>,
@@ -202,11 +216,20 @@ fn add_rows_of(
         ≡ bytes.old.items ++ rows_part wanted.now assets.now.rows route_row.now) }
 {
     let route = &route_row.route;
-    add_rows_on(alloc, bytes, wanted, assets, route, route_row.spans.rows())
+    add_rows_on(
+        alloc,
+        most,
+        bytes,
+        wanted,
+        assets,
+        route,
+        route_row.spans.rows(),
+    )
 }
 
 fn add_each_row(
     alloc: Global,
+    most: usize,
     bytes: &mut Vec<u8>,
     wanted: &RowsWanted,
     assets: &Chunked<Asset>,
@@ -217,7 +240,7 @@ fn add_each_row(
         ≡ bytes.old.items ++ flat_map (rows_part wanted.now assets.now.rows) routes.now.rows) }
 {
     for route_row in routes.iter() {
-        add_rows_of(alloc, bytes, wanted, assets, route_row)?;
+        add_rows_of(alloc, most, bytes, wanted, assets, route_row)?;
     }
     Ok(())
 }
@@ -225,6 +248,7 @@ fn add_each_row(
 /// Adds the rows that are asked for of one route, if there is one.
 fn add_rows_of_some(
     alloc: Global,
+    most: usize,
     bytes: &mut Vec<u8>,
     wanted: &RowsWanted,
     assets: &Chunked<Asset>,
@@ -236,7 +260,7 @@ fn add_rows_of_some(
         (option_map (λ e. e.now) route_row.entry) []) }
 {
     match route_row {
-        Some(route_row) => add_rows_of(alloc, bytes, wanted, assets, route_row),
+        Some(route_row) => add_rows_of(alloc, most, bytes, wanted, assets, route_row),
         None => Ok(()),
     }
 }
@@ -244,6 +268,7 @@ fn add_rows_of_some(
 /// Adds the rows that are asked for. A route that is named is found by search.
 fn add_asked_rows(
     alloc: Global,
+    most: usize,
     bytes: &mut Vec<u8>,
     wanted: &RowsWanted,
     assets: &Chunked<Asset>,
@@ -256,19 +281,24 @@ fn add_asked_rows(
         (filter (is_of_route wanted.now.route) routes.now.rows)) }
 {
     match &wanted.route {
-        Some(name) => add_rows_of_some(alloc, bytes, wanted, assets, routes.find(name)),
-        None => add_each_row(alloc, bytes, wanted, assets, routes),
+        Some(name) => add_rows_of_some(alloc, most, bytes, wanted, assets, routes.find(name)),
+        None => add_each_row(alloc, most, bytes, wanted, assets, routes),
     }
 }
 
-fn rows_json(alloc: Global, kept: &ImageLists, wanted: &RowsWanted) -> Result<Vec<u8>, AllocError>
+fn rows_json(
+    alloc: Global,
+    most: usize,
+    kept: &ImageLists,
+    wanted: &RowsWanted,
+) -> Result<Vec<u8>, AllocError>
     requires sound { IsSound (image_of kept.now) }
     ensures { IfOk result (λ bytes. bytes.items
         ≡ compact_text (rows_data wanted.now (image_of kept.now))) }
 {
     let mut bytes = begin(alloc, "rows")?;
     let start = bytes.len();
-    add_asked_rows(alloc, &mut bytes, wanted, &kept.assets, &kept.routes)?;
+    add_asked_rows(alloc, most, &mut bytes, wanted, &kept.assets, &kept.routes)?;
     end(bytes, start)
 }
 
@@ -276,6 +306,7 @@ fn rows_json(alloc: Global, kept: &ImageLists, wanted: &RowsWanted) -> Result<Ve
 
 fn add_part(
     alloc: Global,
+    most: usize,
     bytes: &mut Vec<u8>,
     assets: &Chunked<Asset>,
     gone: &Gone,
@@ -285,12 +316,13 @@ fn add_part(
         ≡ bytes.old.items ++ item_text (gone_data assets.now.rows gone.now)) }
 {
     let value = gone_value(alloc, asset_numbered(assets, gone.part.asset), gone)?;
-    add_item(alloc, bytes, value)
+    add_item(alloc, most, bytes, value)
 }
 
 /// Adds a part where it is asked for.
 fn add_asked_part(
     alloc: Global,
+    most: usize,
     bytes: &mut Vec<u8>,
     edit: Option<u64>,
     assets: &Chunked<Asset>,
@@ -301,13 +333,14 @@ fn add_asked_part(
         ≡ bytes.old.items ++ gone_part edit assets.now.rows gone.now) }
 {
     if is_of_edit(edit, gone) {
-        return add_part(alloc, bytes, assets, gone);
+        return add_part(alloc, most, bytes, assets, gone);
     }
     Ok(())
 }
 
 fn add_parts(
     alloc: Global,
+    most: usize,
     bytes: &mut Vec<u8>,
     edit: Option<u64>,
     assets: &Chunked<Asset>,
@@ -318,43 +351,65 @@ fn add_parts(
         ≡ bytes.old.items ++ flat_map (gone_part edit assets.now.rows) ledger.now) }
 {
     for gone in ledger {
-        add_asked_part(alloc, bytes, edit, assets, gone)?;
+        add_asked_part(alloc, most, bytes, edit, assets, gone)?;
     }
     Ok(())
 }
 
-fn gone_json(alloc: Global, kept: &ImageLists, edit: Option<u64>) -> Result<Vec<u8>, AllocError>
+fn gone_json(
+    alloc: Global,
+    most: usize,
+    kept: &ImageLists,
+    edit: Option<u64>,
+) -> Result<Vec<u8>, AllocError>
     requires sound { IsSound (image_of kept.now) }
     ensures { IfOk result (λ bytes. bytes.items
         ≡ compact_text (all_gone_data edit (image_of kept.now))) }
 {
     let mut bytes = begin(alloc, "gone")?;
     let start = bytes.len();
-    add_parts(alloc, &mut bytes, edit, &kept.assets, kept.gone.as_slice())?;
+    add_parts(
+        alloc,
+        most,
+        &mut bytes,
+        edit,
+        &kept.assets,
+        kept.gone.as_slice(),
+    )?;
     end(bytes, start)
 }
 
 // ---- the log
 
-// A vector takes every byte that it is given, unless memory runs out.
-fn log_bytes(alloc: Global, kept: &ImageLists, from: u64) -> Result<Vec<u8>, AllocError>
+// It takes every byte that it is given, unless it has no room for it or memory runs out.
+fn log_bytes(
+    alloc: Global,
+    most: usize,
+    kept: &ImageLists,
+    from: u64,
+) -> Result<Vec<u8>, AllocError>
     ensures { IfOk result (λ bytes. bytes.items
         ≡ log_text (edits_from from (state_of (image_of kept.now)).done)) }
 {
-    let mut bytes = Vec::new(alloc);
-    match write_log(&mut bytes, kept, from) {
-        Ok(()) => Ok(bytes),
+    let mut text = BoundedBytes::new(alloc, most);
+    match write_log(&mut text, kept, from) {
+        Ok(()) => Ok(text.bytes),
         Err(_) => Err(AllocError),
     }
 }
 
-fn log_bytes_of_key(alloc: Global, kept: &ImageLists, key: &Key) -> Result<Vec<u8>, AllocError>
+fn log_bytes_of_key(
+    alloc: Global,
+    most: usize,
+    kept: &ImageLists,
+    key: &Key,
+) -> Result<Vec<u8>, AllocError>
     ensures { IfOk result (λ bytes. bytes.items
         ≡ log_text (edits_under key.now (state_of (image_of kept.now)).done)) }
 {
-    let mut bytes = Vec::new(alloc);
-    match write_log_of_key(&mut bytes, kept, key) {
-        Ok(_) => Ok(bytes),
+    let mut text = BoundedBytes::new(alloc, most);
+    match write_log_of_key(&mut text, kept, key) {
+        Ok(_) => Ok(text.bytes),
         Err(_) => Err(AllocError),
     }
 }
@@ -364,9 +419,10 @@ fn log_bytes_of_key(alloc: Global, kept: &ImageLists, key: &Key) -> Result<Vec<u
 /// The reply with a list of an inventory: as JSON, and the log as an edit sheet.
 ///
 /// # Errors
-/// When memory runs out.
+/// When memory or so many bytes do not suffice.
 pub(crate) fn listing_reply(
     alloc: Global,
+    most: usize,
     inventory: &Inventory,
     listing: &Listing,
 ) -> Result<Response, AllocError>
@@ -374,14 +430,14 @@ pub(crate) fn listing_reply(
 {
     let kept = inventory.kept();
     match listing {
-        Listing::Routes => Ok(found_reply(routes_json(alloc, kept)?)),
-        Listing::Links => Ok(found_reply(links_json(alloc, kept)?)),
-        Listing::Classes => Ok(found_reply(classes_json(alloc, kept)?)),
-        Listing::Refs => Ok(found_reply(refs_json(alloc, kept)?)),
-        Listing::Marks => Ok(found_reply(marks_json(alloc, kept)?)),
-        Listing::Rows(wanted) => Ok(found_reply(rows_json(alloc, kept, wanted)?)),
-        Listing::Gone(edit) => Ok(found_reply(gone_json(alloc, kept, *edit)?)),
-        Listing::Log(from) => Ok(sheet_reply(log_bytes(alloc, kept, *from)?)),
-        Listing::LogOfKey(key) => Ok(sheet_reply(log_bytes_of_key(alloc, kept, key)?)),
+        Listing::Routes => Ok(found_reply(routes_json(alloc, most, kept)?)),
+        Listing::Links => Ok(found_reply(links_json(alloc, most, kept)?)),
+        Listing::Classes => Ok(found_reply(classes_json(alloc, most, kept)?)),
+        Listing::Refs => Ok(found_reply(refs_json(alloc, most, kept)?)),
+        Listing::Marks => Ok(found_reply(marks_json(alloc, most, kept)?)),
+        Listing::Rows(wanted) => Ok(found_reply(rows_json(alloc, most, kept, wanted)?)),
+        Listing::Gone(edit) => Ok(found_reply(gone_json(alloc, most, kept, *edit)?)),
+        Listing::Log(from) => Ok(sheet_reply(log_bytes(alloc, most, kept, *from)?)),
+        Listing::LogOfKey(key) => Ok(sheet_reply(log_bytes_of_key(alloc, most, kept, key)?)),
     }
 }

@@ -12,6 +12,7 @@ use crate::answers::{
     at_json, found_json, health_json, lengths_json, link_json, route_json, segments_json,
     totals_json, translated_json, whereabouts_json,
 };
+use crate::bounded::BoundedBytes;
 use crate::listings::listing_reply;
 use crate::reply::{found_reply, refusal, svg_reply};
 use lrs_events::Side;
@@ -22,13 +23,13 @@ use lrs_report_answers::{AskFault, AtAnswer, RouteSegments, Told};
 use lrs_web_requests::Response;
 use std::alloc::{AllocError, Global};
 
-// A vector takes every byte that it is given, unless memory runs out.
-fn diagram_bytes(alloc: Global, diagram: &Diagram) -> Result<Vec<u8>, AllocError>
+// It takes every byte that it is given, unless it has no room for it or memory runs out.
+fn diagram_bytes(alloc: Global, most: usize, diagram: &Diagram) -> Result<Vec<u8>, AllocError>
     ensures { IfOk result (λ bytes. bytes.items ≡ diagram_text diagram.now) }
 {
-    let mut bytes = Vec::new(alloc);
-    match write_diagram(&mut bytes, diagram) {
-        Ok(()) => Ok(bytes),
+    let mut text = BoundedBytes::new(alloc, most);
+    match write_diagram(&mut text, diagram) {
+        Ok(()) => Ok(text.bytes),
         Err(_) => Err(AllocError),
     }
 }
@@ -43,6 +44,7 @@ fn at_reply(alloc: Global, route: &RouteName, found: &AtAnswer) -> Result<Respon
 
 fn segments_reply(
     alloc: Global,
+    most: usize,
     route: &RouteName,
     side: Side,
     segments: RouteSegments<'_>,
@@ -50,7 +52,7 @@ fn segments_reply(
     ensures { IfOk result (λ reply. answer_of reply
         ≡ json_answer 200 (segments_data route.now side segments.entry)) }
 {
-    let bytes = segments_json(alloc, route, side, segments)?;
+    let bytes = segments_json(alloc, most, route, side, segments)?;
     Ok(found_reply(bytes))
 }
 
@@ -80,7 +82,7 @@ fn on_link_reply(
 }
 
 /// The reply to what is told to a question: a diagram as SVG, the log as CSV, and any other answer as JSON.
-fn told_reply(alloc: Global, told: Told<'_>) -> Result<Response, AllocError>
+fn told_reply(alloc: Global, most: usize, told: Told<'_>) -> Result<Response, AllocError>
     ensures { IfOk result (λ reply. ShowsTold told.entry (answer_of reply)) }
 {
     match told {
@@ -91,32 +93,37 @@ fn told_reply(alloc: Global, told: Told<'_>) -> Result<Response, AllocError>
             side,
             segments,
             ..
-        } => segments_reply(alloc, &route, side, segments),
+        } => segments_reply(alloc, most, &route, side, segments),
         Told::Translated { route, position } => translated_reply(alloc, &route, position),
         Told::OnLink {
             route,
             link,
             distance,
         } => on_link_reply(alloc, &route, link, distance),
-        Told::Diagram(diagram) => Ok(svg_reply(diagram_bytes(alloc, &diagram)?)),
+        Told::Diagram(diagram) => Ok(svg_reply(diagram_bytes(alloc, most, &diagram)?)),
         Told::Totals(totals) => Ok(found_reply(totals_json(alloc, totals.as_slice())?)),
         Told::Found(rows) => Ok(found_reply(found_json(alloc, rows.as_slice())?)),
         Told::Where(found) => Ok(found_reply(whereabouts_json(alloc, &found)?)),
         Told::Lengths(rows) => Ok(found_reply(lengths_json(alloc, rows.as_slice())?)),
-        Told::Listing { listing, inventory } => listing_reply(alloc, inventory, &listing),
+        Told::Listing { listing, inventory } => listing_reply(alloc, most, inventory, &listing),
         Told::Health(edits) => Ok(found_reply(health_json(alloc, edits)?)),
     }
 }
 
-/// The reply to what is told to a question: its answer, or why it is refused.
+/// The reply to what is told to a question: its answer, or why it is refused. It is no longer made once it has so many
+/// bytes.
 ///
 /// # Errors
-/// When memory runs out; the reply may be the empty 503 then, too.
-pub fn reply_to(alloc: Global, told: Result<Told<'_>, AskFault>) -> Result<Response, AllocError>
+/// When memory or so many bytes do not suffice; the reply may be the empty 503 then, too.
+pub fn reply_to(
+    alloc: Global,
+    most: usize,
+    told: Result<Told<'_>, AskFault>,
+) -> Result<Response, AllocError>
     ensures { IfOk result (λ reply. IsReplyTo told.entry (answer_of reply)) }
 {
     match told {
-        Ok(told) => told_reply(alloc, told),
+        Ok(told) => told_reply(alloc, most, told),
         Err(fault) => refusal(alloc, fault),
     }
 }

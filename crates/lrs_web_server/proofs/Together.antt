@@ -1,6 +1,7 @@
 -- Visits, and others after them.
 use Rattle.std.proofs.Common.{◌≡◌, ℕ, ◌+◌, List, [], ◌∷◌, ◌++◌, Option, Some, None, IfOk, IfSome, Result, Ok, Err, refl, sym, ap, subst, ◌∙◌, append_assoc, append-nil, length-append, map, arith}
 use Rattle.std.specs.Prelude.{OnErr}
+use Rattle.std.specs.Io.KnownBytes.{Appends}
 use Rattle.std.proofs.lemmas.List.{map-append}
 use Rattle.lrs_machine.specs.Lines.{Text}
 use Rattle.lrs_machine.specs.declared.image.Image.{Image}
@@ -9,6 +10,17 @@ use Rattle.lrs_web.specs.DeskView.{DeskView}
 use Rattle.lrs_web.specs.Visits.{Connection, Exchange, HasVisited, Visited, Visits, back_as, exchange_of, given_as, nobody, full_visit, cut_visit}
 use Rattle.lrs_web.specs.declared.door.Served.{Served}
 use Rattle.lrs_web.proofs.Visiting.{has_visited}
+use Rattle.lrs_web_server.specs.Announcements.{HasSaid, listening_line}
+use Rattle.lrs_web_server.specs.declared.service.ServiceFault.{ServiceFault}
+use Rattle.lrs_web_server.specs.declared.service.ServiceFault.TheVariants.{Port, Door, Write, Desk}
+
+-- a service that listens has said so, however it ends
+pub said_so : (port : ℕ) (r : Result Served ServiceFault) (before after : Option Text) → Appends before after (listening_line port) → (r ≡ Err Port → ⊥) → (r ≡ Err Write → ⊥) → HasSaid port r before after
+said_so port (Ok served) before after said listens says = said
+said_so port (Err Port) before after said listens says = absurd (listens refl)
+said_so port (Err Door) before after said listens says = said
+said_so port (Err Write) before after said listens says = absurd (says refl)
+said_so port (Err Desk) before after said listens says = said
 
 -- ---- connections of the list of a door
 

@@ -6,6 +6,7 @@ use crate::arrival::Behind;
 use crate::departure::{OutgoingReply, Returns, Stage, give_back};
 use crate::journal::JournalEntry;
 use crate::judge::copy_from;
+use lrs_web_requests::write_unavailable;
 use mio::Token;
 use std::alloc::Global;
 use std::io;
@@ -51,25 +52,42 @@ impl Read for RequestReader {
     }
 }
 
+/// How far a reply has been written.
+#[derive(Clone, Copy, PartialEq, Eq)]
+enum Progress {
+    Nothing,
+    /// Its first bytes, its head, are kept, and nothing is sent.
+    Head,
+    /// Some of it has been sent.
+    Begun,
+    /// There was no room for it, and an empty 503 is kept in its place.
+    Refused,
+}
+
 /// Where the reply of a connection is written: the socket takes what it takes at once; the rest is kept, and sent by the
-/// door once it has the writer back.
+/// door once it has the writer back. Where there is no room for a reply, an empty 503 is sent in its place.
 pub struct ReplyWriter<'a> {
     stream: TcpStream,
     token: Token,
     since: Instant,
+    // What is kept, of which so much has been sent; a reply with more bytes than there is room for is refused.
     rest: Vec<u8>,
+    sent: usize,
+    room: usize,
+    progress: Progress,
     has_waited: bool,
     entry: Option<JournalEntry>,
     returns: &'a Returns,
 }
 
 impl<'a> ReplyWriter<'a> {
-    /// Writes to this stream, which the door has back through `returns`.
+    /// Writes a reply of at most so many bytes to this stream, which the door has back through `returns`.
     pub(crate) fn new(
         alloc: Global,
         stream: TcpStream,
         token: Token,
         since: Instant,
+        room: usize,
         entry: Option<JournalEntry>,
         returns: &'a Returns,
     ) -> ReplyWriter<'a> {
@@ -78,6 +96,9 @@ impl<'a> ReplyWriter<'a> {
             token,
             since,
             rest: Vec::new(alloc),
+            sent: 0,
+            room,
+            progress: Progress::Nothing,
             has_waited: false,
             entry,
             returns,
@@ -88,7 +109,7 @@ impl<'a> ReplyWriter<'a> {
     fn write_waiting(&mut self, buf: &[u8]) -> io::Result<usize>
         ensures { IfOk result (λ count. count ≤ length buf.now) }
     {
-        if self.has_waited || !self.rest.is_empty() {
+        if self.has_waited || self.sent < self.rest.len() {
             return Err(io::Error::from(ErrorKind::OutOfMemory));
         }
         self.has_waited = true;
@@ -102,13 +123,36 @@ impl<'a> ReplyWriter<'a> {
     fn write_at_once(&mut self, buf: &[u8]) -> io::Result<usize>
         ensures { IfOk result (λ count. count ≤ length buf.now) }
     {
-        if !self.rest.is_empty() {
+        if self.sent < self.rest.len() {
             return Ok(0);
         }
         match self.stream.write(buf) {
             Err(error) if is_later(error.kind()) => Ok(0),
             outcome => outcome,
         }
+    }
+
+    // Sends what is kept, as far as the socket takes it at once.
+    fn send_kept(&mut self) -> io::Result<()> {
+        let left = self.rest.get(self.sent..).unwrap_or(&[]);
+        match self.stream.write(left) {
+            Ok(count) => self.sent = self.sent.saturating_add(count),
+            Err(error) if is_later(error.kind()) => {}
+            Err(error) => return Err(error),
+        }
+        Ok(())
+    }
+
+    // Puts an empty 503 in the place of a reply of which nothing has been sent.
+    fn refuse(&mut self) -> io::Error {
+        self.progress = Progress::Refused;
+        self.rest.clear();
+        let _ = write_unavailable(&mut self.rest);
+        if let Some(entry) = &mut self.entry {
+            entry.restart();
+            entry.note(self.rest.as_slice());
+        }
+        io::Error::from(ErrorKind::OutOfMemory)
     }
 
     fn write_or_keep(&mut self, buf: &[u8]) -> io::Result<usize>
@@ -124,6 +168,40 @@ impl<'a> ReplyWriter<'a> {
         }
         self.write_waiting(buf)
     }
+
+    // The head is kept until the body comes: only then it is known whether there is room for both.
+    fn write_head(&mut self, buf: &[u8]) -> io::Result<usize>
+        ensures { IfOk result (λ count. count ≤ length buf.now) }
+    {
+        if self.rest.extend_from_slice(buf).is_err() {
+            self.progress = Progress::Begun;
+            return self.write_or_keep(buf);
+        }
+        self.progress = Progress::Head;
+        Ok(buf.len())
+    }
+
+    fn write_body(&mut self, buf: &[u8]) -> io::Result<usize>
+        ensures { IfOk result (λ count. count ≤ length buf.now) }
+    {
+        if self.rest.len().saturating_add(buf.len()) > self.room {
+            return Err(self.refuse());
+        }
+        self.progress = Progress::Begun;
+        self.send_kept()?;
+        self.write_or_keep(buf)
+    }
+
+    fn write_on(&mut self, buf: &[u8]) -> io::Result<usize>
+        ensures { IfOk result (λ count. count ≤ length buf.now) }
+    {
+        match self.progress {
+            Progress::Nothing => self.write_head(buf),
+            Progress::Head => self.write_body(buf),
+            Progress::Begun => self.write_or_keep(buf),
+            Progress::Refused => Err(io::Error::from(ErrorKind::OutOfMemory)),
+        }
+    }
 }
 
 // Whether a socket takes nothing now, and may later.
@@ -133,7 +211,7 @@ fn is_later(kind: ErrorKind) -> bool {
 
 impl<'a> Write for ReplyWriter<'a> {
     fn write(&mut self, buf: &[u8]) -> io::Result<usize> {
-        let count = self.write_or_keep(buf)?;
+        let count = self.write_on(buf)?;
         if let Some(entry) = &mut self.entry {
             entry.note(&buf[..count]);
         }
@@ -152,6 +230,9 @@ impl<'a> Drop for ReplyWriter<'a> {
             token,
             since,
             rest,
+            sent,
+            room: _,
+            progress,
             has_waited: _,
             entry,
             returns,
@@ -160,9 +241,11 @@ impl<'a> Drop for ReplyWriter<'a> {
             stream,
             token,
             rest,
-            sent: 0,
+            sent,
             stage: Stage::Sending,
             until: since,
+            renewed: sent,
+            is_answered: progress != Progress::Nothing,
             is_stirred: true,
             pieces: 0,
             entry,

@@ -8,8 +8,10 @@ use std::io::{ErrorKind, Read, Write};
 use std::net::{Shutdown, TcpStream};
 use std::time::Instant;
 
-// How long a client may take to take its reply, and then to end its side.
+// How long a client may take to take its reply, and each further so many bytes of it; and then to end its side.
 const TAKING_MILLIS: u64 = 4_000;
+
+const RENEWING: usize = 1_048_576;
 
 const ENDING_MILLIS: u64 = 1_000;
 
@@ -40,6 +42,9 @@ pub(crate) struct OutgoingReply {
     pub(crate) sent: usize,
     pub(crate) stage: Stage,
     pub(crate) until: Instant,
+    // How much had been sent when its time was last renewed.
+    pub(crate) renewed: usize,
+    pub(crate) is_answered: bool,
     pub(crate) is_stirred: bool,
     pub(crate) pieces: u32,
     pub(crate) entry: Option<JournalEntry>,
@@ -139,7 +144,9 @@ impl OutgoingReply {
     fn go_on(&mut self, now: Instant) {
         self.is_stirred = false;
         if self.stage == Stage::Sending {
-            match send(&mut self.stream, self.rest.as_slice(), &mut self.sent) {
+            let turn = send(&mut self.stream, self.rest.as_slice(), &mut self.sent);
+            self.renew(now);
+            match turn {
                 Turn::Done => self.end(now),
                 Turn::Waits => {}
                 Turn::Goes => self.is_stirred = true,
@@ -151,6 +158,14 @@ impl OutgoingReply {
                 Turn::Waits => {}
                 Turn::Done | Turn::Goes | Turn::Failed => self.stage = Stage::Over,
             }
+        }
+    }
+
+    // A client that goes on taking its reply has more time.
+    fn renew(&mut self, now: Instant) {
+        if self.sent.saturating_sub(self.renewed) >= RENEWING {
+            self.renewed = self.sent;
+            self.until = later(now, TAKING_MILLIS);
         }
     }
 

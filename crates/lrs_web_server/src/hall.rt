@@ -8,6 +8,8 @@ use crate::connection::{ReplyWriter, RequestReader};
 use crate::deadlines::later;
 use crate::departure::{OutgoingReply, Returns, Stage, returned};
 use crate::journal::JournalEntry;
+use crate::journal_outlet::JournalOutlet;
+use lrs_web::Served;
 use mio::net::TcpListener;
 use mio::{Events, Interest, Poll, Token};
 use std::alloc::Global;
@@ -19,10 +21,13 @@ use std::time::{Clock, Duration, Instant};
 // So many connections wait with requests that are not whole. Where one more comes, the oldest of them gives way.
 const MOST_ARRIVALS: usize = 256;
 
-// So many wait with replies that are not sent, and keep so many bytes. Beyond that the oldest give way.
+// So many replies wait to be sent, and keep so many bytes beside the largest. Where there is no room, a new one that is not
+// small is refused: none that is being taken is cut for it.
 const MOST_DEPARTURES: usize = 256;
 
 const MOST_KEPT: usize = 67_108_864;
+
+const SMALL: usize = 65_536;
 
 // So many connections are accepted in a row before others have their turn, and so many in a row may have ended before
 // they were taken.
@@ -74,7 +79,7 @@ pub(crate) struct WaitingRoom<'a> {
     may_come: bool,
     pause: Option<Pause>,
     next: usize,
-    logs: bool,
+    outlet: Option<JournalOutlet>,
     ghost few: { vec_len arrivals ≤ most_arrivals },
 }
 
@@ -160,38 +165,58 @@ fn first_whole(arrivals: &[IncomingRequest]) -> Option<usize>
     }
 }
 
-// How many bytes of replies are kept.
-fn kept(departures: &[OutgoingReply]) -> usize {
-    let mut bytes = 0usize;
-    for departure in departures {
-        bytes = bytes.saturating_add(departure.rest.len());
-    }
-    bytes
-}
-
-// The oldest of too many, and of those that keep too much, give way; the newest does not.
+// Of too many the oldest give way whose replies have been sent.
 fn trim(departures: &mut [OutgoingReply]) {
     let mut excess = departures.len().saturating_sub(MOST_DEPARTURES);
-    let mut bytes = kept(departures);
-    if let Some((_newest, older)) = departures.split_last_mut() {
-        for departure in older.iter_mut() {
-            if excess == 0 && bytes <= MOST_KEPT {
-                return;
-            }
+    for departure in departures.iter_mut() {
+        if excess == 0 {
+            return;
+        }
+        if departure.stage == Stage::Ending {
             excess = excess.saturating_sub(1);
-            bytes = bytes.saturating_sub(departure.rest.len());
             departure.cut();
         }
     }
 }
 
-// Writes the lines of those whose replies have been sent or cut.
-fn tell<R: Clock + Eprint>(rt: &R, departures: &mut [OutgoingReply], now: Instant) {
-    for departure in departures.iter_mut() {
-        if let Some(entry) = departure.take_entry() {
-            entry.say(rt, now);
+// How many bytes a new reply may have, beside those that are being sent. The largest of all has no limit.
+fn room(departures: &[OutgoingReply]) -> usize {
+    let mut count = 0usize;
+    let mut bytes = 0usize;
+    let mut largest = 0;
+    for departure in departures {
+        if departure.stage == Stage::Sending {
+            count = count.saturating_add(1);
+            bytes = bytes.saturating_add(departure.rest.len());
+            largest = departure.rest.len().max(largest);
         }
     }
+    if count >= MOST_DEPARTURES {
+        return SMALL;
+    }
+    if bytes <= MOST_KEPT {
+        return usize::MAX;
+    }
+    let smaller = bytes.saturating_sub(largest);
+    MOST_KEPT.saturating_sub(smaller).max(SMALL)
+}
+
+// Writes the lines of those whose replies have been sent or cut.
+fn tell<R: Clock + Eprint>(
+    rt: &R,
+    outlet: &mut Option<JournalOutlet>,
+    departures: &mut [OutgoingReply],
+    now: Instant,
+) {
+    let Some(outlet) = outlet else {
+        return;
+    };
+    for departure in departures.iter_mut() {
+        if let Some(entry) = departure.take_entry() {
+            entry.say(rt, outlet, now);
+        }
+    }
+    outlet.tell_lost(rt);
 }
 
 fn advance_arrivals(arrivals: &mut [IncomingRequest], alloc: Global, now: Instant) {
@@ -206,14 +231,27 @@ fn advance_departures(departures: &mut [OutgoingReply], now: Instant) {
     }
 }
 
-// Where one more has come than may wait, and none can be served, the oldest gives way.
-fn give_way(arrivals: &mut [IncomingRequest], now: Instant) {
-    if arrivals.len() > MOST_ARRIVALS
-        && first_whole(arrivals).is_none()
-        && let Some(oldest) = arrivals.first_mut()
-    {
-        oldest.settle(Behind::Late, now);
+// Where none can be served, the oldest gives way; whether one does.
+fn give_way(arrivals: &mut [IncomingRequest], now: Instant) -> bool {
+    if first_whole(arrivals).is_some() {
+        return false;
     }
+    match arrivals.first_mut() {
+        Some(oldest) => {
+            oldest.settle(Behind::Late, now);
+            true
+        }
+        None => false,
+    }
+}
+
+// Lines go to standard error, where they are wanted.
+fn outlet_of<R: Net>(rt: &R, alloc: Global, logs: bool) -> io::Result<Option<JournalOutlet>> {
+    if !logs {
+        return Ok(None);
+    }
+    let outlet = JournalOutlet::open(rt, alloc)?;
+    Ok(Some(outlet))
 }
 
 // How long nothing is due.
@@ -236,7 +274,8 @@ fn leisure(arrivals: &[IncomingRequest], departures: &[OutgoingReply], now: Inst
 }
 
 impl<'a> WaitingRoom<'a> {
-    /// Listens at an address, to so many connections, which it has back through `returns`.
+    /// Listens at an address, to so many connections, which it has back through `returns`, and writes a line of each where
+    /// that is wanted.
     pub(crate) fn open<R: Net>(
         rt: &R,
         alloc: Global,
@@ -245,6 +284,7 @@ impl<'a> WaitingRoom<'a> {
         logs: bool,
         returns: &'a Returns,
     ) -> io::Result<WaitingRoom<'a>> {
+        let outlet = outlet_of(rt, alloc, logs)?;
         let poll = Poll::new(rt)?;
         let mut listener = TcpListener::bind(rt, address)?;
         poll.registry()
@@ -261,7 +301,7 @@ impl<'a> WaitingRoom<'a> {
             may_come: true,
             pause: None,
             next: 0,
-            logs,
+            outlet,
         })
     }
 
@@ -334,6 +374,9 @@ impl<'a> WaitingRoom<'a> {
                 return;
             };
             departure.begin(now);
+            if self.pause.is_some() && !departure.is_answered {
+                departure.cut();
+            }
             let _ = self.departures.push(departure);
         }
     }
@@ -364,10 +407,9 @@ impl<'a> WaitingRoom<'a> {
 
     // Replies go on as far as they are taken.
     fn send<R: Clock + Eprint>(&mut self, rt: &R, now: Instant) {
-        self.take_back(now);
         trim(self.departures.as_mut_slice());
         advance_departures(self.departures.as_mut_slice(), now);
-        tell(rt, self.departures.as_mut_slice(), now);
+        tell(rt, &mut self.outlet, self.departures.as_mut_slice(), now);
         self.departures
             .retain(|departure| departure.stage != Stage::Over);
     }
@@ -376,8 +418,20 @@ impl<'a> WaitingRoom<'a> {
     fn receive(&mut self, now: Instant) -> io::Result<()> {
         self.accept(now)?;
         advance_arrivals(self.arrivals.as_mut_slice(), self.alloc, now);
-        give_way(self.arrivals.as_mut_slice(), now);
+        self.make_way(now);
         Ok(())
+    }
+
+    // Where one more has come than may wait, or descriptors are missing for one more, the oldest gives way, and one is
+    // accepted in its place at once.
+    fn make_way(&mut self, now: Instant) {
+        let is_full = self.arrivals.len() > MOST_ARRIVALS || self.pause.is_some();
+        if is_full
+            && give_way(self.arrivals.as_mut_slice(), now)
+            && let Some(pause) = &mut self.pause
+        {
+            pause.again = now;
+        }
     }
 
     // The connection whose request has been whole for longest.
@@ -388,7 +442,7 @@ impl<'a> WaitingRoom<'a> {
             behind: Behind::Failure,
             since: arrival.until,
         });
-        let entry = if self.logs {
+        let entry = if self.outlet.is_some() {
             JournalEntry::new(self.alloc, arrival.bytes.as_slice(), whole.since)
         } else {
             None
@@ -399,15 +453,17 @@ impl<'a> WaitingRoom<'a> {
             arrival.stream,
             arrival.token,
             whole.since,
+            room(self.departures.as_slice()),
             entry,
             self.returns,
         );
         Some((reader, writer))
     }
 
-    // Goes once round: what was served is sent, and what waits is looked at.
+    // Goes once round: what was served is sent, and what waits is looked at. What clients did meanwhile is known before any of
+    // them is late.
     fn turn<R: Clock + Eprint>(&mut self, rt: &R) -> io::Result<()> {
-        self.send(rt, Instant::now(rt)?);
+        self.take_back(Instant::now(rt)?);
         self.wait(rt)?;
         let now = Instant::now(rt)?;
         self.send(rt, now);
@@ -442,12 +498,20 @@ impl<'a> WaitingRoom<'a> {
         self.arrivals.clear();
         self.left = 0;
         for _turn in 0..u64::MAX {
-            self.send(rt, Instant::now(rt)?);
+            self.take_back(Instant::now(rt)?);
             if self.departures.is_empty() {
                 return Ok(());
             }
             self.wait(rt)?;
+            self.send(rt, Instant::now(rt)?);
         }
         Ok(())
+    }
+
+    /// Says how many were served in full and how many were cut off, where lines are wanted.
+    pub(crate) fn conclude<R: Eprint>(&mut self, rt: &R, served: Served) {
+        if let Some(outlet) = &mut self.outlet {
+            outlet.conclude(rt, served);
+        }
     }
 }

@@ -2,6 +2,7 @@
 
 ghost use Rattle.std.specs.Prelude.{◌≤◌};
 
+use crate::journal_outlet::JournalOutlet;
 use jiff::Timestamp;
 use std::alloc::Global;
 use std::fmt;
@@ -104,14 +105,23 @@ impl JournalEntry {
         self.bytes = self.bytes.saturating_add(written.len() as u64);
     }
 
+    /// Nothing of what was noted is sent: another reply is in its place.
+    pub(crate) fn restart(&mut self) {
+        self.status = None;
+        self.bytes = 0;
+    }
+
     /// Of the bytes that were noted, so many were never sent.
     pub(crate) fn lose(&mut self, unsent: usize) {
         self.bytes = self.bytes.saturating_sub(unsent as u64);
     }
 
-    /// Writes the line on standard error: the time, the method, the target, the status, the bytes of the reply, and the
-    /// microseconds from the whole request to the written reply. Nothing comes of a failure.
-    pub(crate) fn say<R: Clock + Eprint>(&self, rt: &R, now: Instant) {
+    /// Writes the line where it is taken at once: the time, the method, the target, the status, the bytes of the reply, and
+    /// the microseconds from the whole request to the written reply. Nothing comes of a failure.
+    pub(crate) fn say<R: Clock + Eprint>(&self, rt: &R, outlet: &mut JournalOutlet, now: Instant) {
+        if !outlet.admits(rt) {
+            return;
+        }
         let (method, rest) = split_word(self.asked.as_slice());
         let (target, _) = split_word(rest);
         let (method, target) = (Word(method), Word(target));

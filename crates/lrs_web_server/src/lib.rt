@@ -7,6 +7,7 @@ mod deadlines;
 mod departure;
 mod hall;
 mod journal;
+mod journal_outlet;
 mod judge;
 mod listener;
 mod service;

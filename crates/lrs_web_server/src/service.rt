@@ -4,7 +4,7 @@ ghost use Rattle.std.specs.Prelude.{ℕ, ◌≡◌, ◌+◌, IfOk, OnErr, OnOk, 
 ghost use Rattle.std.specs.Io.KnownBytes.{Appends};
 ghost use Rattle.lrs_web.specs.Door.{HasRisen};
 ghost use Rattle.lrs_web.specs.Visits.{HasVisited, Visited};
-ghost use Rattle.lrs_web_server.specs.Announcements.{listening_line};
+ghost use Rattle.lrs_web_server.specs.Announcements.{HasSaid, listening_line};
 
 use crate::hall::WaitingRoom;
 use crate::listener::Listening;
@@ -23,12 +23,16 @@ pub struct ServiceOptions {
     pub logs: bool,
     /// The service ends once a commit has failed, so that the desk is opened anew.
     pub ends_on_fault: bool,
+    /// The body of a reply has at most so many bytes. One that would have more is an empty 503.
+    pub most_reply: usize,
 }
 
 /// Why a service ended before its last connection.
 #[derive(Clone, Copy, PartialEq, Eq)]
 pub enum ServiceFault {
-    /// The port cannot be listened on, or gives no connections any more.
+    /// The port cannot be listened on. Nothing is said, and nobody is served.
+    Port,
+    /// The port gives no connections any more.
     Door,
     /// It was not said that it listens, and nobody is served.
     Write,
@@ -78,7 +82,8 @@ fn serve_each<D: Door, K: Keeper>(
     ensures desk { result ≡ Err ServiceFault.Desk → desk.new.must_reopen ≡ true }
     ensures open { IfOk result (λ _. ends_on_fault ≡ true → desk.new.must_reopen ≡ false) }
     ensures never { ends_on_fault ≡ false → result ≡ Err ServiceFault.Desk → ⊥ }
-    ensures other { result ≡ Err ServiceFault.Write → ⊥ }
+    ensures listens { result ≡ Err ServiceFault.Port → ⊥ }
+    ensures says { result ≡ Err ServiceFault.Write → ⊥ }
 {
     let mut full = 0;
     let mut cut = 0;
@@ -100,14 +105,48 @@ fn serve_each<D: Door, K: Keeper>(
     Ok(Served { full, cut })
 }
 
+// How many were served, where all were.
+fn served_of(outcome: &Result<Served, ServiceFault>) -> Option<Served> {
+    match outcome {
+        Ok(served) => Some(*served),
+        Err(_) => None,
+    }
+}
+
+// Serves those who come to a hall, as `serve_each` does, and then sends the replies that are left.
+fn serve_hall<'a, R: Runtime<A = Global>, K: Keeper>(
+    rt: &'a R,
+    hall: WaitingRoom<'a>,
+    desk: &mut Desk<K>,
+    max: u32,
+    manner: ServiceOptions,
+) -> Result<Served, ServiceFault>
+    ensures count { IfOk result (λ served. served.full + served.cut ≡ max) }
+    ensures visited { IfOk result (λ served.
+        HasVisited K.may_hold served.full served.cut desk.old desk.new) }
+    ensures stopped { OnErr result ((full : ℕ) × (cut : ℕ)
+        × HasVisited K.may_hold full cut desk.old desk.new) }
+    ensures desk { result ≡ Err ServiceFault.Desk → desk.new.must_reopen ≡ true }
+    ensures open { IfOk result (λ _. manner.ends_on_fault ≡ true → desk.new.must_reopen ≡ false) }
+    ensures never { manner.ends_on_fault ≡ false → result ≡ Err ServiceFault.Desk → ⊥ }
+    ensures listens { result ≡ Err ServiceFault.Port → ⊥ }
+    ensures says { result ≡ Err ServiceFault.Write → ⊥ }
+{
+    let mut door = Listening::new(hall, rt, manner.most_reply);
+    let outcome = serve_each(rt.alloc(), &mut door, desk, max, manner.ends_on_fault);
+    door.finish(served_of(&outcome));
+    outcome
+}
+
 /// Listens on a port of 127.0.0.1, says so to `to`, and serves a number of connections at a desk, one after
 /// another as their requests are whole. Before it ends, the replies that are left are sent as far as their clients take
 /// them in time.
 ///
 /// # Errors
-/// `Door` where the port cannot be listened on, and then nothing is said; or where it fails later, when the connections
-/// before are served. `Write` where `to` takes nothing, and nobody is served. `Desk` once a commit has failed, where the service is
-/// to end then.
+/// `Port` where the port cannot be listened on: nothing is said, and nobody is served. `Door` where it fails later; the
+/// connections before are served. `Write` where `to` takes nothing, and nobody is served. `Desk` once a commit has failed,
+/// where the service is to end then.
+#[tactic(auto, using(crate::proofs::Together::said_so))]
 pub fn serve<R: Runtime<A = Global> + Net, K: Keeper, W: Write>(
     rt: &R,
     port: u16,
@@ -116,8 +155,8 @@ pub fn serve<R: Runtime<A = Global> + Net, K: Keeper, W: Write>(
     desk: &mut Desk<K>,
     to: &mut W,
 ) -> Result<Served, ServiceFault>
-    ensures said { IfOk result (λ _. Appends (W.contents to.old) (W.contents to.new)
-        (listening_line port)) }
+    ensures said { HasSaid port result (W.contents to.old) (W.contents to.new) }
+    ensures nobody { result ≡ Err ServiceFault.Port → desk.new ≡ desk.old }
     ensures silent { result ≡ Err ServiceFault.Write → desk.new ≡ desk.old }
     ensures count { IfOk result (λ served. served.full + served.cut ≡ max) }
     ensures visited { IfOk result (λ served.
@@ -130,17 +169,14 @@ pub fn serve<R: Runtime<A = Global> + Net, K: Keeper, W: Write>(
 {
     let address = SocketAddr::V4(SocketAddrV4::new(Ipv4Addr::LOCALHOST, port));
     let Ok(room) = Vec::with_capacity(rt.alloc(), 1) else {
-        return Err(ServiceFault::Door);
+        return Err(ServiceFault::Port);
     };
     let returns = RefCell::new(room);
     let Ok(hall) = WaitingRoom::open(rt, rt.alloc(), address, max, manner.logs, &returns) else {
-        return Err(ServiceFault::Door);
+        return Err(ServiceFault::Port);
     };
     if say(to, port).is_err() {
         return Err(ServiceFault::Write);
     }
-    let mut door = Listening::new(hall, rt);
-    let outcome = serve_each(rt.alloc(), &mut door, desk, max, manner.ends_on_fault);
-    door.finish();
-    outcome
+    serve_hall(rt, hall, desk, max, manner)
 }

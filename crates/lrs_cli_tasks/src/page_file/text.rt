@@ -99,9 +99,8 @@ const CAUSES = {
   NoLink: "there is no link of this number", NoMark: "the route has no mark at this place", NoRef: "the referent is not on this route",
   NoRoute: "there is no route of this name", NotExclusive: "the class is not exclusive", NothingLeft: "nothing would be left of the route",
   OffRoute: "the position is not on the route", Overlap: "asset % of this class lies there", RefKnown: "there is a referent of this name",
-  RepeatedKey: "two records of the sheet have one key, so it does not go on; nothing was done",
-  RouteKnown: "there is a route of this name", SameRoute: "the two routes are one", SideB: "a single side is wanted",
-  Taken: "ground of piece % (the first is 0) is on a route, or twice on this one",
+  RepeatedKey: "two records have one key, and nothing was done", RouteKnown: "there is a route of this name",
+  SameRoute: "the two routes are one", SideB: "a single side is wanted", Taken: "ground of piece % (the first is 0) is on a route, or twice on this one",
   TooFine: "the position is too fine: its denominator is too large", TooLong: "the route would be too long",
   TooMany: "the inventory has as many % as it can have", WrongKind: "the class is of another kind",
 };

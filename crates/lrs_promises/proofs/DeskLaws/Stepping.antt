@@ -174,9 +174,9 @@ module _ {K : Type 0} (holds : K → Result Image Table → Type 0) (limits : Li
           )
 
   -- those in flight: what is found is the state before them, or after all of them
-  broken : (failures : K → ℕ) (old new : DeskView K) (records : List Record) → old.must_reopen ≡ false → new.limits ≡ old.limits
-      → BreaksAmid holds failures records old new → InRun xs old → (steps : List Step) × AreInFlight records steps × InRun (xs ++ steps) new
-  broken failures old new records open_then same b h = (
+  broken : (old new : DeskView K) (records : List Record) → old.must_reopen ≡ false → new.limits ≡ old.limits
+      → BreaksAmid holds records old new → InRun xs old → (steps : List Step) × AreInFlight records steps × InRun (xs ++ steps) new
+  broken old new records open_then same b h = (
     steps,
     record { front = front; last = p.last; behind = p.behind; sent = p.all; step = refl },
     in_flight old new front p.last open_then same accepted b.must_reopen h content,
@@ -201,9 +201,9 @@ module _ {K : Type 0} (holds : K → Result Image Table → Type 0) (limits : Li
       content c may = subst (λ (rs : List Record). IsOldOrNext old.limits rs old.image c) (ap (λ n. take n records) one_more ∙ p.first) (b.content c may)
 
   -- a command in flight alone
-  broken_alone : (failures : K → ℕ) (old new : DeskView K) (r : Record) → old.must_reopen ≡ false → new.limits ≡ old.limits
-      → HasBroken holds failures r.key r.command old new → InRun xs old → InRun (xs ++ StopWithin [] r ∷ []) new
-  broken_alone failures old new r open_then same b h = in_flight old new [] r open_then same tt b.must_reopen h b.content
+  broken_alone : (old new : DeskView K) (r : Record) → old.must_reopen ≡ false → new.limits ≡ old.limits
+      → HasBroken holds r.key r.command old new → InRun xs old → InRun (xs ++ StopWithin [] r ∷ []) new
+  broken_alone old new r open_then same b h = in_flight old new [] r open_then same tt b.must_reopen h b.content
 
   done_alone : (old new : DeskView K) (r : Record) (a : Answer) → old.must_reopen ≡ false → new.must_reopen ≡ false → new.limits ≡ old.limits
       → a ≡ (step_record old.limits r (state_of old.image)).answer → state_of new.image ≡ (step_record old.limits r (state_of old.image)).state → HoldsOnly (holds new.keeper) new.image
@@ -217,41 +217,41 @@ module _ {K : Type 0} (holds : K → Result Image Table → Type 0) (limits : Li
       (last, record { known = s; acts_on = refl; answered = said ∙ ap (λ (l : Limits). (step_record l r s).answer) h.limits_are; stored = next; desk = ap Some next }, refl))
 
   -- Whatever a desk answers to a command, it is a step.
-  pub act_is_step : (failures : K → ℕ) (old new : DeskView K) (r : Record) (result : Result Answer Fault)
+  pub act_is_step : (old new : DeskView K) (r : Record) (result : Result Answer Fault)
       → IfOk result (λ a. a ≡ (step_record old.limits r (state_of old.image)).answer)
       → OnOk result (state_of new.image ≡ (step_record old.limits r (state_of old.image)).state)
       → OnOk result (HoldsOnly (holds new.keeper) new.image)
       → (result ≡ Err Memory → IsUnchanged holds old new)
-      → (result ≡ Err Keep → HasBroken holds failures r.key r.command old new)
+      → (result ≡ Err Keep → HasBroken holds r.key r.command old new)
       → ((result ≡ Err MustReopen) ↔ IsTrue old.must_reopen)
       → (result ≡ Err MustReopen → IsUnchanged holds old new)
       → new.limits ≡ old.limits
       → OnOk result (new.must_reopen ≡ false)
       → InRun xs old → InRun (xs ++ step_of r result ∷ []) new
-  act_is_step failures old new r (Ok a) said goes only memory keep reopen stays same open_now h =
+  act_is_step old new r (Ok a) said goes only memory keep reopen stays same open_now h =
       done_alone old new r a (still_open old.must_reopen (λ t. an_answer_is_no_fault a (reopen.1 t))) open_now same said goes only h
-  act_is_step failures old new r (Err Memory) said goes only memory keep reopen stays same open_now h = unchanged old new (r ∷ []) same (memory refl) h
-  act_is_step failures old new r (Err Keep) said goes only memory keep reopen stays same open_now h =
-      broken_alone failures old new r (still_open old.must_reopen (λ t. no_failure_is_a_reopening (reopen.1 t))) same (keep refl) h
-  act_is_step failures old new r (Err MustReopen) said goes only memory keep reopen stays same open_now h = unchanged old new (r ∷ []) same (stays refl) h
+  act_is_step old new r (Err Memory) said goes only memory keep reopen stays same open_now h = unchanged old new (r ∷ []) same (memory refl) h
+  act_is_step old new r (Err Keep) said goes only memory keep reopen stays same open_now h =
+      broken_alone old new r (still_open old.must_reopen (λ t. no_failure_is_a_reopening (reopen.1 t))) same (keep refl) h
+  act_is_step old new r (Err MustReopen) said goes only memory keep reopen stays same open_now h = unchanged old new (r ∷ []) same (stays refl) h
 
   -- Whatever a desk answers to commands, they are steps.
-  pub acts_are_steps : (failures : K → ℕ) (old new : DeskView K) (records : List Record) (result : Result FirstAnswers Fault)
+  pub acts_are_steps : (old new : DeskView K) (records : List Record) (result : Result FirstAnswers Fault)
       → IfOk result (λ done. DoesFirst old.limits records (state_of old.image) (state_of new.image) done.answers.items)
       → OnOk result (HoldsOnly (holds new.keeper) new.image)
       → (result ≡ Err Memory → IsUnchanged holds old new)
-      → (result ≡ Err Keep → BreaksAmid holds failures records old new)
+      → (result ≡ Err Keep → BreaksAmid holds records old new)
       → ((result ≡ Err MustReopen) ↔ IsTrue old.must_reopen)
       → (result ≡ Err MustReopen → IsUnchanged holds old new)
       → new.limits ≡ old.limits
       → OnOk result (new.must_reopen ≡ false)
       → InRun xs old → (steps : List Step) × AreStepsOf records result steps × InRun (xs ++ steps) new
-  acts_are_steps failures old new records (Ok given) does only memory keep reopen stays same open_now h =
+  acts_are_steps old new records (Ok given) does only memory keep reopen stays same open_now h =
       answered old new records given.answers.items (still_open old.must_reopen (λ t. answers_are_no_fault given (reopen.1 t))) open_now same does only h
-  acts_are_steps failures old new records (Err Memory) does only memory keep reopen stays same open_now h = (map Unserved records, refl, unchanged old new records same (memory refl) h)
-  acts_are_steps failures old new records (Err Keep) does only memory keep reopen stays same open_now h =
-      broken failures old new records (still_open old.must_reopen (λ t. faults_differ (reopen.1 t))) same (keep refl) h
-  acts_are_steps failures old new records (Err MustReopen) does only memory keep reopen stays same open_now h = (map Unserved records, refl, unchanged old new records same (stays refl) h)
+  acts_are_steps old new records (Err Memory) does only memory keep reopen stays same open_now h = (map Unserved records, refl, unchanged old new records same (memory refl) h)
+  acts_are_steps old new records (Err Keep) does only memory keep reopen stays same open_now h =
+      broken old new records (still_open old.must_reopen (λ t. faults_differ (reopen.1 t))) same (keep refl) h
+  acts_are_steps old new records (Err MustReopen) does only memory keep reopen stays same open_now h = (map Unserved records, refl, unchanged old new records same (stays refl) h)
 
   -- What an opening finds is stored, and a desk acts on it.
   pub open_is_step : (may : Result Image Table → Type 0) (d : DeskView K) (c : Result Image Table) → IsAtRest limits start xs may → holds d.keeper c

@@ -14,4 +14,4 @@ returns-in-Ok g c = inr (record {
     handed_ok _ c.cleared.result c.open_desk.result c.in-Ok.desk c.cleared.ensures c.in-Ok.is c.open_desk.ensures.opened,
   );
   worked = c.do_and_close.ensures.1;
-})
+}, c.do_and_close.ensures.2)

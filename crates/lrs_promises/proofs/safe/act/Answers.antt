@@ -14,5 +14,6 @@ returns g c =
       stays = e.stays;
       same = e.same;
       found = e.found;
+      counts = e.counts;
       limits = e.limits;
     }

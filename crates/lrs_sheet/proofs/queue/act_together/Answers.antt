@@ -8,7 +8,7 @@ pub returns-in_err-done-clause-stops : goal.returns-in_err-done-clause-stops
 returns-in_err-done-clause-stops g c =
     let p = err_from_is_err_and c.from_residual.result c.from_residual.ensures.1 in
     rw (p.1, p.2)
-    (stops_together g.K.Holder.may_hold g.K.Holder.failures c.args.desk.now c.act_on_first.new.self c.args.commands.now (g.W.Write.contents c.args.writer.now) c.in_err-done.field-0.0 c.requires.several
+    (stops_together g.K.Holder.may_hold c.args.desk.now c.act_on_first.new.self c.args.commands.now (g.W.Write.contents c.args.writer.now) c.in_err-done.field-0.0 c.requires.several
     (λ e. c.in_err-done.ensures.memory (ap Err e)) (λ e. c.in_err-done.ensures.keep (ap Err e)) (λ e. c.in_err-done.ensures.stays (ap Err e)))
 
 pub returns-in_err-write_answers-clause-stops : goal.returns-in_err-write_answers-clause-stops

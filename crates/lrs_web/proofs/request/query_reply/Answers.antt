@@ -1,5 +1,5 @@
-use Rattle.std.proofs.Common.{inl}
+use Rattle.lrs_web.proofs.Asking.{given_way}
 use Rattle.lrs_web.proofs.request.query_reply.Goals as goal
 
 pub returns-in-Ok-clause-answered : goal.returns-in-Ok-clause-answered
-returns-in-Ok-clause-answered g c = inl c.in-Ok.ensures
+returns-in-Ok-clause-answered g c = given_way _ _ _ _ _ c.in-Ok.ensures c.limited.ensures

@@ -1,6 +1,5 @@
 use Rattle.std.proofs.Common.{[], refl}
 use Rattle.lrs_web.specs.Visits.{nobody}
-use Rattle.lrs_web_server.proofs.Together.{ended_so, stopped_so}
 use Rattle.lrs_web_server.proofs.service.serve.Goals as goal
 
 -- nobody was served
@@ -13,11 +12,3 @@ returns-in_default-open-clause-stopped g c = (0, 0, ([], refl, nobody _))
 
 pub returns-then-is_err-clause-stopped : goal.returns-then-is_err-clause-stopped
 returns-then-is_err-clause-stopped g c = (0, 0, ([], refl, nobody _))
-
--- the connections of the port were
-
-pub returns-clause-visited : goal.returns-clause-visited
-returns-clause-visited g c = ended_so _ _ _ _ _ _ _ _ _ c.serve_each-outcome.result c.serve_each-outcome.ensures.visited
-
-pub returns-clause-stopped : goal.returns-clause-stopped
-returns-clause-stopped g c = stopped_so _ _ _ _ _ _ _ _ _ c.serve_each-outcome.result c.serve_each-outcome.ensures.stopped

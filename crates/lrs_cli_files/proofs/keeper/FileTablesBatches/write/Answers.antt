@@ -3,7 +3,7 @@ use Rattle.lrs_cli_files.proofs.keeper.FileTablesBatches.write.Goals as goal
 
 -- what was written is kept, and the tables are given up
 pub returns-in-Ok-2-clause-keeps : goal.returns-in-Ok-2-clause-keeps
-returns-in-Ok-2-clause-keeps c =
+returns-in-Ok-2-clause-keeps g c =
     let keeps = c.in-Ok-2.ensures.keeps in
     record {
       ok = tt;

@@ -1,4 +1,4 @@
-use Rattle.std.proofs.Common.{◌≡◌, ℕ, ◌+◌, true, false, [], ◌∷◌, length, Err, IfOk, OnOk, OnErr, ap, sym, subst, rules, ◌∙◌}
+use Rattle.std.proofs.Common.{◌≡◌, ◌≤◌, ℕ, ◌+◌, true, false, [], ◌∷◌, length, Err, IfOk, OnOk, OnErr, ap, sym, subst, rules, ◌∙◌}
 use Rattle.std.proofs.lemmas.Bool.{false≢true}
 use Rattle.lrs_machine.specs.declared.answer.Answer.{Answer}
 use Rattle.lrs_machine.specs.declared.answer.Answer.TheVariants.{Done}
@@ -57,8 +57,9 @@ returns-after-matches g c =
             (old_or_next c.self.inside.limits key command i plan edit d same found (is.keeps.either e found h));
         must_reopen = search rules;
         is_ahead = c.self.invariant.behind c.if-self.false;
-        cause = subst (λ (v : DeskView g.row.K.Denot). HasRisen (g.K.Holder.failures v.keeper) (g.K.Holder.failures new.keeper)) seen (is.keeps.cause e);
+        cause = subst (λ (v : DeskView g.row.K.Denot). HasRisen v.failures (g.K.Holder.failures new.keeper)) seen (is.keeps.cause e);
       };
+      counts = subst (λ (v : DeskView g.row.K.Denot). v.failures ≤ g.K.Holder.failures new.keeper) seen is.keeps.counts;
       reopen = (λ e. absurd (is.only e), λ yes. absurd (false≢true (sym c.if-self.false ∙ ap (λ (v : DeskView g.row.K.Denot). v.must_reopen) seen ∙ yes)));
       stays = λ e. absurd (is.only e);
       same = λ e. absurd (is.only e);

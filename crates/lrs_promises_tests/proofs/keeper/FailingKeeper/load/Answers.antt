@@ -11,6 +11,7 @@ returns-clause-loads c = record {
   sound = tt;
   loaded = tt;
   unsound = λ t e. absurd (cc e);
+  named = λ t e. absurd (cc e);
   store = grind (arith, common_steps);
   quiet = grind (arith, common_steps);
   counts = grind (arith, common_steps);

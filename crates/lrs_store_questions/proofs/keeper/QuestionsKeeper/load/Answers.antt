@@ -13,6 +13,7 @@ returns-in-Err-clause-loads g c =
       sound = tt;
       loaded = tt;
       unsound = λ t e x may. told_only view recovers store x (Err t) (c.read_image.ensures.there (Err t) (subst (λ r. Says r (Err t)) (sym (c.in-Err.is ∙ e)) refl)) may;
+      named = λ t e. c.read_image.ensures.named t (c.in-Err.is ∙ e);
       store = λ e. c.failures_after-self.ensures.store (cc e);
       quiet = λ other. c.failures_after-self.ensures.quiet (λ e. other (ap Err e));
       counts = c.failures_after-self.ensures.counts;

@@ -1,0 +1,76 @@
+//! What is wrong with a sheet that cannot be read on.
+
+use crate::job_texts::{sheet_kind, sheet_of, wanted_header};
+use crate::lines::{say, say_of};
+use crate::shown::shown;
+use crate::spreadsheet::{first_line, trace_in};
+use lrs_cli_words::Job;
+use lrs_sheet_advice::{SheetFlaw, write_fault_advice};
+use lrs_sheet_records::Sheet;
+use std::fs;
+use std::rt::HostRuntime;
+
+// A larger sheet is not read again.
+const MOST_BYTES: u64 = 1 << 28;
+
+// The bytes of a sheet that is in a file, which can be read once more.
+fn bytes_of(rt: &HostRuntime, sheet: &str) -> Option<Vec<u8>> {
+    let found = fs::metadata(rt, sheet).ok()?;
+    if sheet == "stdin" || !found.is_file() || found.len() > MOST_BYTES {
+        return None;
+    }
+    fs::read(rt, sheet).ok()
+}
+
+// Says which line of a sheet is wrong, what stands there and what is wanted.
+fn tell_line(
+    rt: &HostRuntime,
+    sheet: &str,
+    kind: Sheet,
+    flaw: SheetFlaw,
+    text: &[u8],
+) -> Option<()> {
+    let mut said = Vec::new(rt.alloc());
+    write_fault_advice(rt.alloc(), &mut said, flaw, kind, text).ok()?;
+    let line = str::from_utf8(said.as_slice()).ok()?;
+    say_of(rt, sheet, line.trim());
+    Some(())
+}
+
+// The same of the header of a sheet of questions.
+fn tell_question_header(rt: &HostRuntime, sheet: &str, header: &str, text: &[u8]) -> Option<()> {
+    let line = shown(rt.alloc(), first_line(text))?;
+    let _ = eprintln!(rt;
+        "explain: {sheet}: line 1: \"{line}\" stands there; the header {header} is wanted"
+    );
+    Some(())
+}
+
+fn tell_header(rt: &HostRuntime, job: &Job<'_>, sheet: &str, text: &[u8]) -> Option<()> {
+    let header = wanted_header(job);
+    match sheet_kind(job) {
+        Some(kind) => tell_line(rt, sheet, kind, SheetFlaw::Header, text)?,
+        None => tell_question_header(rt, sheet, header, text)?,
+    }
+    if let Some(trace) = trace_in(text, header) {
+        say(rt, trace);
+    }
+    Some(())
+}
+
+// How many fields the records of a sheet have does not depend on its kind: as many as its header.
+fn tell_record(rt: &HostRuntime, job: &Job<'_>, sheet: &str, text: &[u8]) -> Option<()> {
+    let kind = sheet_kind(job).unwrap_or(Sheet::Edits);
+    tell_line(rt, sheet, kind, SheetFlaw::Width, text)
+}
+
+/// Reads the sheet of a job once more, if it is in a file, and says which line is the first that is wrong. None where
+/// that is not said.
+pub(crate) fn tell_flaw(rt: &HostRuntime, job: &Job<'_>, flaw: SheetFlaw) -> Option<()> {
+    let sheet = sheet_of(job)?;
+    let text = bytes_of(rt, sheet)?;
+    match flaw {
+        SheetFlaw::Header => tell_header(rt, job, sheet, text.as_slice()),
+        SheetFlaw::Width => tell_record(rt, job, sheet, text.as_slice()),
+    }
+}

@@ -1,0 +1,94 @@
+//! The file of an inventory and its log at a path, opened to be read alone.
+
+ghost use Rattle.std.specs.Prelude.{true, false, IsTrue, IfOk};
+ghost use Rattle.lrs_store_questions.specs.StillFiles.{still_is_usable, IsFresh};
+
+use crate::still::Still;
+use os::RangeLock;
+use sqlite::{Files, Start};
+use sqlite_disk::Modelled;
+use std::fs;
+use std::hash::{BuildHasher, RandomState};
+use std::io::{self, ErrorKind, Read};
+use std::os::fd::AsRawFd;
+use std::os::unix::fs::MetadataExt;
+use std::rt::HostRuntime;
+
+/// A file that held what `S` says, opened to be read alone.
+pub type StillFrom<S> = Modelled<Still, S>;
+
+// Opens a regular file that has one name and that nobody writes.
+fn open_file(rt: &HostRuntime, path: &str) -> io::Result<fs::File> {
+    if !fs::symlink_metadata(rt, path)?.is_file() {
+        return Err(ErrorKind::Unsupported.into());
+    }
+    let mut file = fs::open(rt, path)?;
+    // What is meant for a standard stream that was closed must not be this file.
+    if file.as_raw_fd() <= 2 {
+        file = file.try_clone()?;
+    }
+    let (found, named) = (file.metadata()?, fs::symlink_metadata(rt, path)?);
+    let is_named = found.dev() == named.dev() && found.ino() == named.ino();
+    if !is_named || !found.is_file() || found.nlink() != 1 {
+        return Err(ErrorKind::Unsupported.into());
+    }
+    // SQLite's pending, reserved and shared locks. A file that is open to be read gets no lock but a shared one: it keeps
+    // out all that write as SQLite does, and lets others read.
+    if os::try_lock_range(file.as_raw_fd(), RangeLock::Shared, 1 << 30, 512) != 0 {
+        return Err(io::Error::from_raw_os_error(os::errno()));
+    }
+    Ok(file)
+}
+
+// Opens the log, if it is there.
+fn open_log(rt: &HostRuntime, path: &str) -> io::Result<Option<fs::File>> {
+    match open_file(rt, path) {
+        Ok(file) => Ok(Some(file)),
+        Err(error) if error.kind() == ErrorKind::NotFound => Ok(None),
+        Err(error) => Err(error),
+    }
+}
+
+// Whether SQLite left a journal to play back. One that is missing, is empty or begins with a zero has nothing.
+fn has_hot_journal(rt: &HostRuntime, path: &str) -> io::Result<bool> {
+    match fs::symlink_metadata(rt, path) {
+        Ok(found) if found.is_file() => {}
+        Ok(_) => return Ok(true),
+        Err(error) if error.kind() == ErrorKind::NotFound => return Ok(false),
+        Err(error) => return Err(error),
+    }
+    let mut journal = fs::open(rt, path)?;
+    let mut first = [0];
+    Ok(journal.read(&mut first)? == 1 && first[0] != 0)
+}
+
+/// The log and the database file at `path`, of which none is made. `_start` stands for what they hold.
+///
+/// # Errors
+/// Where the system does not open them, another program writes them, or SQLite left a journal beside them.
+pub(crate) fn open_pair<S: Start>(
+    rt: &HostRuntime,
+    path: &str,
+    _start: S,
+) -> io::Result<Files<StillFrom<S>>>
+    ensures log { IfOk result (λ files. IsTrue (still_is_usable S.Start files.log)) }
+    ensures db { IfOk result (λ files. IsTrue (still_is_usable S.Start files.db)) }
+    ensures fresh { IfOk result (λ files. IsFresh true files.log × IsFresh false files.db) }
+{
+    // As in SQLite, the files lie where a link leads, and no link is followed after that.
+    let real = fs::canonicalize(rt, path)?;
+    let db = open_file(rt, real.as_str())?;
+    let journal = format!(in rt.alloc(); "{}-journal", real.as_str())?;
+    if has_hot_journal(rt, journal.as_str())? {
+        return Err(ErrorKind::Unsupported.into());
+    }
+    let log_path = format!(in rt.alloc(); "{}-wal", real.as_str())?;
+    let log = open_log(rt, log_path.as_str())?;
+    let key = RandomState::new(rt)?.hash_one(&0u8);
+    let log = Still::settled(log, rt.alloc(), key)?;
+    let db = Still::settled(Some(db), rt.alloc(), key)?;
+    Ok(Files {
+        log: Modelled::new(log, true, key),
+        db: Modelled::new(db, false, key),
+    })
+}
