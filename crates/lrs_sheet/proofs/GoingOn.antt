@@ -1,5 +1,5 @@
 -- A sheet whose replies were lost goes on as if it had not stopped.
-use Rattle.std.proofs.Common.{◌≡◌, ℕ, ◌+◌, Bool, true, false, cond, ◌||◌, ◌&&◌, suc, List, [], ◌∷◌, ◌++◌, length, take, drop, Option, Some, None, refl, sym, ap, subst, ◌∙◌, inl, inr, arith}
+use Rattle.std.proofs.Common.{◌≡◌, ℕ, Bool, true, false, cond, ◌||◌, ◌&&◌, suc, List, [], ◌∷◌, ◌++◌, length, take, drop, Option, Some, None, refl, sym, ap, subst, ◌∙◌, inl, inr, arith}
 use Rattle.std.specs.Prelude.{nat_lt, not}
 use Rattle.std.specs.Cmp.Lexicographic.{bytes_decides}
 use Rattle.std.specs.List.{AllByRecursion, list_all}
@@ -16,7 +16,7 @@ use Rattle.lrs_machine.specs.Stop.KnownEdits.{is_edit}
 use Rattle.lrs_machine.specs.Stop.Resumptions.{decided}
 use Rattle.lrs_machine.proofs.Stop.Resuming.{new_keys_go_on}
 use Rattle.lrs_sheet_records.proofs.OneCommand.{one-command, well-formed}
-use Rattle.lrs_sheet_records.specs.Kinds.{IsHeader, edit_record, width_of}
+use Rattle.lrs_sheet_records.specs.Kinds.{edit_record, width_of}
 use Rattle.lrs_sheet_records.specs.Records.{SaysCommand, place_of}
 use Rattle.lrs_sheet_records.specs.Verbs.{all_verbs}
 use Rattle.lrs_sheet_records.specs.declared.sheet.Sheet.{Sheet}
