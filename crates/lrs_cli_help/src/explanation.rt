@@ -140,25 +140,35 @@ fn tell_cure_of_contents(rt: &HostRuntime, db: &str, contents: &Contents) {
 
 // Says what to do about what stands at the path of an inventory.
 fn tell_cure(rt: &HostRuntime, job: &Job<'_>, existing: bool, db: &str, found: &Found) {
-    let cure = match found {
-        Found::Nothing => cure_of_nothing(job, existing),
-        Found::NoFolder(_) => "make the folder, or name another",
-        Found::LogAlone => {
-            "bring the file back to its log; what was committed is in both together"
-        }
-        Found::Folder | Found::NoFile => "name a file",
-        Found::SecondName => "take one of the names away: the log can lie beside one alone",
-        Found::Journal => "open it with sqlite3, which plays the journal back",
-        Found::Empty => cure_of_empty(job),
-        Found::Refused(_) => {
-            "the file, its log named -wal and their folder must be open to you to write"
-        }
-        Found::InUse(_) => "end that program, or ask it: one program at a time has the file",
-        Found::NoDatabase => "name another file, or restore a copy; this one was not changed",
-        Found::Database(contents) => return tell_cure_of_contents(rt, db, contents),
-        Found::Unknown => "give more memory",
-    };
-    say(rt, cure);
+    match found {
+        Found::Nothing => say(rt, cure_of_nothing(job, existing)),
+        Found::NoFolder(_) => say(rt, "make the folder, or name another"),
+        Found::LogAlone => say(
+            rt,
+            "bring the file back to its log; what was committed is in both together",
+        ),
+        Found::Folder | Found::NoFile => say(rt, "name a file"),
+        Found::SecondName => say(
+            rt,
+            "take one of the names away: the log can lie beside one alone",
+        ),
+        Found::Journal => say(rt, "open it with sqlite3, which plays the journal back"),
+        Found::Empty => say(rt, cure_of_empty(job)),
+        Found::Refused(_) => say(
+            rt,
+            "the file, its log named -wal and their folder must be open to you to write",
+        ),
+        Found::InUse(_) => say(
+            rt,
+            "end that program, or ask it: one program at a time has the file",
+        ),
+        Found::NoDatabase => say(
+            rt,
+            "name another file, or restore a copy; this one was not changed",
+        ),
+        Found::Database(contents) => tell_cure_of_contents(rt, db, contents),
+        Found::Unknown => say(rt, "give more memory"),
+    }
 }
 
 /// The inventory cannot be opened: what is found at its path. With `existing` none was to be made.
