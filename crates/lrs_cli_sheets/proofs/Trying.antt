@@ -111,8 +111,8 @@ module _ {K : Type 0} (holds : K → Result Image Table → Type 0) (kind : Shee
     ends = refused.ends;
   }))
   all_known new ending (inr (inr (same, unwritten, inl failed))) = inr (inr (same, unwritten, inl failed))
-  all_known new ending (inr (inr (same, unwritten, inr (goes_on, text, is_text, fault, why, ends)))) =
-      inr (inr (same, unwritten, inr (goes_on, text, is_known text read known is is_text, fault, why, ends)))
+  all_known new ending (inr (inr (same, unwritten, inr (goes_on, (text, is_text, fault, why, ends))))) =
+      inr (inr (same, unwritten, inr (goes_on, (text, is_known text read known is is_text, fault, why, ends))))
 
   -- a sheet whose bytes were read is done as the sheet of its name
   pub all_as_named : {W : Type 0} (contents : W → Option (List ℕ)) (result : Result (W × Ending) ProgramFault) → IfOk result (λ done. EndsAll holds kind resumes (Some read) before after old (contents done.0) done.1)
