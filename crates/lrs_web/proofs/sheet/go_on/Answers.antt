@@ -1,4 +1,4 @@
-use Rattle.std.proofs.Common.{Ok, Err, inl, inr}
+use Rattle.std.proofs.Common.{Ok, Err, inl}
 use Rattle.lrs_web.proofs.sheet.go_on.Goals as goal
 
 pub returns-in-Ok : goal.returns-in-Ok
