@@ -65,7 +65,10 @@ pub fn act_in_memory(desk: &mut Desk<Plain>, key: Key, command: &Command) -> Res
         → IsUnchanged ⟦<Plain as Holder>⟧.may_hold desk.old desk.new }
     ensures never { result ≡ Err Fault.Keep → ⊥ }
 {
-    desk.act(key, command)
+    desk.prove_kept();
+    let answer = desk.act(key, command);
+    desk.prove_kept();
+    answer
 }
 
 /// Does the first of these commands, as `Desk::act_on_first` does, whatever is answered.
