@@ -436,7 +436,7 @@ def shown_with_terminal(*words, given):
 
 def test_it_is_said_on_a_terminal_that_an_inventory_is_made(tmp_path):
     path = tmp_path / "roads.db"
-    assert shown_with_terminal("check", str(path), "stdin", given=FIRST)[1] == b""
+    assert b"inventory" not in shown_with_terminal("check", str(path), "stdin", given=FIRST)[1]
     assert shown_with_terminal("edit", str(path), "stdin", given=FIRST) == (FIRST_REPLIES, f"makes a new inventory: {path}\r\n".encode())
     assert shown_with_terminal("edit", str(path), "stdin", given=FIRST) == (FIRST_REPLIES.replace(b"done", b"again"), b"")
     assert shown_with_terminal("totals", str(path), given=b"")[1] == b""

@@ -17,11 +17,6 @@ def section(heading):
     return re.search(rf"^### `{heading}`\n(.*?)(?=^##|\Z)", PAGE.read_text(), re.M | re.S)[1]
 
 
-def rows_of(verb, heading):
-    """The rows of a verb's table; those of `supersede` are the ones of `enter`."""
-    return table(section("enter" if verb == "supersede" else verb), heading)
-
-
 def verbs():
     """Each verb of the table of verbs, and how many fields it has."""
     text = (CRATES / "lrs_sheet_records" / "specs" / "Verbs.antt").read_text()
@@ -41,7 +36,7 @@ def test_there_are_fifteen_verbs():
 
 @pytest.mark.parametrize("verb", verbs())
 def test_a_verb_has_its_fields_and_an_example_that_is_accepted(verb):
-    rows = rows_of(verb, "Field")
+    rows = table(section(verb), "Field")
     assert [row[1] for row in rows] == COLUMNS[: verbs()[verb]]
     sheet, replies = (text for _, text in re.findall(r"^```(\w*)\n(.*?)^```$", section(verb), re.M | re.S)[:2])
     keys = re.findall(rf"^([^,\n]+),{verb},", sheet, re.M)
@@ -211,9 +206,8 @@ ALSO = [
 
 @pytest.mark.parametrize("verb", verbs())
 def test_the_refusals_of_a_verb_are_those_of_its_table(verb):
-    cells = [re.findall(r"`(\w+)(?::N)?`", row[0]) for row in rows_of(verb, "Refused")]
-    causes = [cause for causes in cells for cause in causes if (verb, cause) != ("supersede", "Overlap")]
-    assert causes == [cause.split(":")[0] for _, cause in REFUSED[verb]]
+    cells = [re.findall(r"`(\w+)(?::N)?`", row[0]) for row in table(section(verb), "Refused")]
+    assert [cause for causes in cells for cause in causes] == [cause.split(":")[0] for _, cause in REFUSED[verb]]
 
 
 def test_each_refusal_comes_in_its_order(tmp_path):

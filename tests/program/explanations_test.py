@@ -294,7 +294,7 @@ def test_a_sheet_that_is_tried_is_told_once(sheet_at):
     """The advice says where it stops; the explanation does not say so again."""
     for command, *options in (["edit", "--all"], ["check"], ["survey", "--all"], ["check", "--survey"]):
         fault, line, rest = sheet_at(command, b"key,what,x\n", *options)
-        assert fault == "BadHeader" and "what" not in line and "nothing was done" in rest, line
+        assert fault == "BadHeader" and "key,what,x" not in line and "nothing was done" in rest, line
     fault, line, rest = sheet_at("edit", FIRST + b"a,b\n", "--all")
     assert fault == "BadCsv" and "nothing was done" in rest, (line, rest)
 
@@ -349,6 +349,7 @@ def test_nothing_is_explained_to_a_reader_that_went():
 def test_a_commit_that_fails_is_explained(top):
     sheet = long_sheet(3_000)[0]
     db = str(top / "roads.db")
+    assert run("edit", db, "stdin", given=HEADER).status == 0
     ended = run("edit", db, "stdin", "--explain", given=sheet, **with_files_up_to(100_000))
     *said, last = ended.stderr.decode().splitlines()
     assert last == "roadlrs: fault Keep" and said[0].startswith(f"explain: {db}: the disk is full"), ended
