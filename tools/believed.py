@@ -431,7 +431,7 @@ def shortened(about, room=64):
     title, colon, behind = re.sub(r" \([^()]*\)(?=$|,)", "", about).partition(": ")
     for text in [behind, title] if colon and len(title) < 16 else [title]:
         text = text.partition("; ")[0]
-        while len(text) > room and (shorter := re.match(r"(.*)(?:,| where| over which)\s", text)):
+        while len(text) > room and (shorter := re.match(r"(.*)(?:,(?![^()]*\))| where| over which)\s", text)):
             text = shorter[1]
         if len(text) >= 15:
             break
@@ -456,7 +456,7 @@ def believed():
             letters.setdefault(page, {})[headline.letter] = None
     every = len({it.letter for it in shown})
     for crate, of_crate in itertools.groupby(joined(shown), lambda page: page[0]):
-        lines.append(f"| **[{crate}](../crates/{crate}/specs)** | | |")
+        lines.append(f"| **{crate}** | | |")
         for page in of_crate:
             of_page = "all" if len(letters[page]) == every else "".join(letters[page])
             lines.append(f"| {page[1]} | {shortened(page_of(*page).about)} | {of_page} |")
