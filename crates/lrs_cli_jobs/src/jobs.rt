@@ -47,7 +47,7 @@ fn do_work<R: Runtime<A = Global> + Net, S: Sheets, W: Write + Drop, K: Keeper>(
         Work::Check { kind, from } => do_check(world, desk, kind, from, to),
         Work::Question(question) => answer(world.rt.alloc(), desk, question, to),
         Work::Questions { from } => do_questions(world, desk, from, to),
-        Work::Audit => do_audit(world.rt, desk, to),
+        Work::Audit => do_audit(world.rt, world.shown, desk, to),
         Work::Service(service) => do_service(world.rt, desk, service, to),
     }
 }
