@@ -11,7 +11,7 @@ import time
 
 import pytest
 
-from program import FIRST, FIRST_REPLIES, HEADER, PATIENCE, Ended, ends, lines, long_sheet, record, run, shown_on
+from program import FIRST, FIRST_REPLIES, HEADER, PATIENCE, Ended, ends, lines, long_sheet, on_terminal, record, run, shown_on
 from slowing import run_slowly, slowly
 from stores import edit
 
@@ -92,7 +92,7 @@ def test_a_sheet_that_is_sent_slowly_shows_its_count_and_its_pace(top):
             slow.child.stdin.flush()
             time.sleep(0.05)
         stdout, _ = slow.child.communicate(timeout=PATIENCE)
-        shown = slow.shown()
+    shown = slow.shown()
     ends(Ended(subprocess.CompletedProcess([], slow.child.returncode, stdout, b"")), b"".join(REPLIES.splitlines(keepends=True)[:60]), 0)
     sent_line = line(COUNT + rb" records", rb"(?:, " + COUNT + rb" a second)?", GO_ON)
     assert re.search(rb"\r\n(?:" + sent_line + rb")+" + TAKEN_AWAY + rb"$", shown), shown[-500:]
@@ -194,9 +194,20 @@ def test_nothing_is_shown_to_whoever_types_a_sheet():
             os.write(outer, b"\x04")
             replies = slow.child.stdout.read()
             assert slow.child.wait(timeout=PATIENCE) == 0
-            assert (replies, slow.shown()) == (FIRST_REPLIES, b"")
+        assert (replies, slow.shown()) == (FIRST_REPLIES, b"")
     finally:
         os.close(inner)
         reader.join()
         os.close(outer)
     assert b"".join(echoed).startswith(HEADER[:-1])
+
+
+def test_an_opening_says_how_large_the_file_is(top):
+    """From four megabytes on, and only while it lasts."""
+    sheet, replies = long_sheet(70_000)
+    ends(edit(top / "roads.db", sheet), replies, 0)
+    megabytes = (top / "roads.db").stat().st_size // 1_000_000
+    ended, shown = on_terminal(["stderr"], "totals", top / "roads.db")
+    ends(ended, b"", 0)
+    opening = b"opening %s/roads.db, %d MB, about 1 s" % (bytes(top), megabytes)
+    assert megabytes >= 4 and shown == opening + b"\r\x1b[K", (megabytes, shown)

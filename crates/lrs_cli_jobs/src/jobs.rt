@@ -79,7 +79,9 @@ fn tell_opening(rt: &HostRuntime, path: &str, shown: ProgressDisplay) -> bool {
     match fs::metadata(rt, path) {
         Ok(found) if LONG_BYTES <= found.len() => {
             let megabytes = found.len() / 1_000_000;
-            let _ = eprint!(rt; "opening {path}, {megabytes} MB");
+            // for edits, on a quiet machine; for questions a third
+            let seconds = megabytes / 12 + 1;
+            let _ = eprint!(rt; "opening {path}, {megabytes} MB, about {seconds} s");
             true
         }
         _ => false,
