@@ -39,8 +39,8 @@ def slowly(names, *words, **streams):
     """A slow run. A stream that is neither on the terminal nor given has nothing, or goes nowhere."""
     outer, inner = pty.openpty()
     reader, seen = shown_on(outer)
-    settings = {"stdin": subprocess.DEVNULL, "stdout": subprocess.DEVNULL, "stderr": subprocess.DEVNULL, **streams}
-    child = subprocess.Popen([BUILT, *words], **settings, **dict.fromkeys(names, inner))
+    nowhere = dict.fromkeys(["stdin", "stdout", "stderr"], subprocess.DEVNULL)
+    child = subprocess.Popen([BUILT, *words], **{**nowhere, **streams, **dict.fromkeys(names, inner)})
     try:
         yield Slow(child, seen)
     finally:
