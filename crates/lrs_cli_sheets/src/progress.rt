@@ -153,10 +153,17 @@ impl<'a, R: Eprint + Clock> ProgressLine<'a, R> {
         self.shown_at.set(Some(now));
     }
 
-    // Counts what was read.
-    fn note_read(&self, count: usize) {
+    // Counts what was read; of a sheet that is tried, whose replies stay in memory, its lines too.
+    fn note_read(&self, read: &[u8]) {
+        if self.shown == ProgressDisplay::Nowhere {
+            return;
+        }
         self.bytes
-            .set(self.bytes.get().saturating_add(count as u64));
+            .set(self.bytes.get().saturating_add(read.len() as u64));
+        if self.work == LongWork::Trial {
+            self.lines
+                .set(self.lines.get().saturating_add(lines_in(read)));
+        }
     }
 
     // Counts the lines that were written. The records before the first of them were passed over, at another pace.
@@ -197,7 +204,7 @@ impl<'a, S: Read + Drop, R: Eprint + Clock> Read for Measured<'a, S, R> {
     fn read(&mut self, buf: &mut [u8]) -> io::Result<usize> {
         self.line.tick();
         let count = self.from.read(buf)?;
-        self.line.note_read(count);
+        self.line.note_read(&buf[..count]);
         Ok(count)
     }
 }

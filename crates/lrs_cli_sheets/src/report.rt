@@ -17,7 +17,7 @@ pub(crate) enum LongWork {
     Audit(u64),
 }
 
-/// How much of it is done: lines that were answered, and bytes that were read.
+/// How much of it is done: lines that were answered, or tried, and bytes that were read.
 #[derive(Clone, Copy)]
 pub(crate) struct Amount {
     pub(crate) lines: u64,
@@ -66,7 +66,7 @@ impl Report {
         let lines = Grouped(self.done.lines);
         match self.work {
             LongWork::Records | LongWork::KeptRecords => write!(f, "{lines} records"),
-            LongWork::Trial => f.write_str("trying the sheet"),
+            LongWork::Trial => write!(f, "tried {lines} lines"),
             LongWork::Questions => write!(f, "{lines} lines"),
             LongWork::Audit(edits) => {
                 let edits = Grouped(edits);
