@@ -54,22 +54,26 @@ impl Report {
     }
 
     // How long the rest takes, at the pace of late.
-    fn left(&self) -> Option<Seconds> {
+    fn left(&self) -> Option<Span> {
         let rest = self.whole?.saturating_sub(self.done.bytes);
         let millis = rest
             .saturating_mul(self.millis)
             .checked_div(self.lately.bytes)?;
-        Some(Seconds(millis.saturating_add(999) / 1_000))
+        Some(Span {
+            seconds: millis.saturating_add(999) / 1_000,
+        })
     }
 
     fn write_done<W: fmt::Write>(&self, f: &mut fmt::Formatter<W>) -> fmt::Result {
-        let lines = Grouped(self.done.lines);
+        let lines = Grouped {
+            number: self.done.lines,
+        };
         match self.work {
             LongWork::Records | LongWork::KeptRecords => write!(f, "{lines} records"),
             LongWork::Trial => write!(f, "tried {lines} lines"),
             LongWork::Questions => write!(f, "{lines} lines"),
             LongWork::Audit(edits) => {
-                let edits = Grouped(edits);
+                let edits = Grouped { number: edits };
                 write!(f, "{lines} of {edits} edits")
             }
         }
@@ -83,7 +87,7 @@ impl fmt::Display for Report {
             write!(f, ", {percent}%")?;
         }
         if let Some(rate) = self.per_second() {
-            let rate = Grouped(rate);
+            let rate = Grouped { number: rate };
             write!(f, ", {rate} a second")?;
         }
         if let Some(left) = self.left() {
@@ -97,37 +101,76 @@ impl fmt::Display for Report {
     }
 }
 
+/// The last three digits of a number.
+#[derive(Clone, Copy)]
+struct LastThree {
+    number: u64,
+}
+
+impl fmt::Display for LastThree {
+    ghost use Rattle.std.specs.Prelude.{Some};
+    ghost use Rattle.lrs_cli_sheets.specs.Reports.{last_three};
+
+    ghost output = { λ digits. Some (last_three digits.number) };
+
+    fn fmt<W: fmt::Write>(&self, f: &mut fmt::Formatter<W>) -> fmt::Result {
+        let hundreds = self.number / 100 % 10;
+        let tens = self.number / 10 % 10;
+        let ones = self.number % 10;
+        write!(f, "{hundreds}{tens}{ones}")
+    }
+}
+
 /// A number whose digits stand in groups of three: `12,345`.
 #[derive(Clone, Copy)]
-struct Grouped(u64);
+struct Grouped {
+    number: u64,
+}
 
 impl fmt::Display for Grouped {
+    ghost use Rattle.std.specs.Prelude.{Some};
+    ghost use Rattle.lrs_cli_sheets.specs.Reports.{grouped};
+
+    ghost output = { λ it. Some (grouped it.number) };
+
     fn fmt<W: fmt::Write>(&self, f: &mut fmt::Formatter<W>) -> fmt::Result {
-        let (millions, thousands) = (self.0 / 1_000_000, self.0 / 1_000 % 1_000);
-        let ones = self.0 % 1_000;
-        if millions > 0 {
-            write!(f, "{millions},{thousands:03},{ones:03}")
-        } else if thousands > 0 {
-            write!(f, "{thousands},{ones:03}")
-        } else {
-            write!(f, "{ones}")
+        let number = self.number;
+        if number < 1_000 {
+            return write!(f, "{number}");
         }
+        let last = LastThree { number };
+        let thousands = number / 1_000;
+        if number < 1_000_000 {
+            return write!(f, "{thousands},{last}");
+        }
+        let middle = LastThree { number: thousands };
+        let millions = number / 1_000_000;
+        write!(f, "{millions},{middle},{last}")
     }
 }
 
 /// A time, in a unit in which it is a short number: `37 s`, `4 min`, `3 h`.
 #[derive(Clone, Copy)]
-struct Seconds(u64);
+struct Span {
+    seconds: u64,
+}
 
-impl fmt::Display for Seconds {
+impl fmt::Display for Span {
+    ghost use Rattle.std.specs.Prelude.{Some};
+    ghost use Rattle.lrs_cli_sheets.specs.Reports.{time_text};
+
+    ghost output = { λ span. Some (time_text span.seconds) };
+
     fn fmt<W: fmt::Write>(&self, f: &mut fmt::Formatter<W>) -> fmt::Result {
-        let (seconds, minutes, hours) = (self.0, self.0 / 60, self.0 / 3_600);
-        if minutes < 2 {
-            write!(f, "{seconds} s")
-        } else if hours < 2 {
-            write!(f, "{minutes} min")
-        } else {
-            write!(f, "{hours} h")
+        let seconds = self.seconds;
+        if seconds < 120 {
+            return write!(f, "{seconds} s");
         }
+        if seconds < 7_200 {
+            let minutes = seconds / 60;
+            return write!(f, "{minutes} min");
+        }
+        let hours = seconds / 3_600;
+        write!(f, "{hours} h")
     }
 }
