@@ -54,12 +54,12 @@ impl Report {
     }
 
     // How long the rest takes, at the pace of late.
-    fn left(&self) -> Option<Span> {
+    fn left(&self) -> Option<TimeLeft> {
         let rest = self.whole?.saturating_sub(self.done.bytes);
         let millis = rest
             .saturating_mul(self.millis)
             .checked_div(self.lately.bytes)?;
-        Some(Span {
+        Some(TimeLeft {
             seconds: millis.saturating_add(999) / 1_000,
         })
     }
@@ -151,15 +151,15 @@ impl fmt::Display for Grouped {
 
 /// A time, in a unit in which it is a short number: `37 s`, `4 min`, `3 h`.
 #[derive(Clone, Copy)]
-struct Span {
+struct TimeLeft {
     seconds: u64,
 }
 
-impl fmt::Display for Span {
+impl fmt::Display for TimeLeft {
     ghost use Rattle.std.specs.Prelude.{Some};
     ghost use Rattle.lrs_cli_sheets.specs.Reports.{time_text};
 
-    ghost output = { λ span. Some (time_text span.seconds) };
+    ghost output = { λ time. Some (time_text time.seconds) };
 
     fn fmt<W: fmt::Write>(&self, f: &mut fmt::Formatter<W>) -> fmt::Result {
         let seconds = self.seconds;
