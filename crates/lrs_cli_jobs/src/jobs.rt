@@ -47,7 +47,7 @@ fn do_work<R: Runtime<A = Global> + Net, S: Sheets, W: Write + Drop, K: Keeper>(
         Work::Check { kind, from } => do_check(world, desk, kind, from, to),
         Work::Question(question) => answer(world.rt.alloc(), desk, question, to),
         Work::Questions { from } => do_questions(world, desk, from, to),
-        Work::Audit => do_audit(world.rt, desk, to),
+        Work::Audit => do_audit(world.rt, world.shown, desk, to),
         Work::Service(service) => do_service(world.rt, desk, service, to),
     }
 }
@@ -79,7 +79,9 @@ fn tell_opening(rt: &HostRuntime, path: &str, shown: ProgressDisplay) -> bool {
     match fs::metadata(rt, path) {
         Ok(found) if LONG_BYTES <= found.len() => {
             let megabytes = found.len() / 1_000_000;
-            let _ = eprint!(rt; "opening {path}, {megabytes} MB");
+            // for edits, on a quiet machine; for questions a third
+            let seconds = megabytes / 12 + 1;
+            let _ = eprint!(rt; "opening {path}, {megabytes} MB, about {seconds} s");
             true
         }
         _ => false,

@@ -3,7 +3,7 @@
 ghost use Rattle.std.specs.Prelude.{◌≡◌, IfErr};
 
 use crate::do_job;
-use lrs_cli_sheets::{Pace, ProgressDisplay, Sheets, World, do_records};
+use lrs_cli_sheets::{Extent, Pace, ProgressDisplay, Sheets, World, do_records};
 use lrs_cli_tasks::{Ending, open_in_memory, status};
 use lrs_cli_words::{Job, job_of};
 use lrs_desk::{Desk, Files, OpenFault, Plain};
@@ -58,8 +58,8 @@ impl<'a> Sheets for OneSheet<'a> {
         }
     }
 
-    fn is_whole(&self, _name: &str) -> bool {
-        true
+    fn extent(&self, _name: &str) -> Extent {
+        Extent::Bytes(self.text.len() as u64)
     }
 }
 

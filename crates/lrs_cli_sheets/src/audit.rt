@@ -9,6 +9,8 @@ ghost use Rattle.lrs_sheet_log.specs.Differences.{IsFirstDifference};
 ghost use Rattle.lrs_cli_sheets.specs.Audits.{EndsAudit, IsAudited, IsMadeBy, log_of, sound_line};
 
 use crate::difference::tell_row;
+use crate::progress::{Extent, Measured, Progress, ProgressDisplay, ProgressLine};
+use crate::report::LongWork;
 use crate::sheets::{Pace, Way, run};
 use lrs_cli_tasks::{Ending, ProgramFault, open_in_memory};
 use lrs_image::ImageLists;
@@ -35,20 +37,30 @@ fn log_of(alloc: Global, inventory: &Inventory) -> Result<Vec<u8>, ProgramFault>
 
 // Does an edit sheet at a desk with full limits over the empty inventory. The desk is of any keeper, here and below: a
 // function that has one over an image in memory is costly to prove.
-fn run_log<K: Keeper>(alloc: Global, sheet: &[u8], desk: &mut Desk<K>) -> Result<(), ProgramFault>
+fn run_log<R: Runtime<A = Global>, K: Keeper>(
+    line: &ProgressLine<'_, R>,
+    sheet: &[u8],
+    desk: &mut Desk<K>,
+) -> Result<(), ProgramFault>
     requires fresh { desk.old.image ≡ nothing }
     requires limits { (desk.old.limits.routes ≡ most_routes)
         × (desk.old.limits.assets ≡ most_assets) × (desk.old.limits.edits ≡ most_edits) }
     ensures made { IfOk result (λ _. IsMadeBy sheet.now desk.new.image) }
     ensures memory { IfErr result (λ e. e ≡ ProgramFault.Memory) }
 {
-    let mut replies = io::sink();
+    let mut replies = Progress {
+        to: io::sink(),
+        line,
+    };
     let way = Way {
         kind: Sheet::Edits,
         pace: Pace::InPieces,
         passed: 0,
     };
-    match run(alloc, way, sheet, &mut replies, desk) {
+    let log = Measured { from: sheet, line };
+    let outcome = run(line.rt.alloc(), way, log, &mut replies, desk);
+    line.clear();
+    match outcome {
         Err(SheetFault::Memory | SheetFault::Desk(_)) => Err(ProgramFault::Memory),
         _ => Ok(()),
     }
@@ -81,7 +93,7 @@ fn difference_from<R: Runtime<A = Global>, K: Keeper>(
 
 // The first table in which an inventory is not what this log of it makes at such a desk, if there is one.
 fn made_differs<R: Runtime<A = Global>, K: Keeper>(
-    rt: &R,
+    line: &ProgressLine<'_, R>,
     inventory: &Inventory,
     log: &[u8],
     desk: &mut Desk<K>,
@@ -93,8 +105,8 @@ fn made_differs<R: Runtime<A = Global>, K: Keeper>(
     ensures audited { IfOk result (IsAudited inventory.now) }
     ensures memory { IfErr result (λ e. e ≡ ProgramFault.Memory) }
 {
-    match run_log(rt.alloc(), log, desk) {
-        Ok(()) => Ok(difference_from(rt, inventory, desk)),
+    match run_log(line, log, desk) {
+        Ok(()) => Ok(difference_from(line.rt, inventory, desk)),
         Err(fault) => Err(fault),
     }
 }
@@ -102,7 +114,7 @@ fn made_differs<R: Runtime<A = Global>, K: Keeper>(
 // The same, at a desk that goes with it, whose keeper is given back. What may fail only borrows the desk: a function that
 // lets one go in several places is costly to prove.
 fn audit_at<R: Runtime<A = Global>, K: Keeper>(
-    rt: &R,
+    line: &ProgressLine<'_, R>,
     inventory: &Inventory,
     log: &[u8],
     desk: Desk<K>,
@@ -115,13 +127,13 @@ fn audit_at<R: Runtime<A = Global>, K: Keeper>(
     ensures memory { IfErr result.1 (λ e. e ≡ ProgramFault.Memory) }
 {
     let mut made = desk;
-    let differs = made_differs(rt, inventory, log, &mut made);
+    let differs = made_differs(line, inventory, log, &mut made);
     (made.into_keeper(), differs)
 }
 
 // The same, at a desk in memory.
 fn audit_log<R: Runtime<A = Global>>(
-    rt: &R,
+    line: &ProgressLine<'_, R>,
     inventory: &Inventory,
     log: &[u8],
 ) -> Result<Option<Table>, ProgramFault>
@@ -129,9 +141,9 @@ fn audit_log<R: Runtime<A = Global>>(
     ensures audited { IfOk result (IsAudited inventory.now) }
     ensures memory { IfErr result (λ e. e ≡ ProgramFault.Memory) }
 {
-    match open_in_memory(rt.alloc()) {
+    match open_in_memory(line.rt.alloc()) {
         Ok(desk) => {
-            let (plain, differs) = audit_at(rt, inventory, log, desk);
+            let (plain, differs) = audit_at(line, inventory, log, desk);
             plain.discard();
             differs
         }
@@ -142,13 +154,18 @@ fn audit_log<R: Runtime<A = Global>>(
 // The first table in which an inventory is not what its log makes, if there is one.
 fn audit<R: Runtime<A = Global>>(
     rt: &R,
+    shown: ProgressDisplay,
     inventory: &Inventory,
 ) -> Result<Option<Table>, ProgramFault>
     ensures audited { IfOk result (IsAudited inventory.now) }
     ensures memory { IfErr result (λ e. e ≡ ProgramFault.Memory) }
 {
     match log_of(rt.alloc(), inventory) {
-        Ok(log) => audit_log(rt, inventory, log.as_slice()),
+        Ok(log) => {
+            let extent = Extent::Bytes(log.len() as u64);
+            let line = ProgressLine::new(rt, shown, LongWork::Audit(inventory.edits()), extent);
+            audit_log(&line, inventory, log.as_slice())
+        }
         Err(fault) => Err(fault),
     }
 }
@@ -173,6 +190,7 @@ fn say_sound<W: Write + Drop>(to: W) -> Result<W, ProgramFault>
 /// `Write` where it cannot be written that none differs.
 pub fn do_audit<R: Runtime<A = Global>, W: Write + Drop, K: Keeper>(
     rt: &R,
+    shown: ProgressDisplay,
     desk: &Desk<K>,
     to: W,
 ) -> Result<(W, Ending), ProgramFault>
@@ -180,7 +198,7 @@ pub fn do_audit<R: Runtime<A = Global>, W: Write + Drop, K: Keeper>(
         (W.contents to) (W.contents done.0) done.1) }
     ensures failed { IfErr result (λ e. e ≡ ProgramFault.Write) }
 {
-    match audit(rt, desk.inventory()) {
+    match audit(rt, shown, desk.inventory()) {
         Ok(None) => match say_sound(to) {
             Ok(to) => Ok((to, Ending::Done)),
             Err(fault) => Err(fault),

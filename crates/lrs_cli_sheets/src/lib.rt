@@ -7,13 +7,14 @@ mod audit;
 mod difference;
 mod progress;
 mod question_sheets;
+mod report;
 mod sheets;
 mod streams;
 mod trial;
 mod world;
 
 pub use audit::do_audit;
-pub use progress::ProgressDisplay;
+pub use progress::{Extent, ProgressDisplay};
 pub use question_sheets::{QuestionPace, answer_sheet, do_questions};
 pub use sheets::Pace;
 pub use streams::write_out;

@@ -4,6 +4,8 @@ ghost use Rattle.std.specs.Prelude.{◌≡◌, ◌⊎◌, IfOk, IfErr, false};
 ghost use Rattle.lrs_sheet_questions.specs.SheetAnswers.{HasAsked};
 ghost use Rattle.lrs_cli_sheets.specs.QuestionSheets.{EndsAsAsked, EndsQuestions, ending_of_questions};
 
+use crate::progress::{Extent, Measured, Progress, ProgressLine};
+use crate::report::LongWork;
 use crate::sheets::unopened;
 use crate::world::{Sheets, World};
 use lrs_cli_tasks::{Ending, ProgramFault, behind, buffered};
@@ -74,10 +76,10 @@ fn ending_of(outcome: Result<QuestionTally, SheetFault>) -> Ending
 }
 
 // Answers the questions that a reader gives. The writer is given back with how the program ends.
-fn print_answers<S: Read + Drop, W: Write + Drop, K: Keeper>(
-    alloc: Global,
+fn print_answers<R: Runtime<A = Global>, N: Sheets, S: Read + Drop, W: Write + Drop, K: Keeper>(
+    world: &World<'_, R, N>,
     desk: &Desk<K>,
-    pace: QuestionPace,
+    extent: Extent,
     sheet: S,
     to: W,
 ) -> Result<(W, Ending), ProgramFault>
@@ -86,17 +88,24 @@ fn print_answers<S: Read + Drop, W: Write + Drop, K: Keeper>(
         (W.contents to) (W.contents done.0) done.1) }
     ensures failed { IfErr result (λ e. (e ≡ ProgramFault.Memory) ⊎ (e ≡ ProgramFault.Write)) }
 {
-    match answer_sheet(alloc, desk, pace, sheet, to) {
-        Ok((to, outcome)) => Ok((to, ending_of(outcome))),
+    let line = ProgressLine::new(world.rt, world.shown, LongWork::Questions, extent);
+    let sheet = Measured {
+        from: sheet,
+        line: &line,
+    };
+    let progress = Progress { to, line: &line };
+    let answered = answer_sheet(world.rt.alloc(), desk, pace_of(extent), sheet, progress);
+    line.clear();
+    match answered {
+        Ok((progress, outcome)) => Ok((progress.into_writer(), ending_of(outcome))),
         Err(fault) => Err(fault),
     }
 }
 
-fn pace_of<S: Sheets>(sheets: &S, name: &str) -> QuestionPace {
-    if sheets.is_whole(name) {
-        QuestionPace::InPieces
-    } else {
-        QuestionPace::AsTheyArrive
+fn pace_of(extent: Extent) -> QuestionPace {
+    match extent {
+        Extent::Bytes(_) => QuestionPace::InPieces,
+        Extent::Sent | Extent::Typed => QuestionPace::AsTheyArrive,
     }
 }
 
@@ -117,10 +126,7 @@ pub fn do_questions<R: Runtime<A = Global>, S: Sheets, W: Write + Drop, K: Keepe
     ensures failed { IfErr result (λ e. (e ≡ ProgramFault.Memory) ⊎ (e ≡ ProgramFault.Write)) }
 {
     match world.sheets.open(name) {
-        Ok(sheet) => {
-            let pace = pace_of(world.sheets, name);
-            print_answers(world.rt.alloc(), desk, pace, sheet, to)
-        }
+        Ok(sheet) => print_answers(world, desk, world.sheets.extent(name), sheet, to),
         Err(error) => Ok((to, unopened(world.rt, name, error))),
     }
 }

@@ -6,7 +6,8 @@ ghost use Rattle.lrs_sheet.specs.Runs.{IsWholeRun};
 ghost use Rattle.lrs_sheet.specs.Sheets.{IsAfterCommands};
 ghost use Rattle.lrs_cli_sheets.specs.Sheets.{DoesNotGoOn, EndsAsRun, EndsSheet, GoesOnBehind, HasRun, IsUnwritten, WritesReplies, ending_of_sheet, run_of, together_at};
 
-use crate::progress::Progress;
+use crate::progress::{Extent, Measured, Progress, ProgressLine};
+use crate::report::LongWork;
 use crate::world::{Sheets, World};
 use lrs_cli_tasks::{Ending, ProgramFault, behind, buffered};
 use lrs_sheet::{
@@ -168,6 +169,14 @@ pub(crate) fn ending_of(outcome: Result<Tally, SheetFault>) -> Ending
     }
 }
 
+// What a sheet's work is at a pace.
+fn work_at(pace: Pace) -> LongWork {
+    match pace {
+        Pace::AsTheyArrive | Pace::InGroups => LongWork::KeptRecords,
+        Pace::LineByLine | Pace::InPieces => LongWork::Records,
+    }
+}
+
 // Does the sheet that a reader gives, and writes its replies. The writer is given back with how the program ends.
 pub(crate) fn print_replies<
     R: Runtime<A = Global>,
@@ -178,6 +187,7 @@ pub(crate) fn print_replies<
 >(
     world: &World<'_, R, N>,
     way: Way,
+    extent: Extent,
     sheet: S,
     desk: &mut Desk<K>,
     to: W,
@@ -188,8 +198,15 @@ pub(crate) fn print_replies<
     ensures left { IsAfterCommands desk.old.limits (state_of desk.old.image)
         (state_of desk.new.image) }
 {
-    let progress = Progress::new(to, world.rt, world.shown);
-    match write_replies(world.rt.alloc(), way, sheet, progress, desk) {
+    let line = ProgressLine::new(world.rt, world.shown, work_at(way.pace), extent);
+    let sheet = Measured {
+        from: sheet,
+        line: &line,
+    };
+    let progress = Progress { to, line: &line };
+    let written = write_replies(world.rt.alloc(), way, sheet, progress, desk);
+    line.clear();
+    match written {
         Ok((progress, outcome)) => Ok((progress.into_writer(), ending_of(outcome))),
         Err(fault) => Err(fault),
     }
@@ -203,11 +220,10 @@ fn pace_of_sent(of_file: Pace) -> Pace {
     }
 }
 
-fn pace_of<S: Sheets>(sheets: &S, name: &str, of_file: Pace) -> Pace {
-    if sheets.is_whole(name) {
-        of_file
-    } else {
-        pace_of_sent(of_file)
+fn pace_of(extent: Extent, of_file: Pace) -> Pace {
+    match extent {
+        Extent::Bytes(_) => of_file,
+        Extent::Sent | Extent::Typed => pace_of_sent(of_file),
     }
 }
 
@@ -245,9 +261,10 @@ fn do_whole<R: Runtime<A = Global>, S: Sheets, W: Write + Drop, K: Keeper>(
 {
     match world.sheets.open(name) {
         Ok(sheet) => {
-            let pace = pace_of(world.sheets, name, of_file);
+            let extent = world.sheets.extent(name);
+            let pace = pace_of(extent, of_file);
             let passed = 0;
-            print_replies(world, Way { kind, pace, passed }, sheet, desk, to)
+            print_replies(world, Way { kind, pace, passed }, extent, sheet, desk, to)
         }
         Err(error) => Ok((to, unopened(world.rt, name, error))),
     }
@@ -333,7 +350,9 @@ fn go_on<R: Runtime<A = Global>, S: Sheets, W: Write + Drop, K: Keeper>(
         Ok(passed) => passed,
         Err(fault) => return Ok((to, Ending::Stopped(fault))),
     };
-    print_replies(world, Way { kind, pace, passed }, text.as_slice(), desk, to)
+    let way = Way { kind, pace, passed };
+    let extent = Extent::Bytes(text.len() as u64);
+    print_replies(world, way, extent, text.as_slice(), desk, to)
 }
 
 /// Does a sheet of this kind at a desk, or goes on with it behind its last record that is an edit, and writes its replies:

@@ -8,6 +8,8 @@ ghost use Rattle.lrs_cli_sheets.specs.Sheets.{DoesNotGoOn, IsUnwritten, ending_o
 ghost use Rattle.lrs_cli_sheets.specs.Trials.{ArePassed, EndsAll, EndsCheck, EndsRecords, EndsTried, HasTried, IsFull, IsTried};
 
 use crate::advice::{Trial, advise};
+use crate::progress::{Extent, Measured, ProgressLine};
+use crate::report::LongWork;
 use crate::sheets::{
     Pace, Way, do_sheet, ending_of, passed_over, print_replies, read_whole, unopened, write_replies,
 };
@@ -51,8 +53,8 @@ fn copy_desk<K: Keeper>(alloc: Global, desk: &Desk<K>) -> Result<Desk<Plain>, Pr
 }
 
 // Runs a sheet's bytes behind these records at a desk, and gives its keeper and the lines of its replies.
-fn try_at<K: Keeper>(
-    alloc: Global,
+fn try_at<R: Runtime<A = Global>, K: Keeper>(
+    line: &ProgressLine<'_, R>,
     desk: Desk<K>,
     kind: Sheet,
     passed: u32,
@@ -66,16 +68,18 @@ fn try_at<K: Keeper>(
         (Some []) (Some done.0.items) done.1) }
     ensures faults { IfErr result.1 (λ e. (e ≡ ProgramFault.Memory) ⊎ (e ≡ ProgramFault.Write)) }
 {
+    let alloc = line.rt.alloc();
     let mut copy = desk;
     let pace = Pace::InPieces;
     let way = Way { kind, pace, passed };
-    let tried = write_replies(alloc, way, text, Vec::new(alloc), &mut copy);
+    let sheet = Measured { from: text, line };
+    let tried = write_replies(alloc, way, sheet, Vec::new(alloc), &mut copy);
     (copy.into_keeper(), tried)
 }
 
 /// Runs a sheet's bytes behind these records at a copy of a desk's inventory, and gives the lines of its replies.
-fn try_sheet<K: Keeper>(
-    alloc: Global,
+fn try_sheet<R: Runtime<A = Global>, S: Sheets, K: Keeper>(
+    world: &World<'_, R, S>,
     desk: &Desk<K>,
     kind: Sheet,
     passed: u32,
@@ -85,10 +89,13 @@ fn try_sheet<K: Keeper>(
         (Some []) (Some done.0.items) done.1) }
     ensures faults { IfErr result (λ e. (e ≡ ProgramFault.Memory) ⊎ (e ≡ ProgramFault.Write)) }
 {
-    match copy_desk(alloc, desk) {
+    match copy_desk(world.rt.alloc(), desk) {
         Ok(copy) => {
-            let (plain, tried) = try_at(alloc, copy, kind, passed, text);
+            let extent = Extent::Bytes(text.len() as u64);
+            let line = ProgressLine::new(world.rt, world.shown, LongWork::Trial, extent);
+            let (plain, tried) = try_at(&line, copy, kind, passed, text);
             plain.discard();
+            line.clear();
             tried
         }
         Err(fault) => Err(fault),
@@ -115,8 +122,8 @@ fn print_trial<R: Runtime<A = Global>, W: Write + Drop>(
 }
 
 // Writes what a sheet of these bytes would be answered at a desk, and advises on what would be refused.
-fn check_text<R: Runtime<A = Global>, W: Write + Drop, K: Keeper>(
-    rt: &R,
+fn check_text<R: Runtime<A = Global>, S: Sheets, W: Write + Drop, K: Keeper>(
+    world: &World<'_, R, S>,
     desk: &Desk<K>,
     kind: Sheet,
     text: &[u8],
@@ -126,7 +133,7 @@ fn check_text<R: Runtime<A = Global>, W: Write + Drop, K: Keeper>(
         (W.contents to) (W.contents done.0) done.1) }
     ensures failed { IfErr result (λ e. e ≡ ProgramFault.Write) }
 {
-    match try_sheet(rt.alloc(), desk, kind, 0, text) {
+    match try_sheet(world, desk, kind, 0, text) {
         Ok((replies, outcome)) => {
             let trial = Trial {
                 kind,
@@ -135,7 +142,7 @@ fn check_text<R: Runtime<A = Global>, W: Write + Drop, K: Keeper>(
                 replies: replies.as_slice(),
                 outcome,
             };
-            print_trial(rt, &trial, to)
+            print_trial(world.rt, &trial, to)
         }
         // of a trial, whose replies go into memory, that alone can run out
         Err(_) => Ok((to, Ending::Stopped(ProgramFault::Memory))),
@@ -160,7 +167,7 @@ pub fn do_check<R: Runtime<A = Global>, S: Sheets, W: Write + Drop, K: Keeper>(
     ensures failed { IfErr result (λ e. e ≡ ProgramFault.Write) }
 {
     match read_whole(world, name) {
-        Ok(text) => check_text(world.rt, desk, kind, text.as_slice(), to),
+        Ok(text) => check_text(world, desk, kind, text.as_slice(), to),
         Err(error) => Ok((to, unopened(world.rt, name, error))),
     }
 }
@@ -207,7 +214,8 @@ fn do_tried<R: Runtime<A = Global>, S: Sheets, W: Write + Drop, K: Keeper>(
                 pace,
                 passed: trial.passed,
             };
-            print_replies(world, way, trial.text, desk, to)
+            let extent = Extent::Bytes(trial.text.len() as u64);
+            print_replies(world, way, extent, trial.text, desk, to)
         }
         _ => {
             advise(world.rt, trial);
@@ -236,7 +244,7 @@ fn do_text<R: Runtime<A = Global>, S: Sheets, W: Write + Drop, K: Keeper>(
         Ok(passed) => passed,
         Err(fault) => return Ok((to, Ending::Stopped(fault))),
     };
-    match try_sheet(world.rt.alloc(), desk, kind, passed, text) {
+    match try_sheet(world, desk, kind, passed, text) {
         Ok((replies, outcome)) => {
             let trial = Trial {
                 kind,

@@ -2,7 +2,7 @@
 
 ghost use Rattle.std.specs.Io.{ReadsAtMost};
 
-use crate::progress::ProgressDisplay;
+use crate::progress::{Extent, ProgressDisplay};
 use crate::streams::wait_for_input;
 use std::alloc::Global;
 use std::io::{ErrorKind, IsTerminal, Read};
@@ -28,9 +28,8 @@ pub trait Sheets {
         ensures text { IfOk result (λ reader.
             Self.Reader.remaining reader ≡ text_of self.now name.now) };
 
-    /// Whether all records of the sheet of a name are there already, as in a file. On a pipe or a terminal they may come
-    /// one by one.
-    fn is_whole(&self, name: &str) -> bool;
+    /// How much there is of the sheet of a name, and whether all of it is there already.
+    fn extent(&self, name: &str) -> Extent;
 }
 
 /// What is outside of the program while it does a job.
@@ -50,6 +49,8 @@ pub struct SystemSheets<'a, R: Runtime<A = Global> + Net> {
     rt: &'a R,
     // whether standard error says of a sheet that its last line has no end
     says: bool,
+    // whether the standard input is a terminal
+    is_typed: bool,
 }
 
 /// A sheet of the system.
@@ -116,8 +117,9 @@ impl<'a, R: Runtime<A = Global> + Net> SystemSheet<'a, R> {
     fn tell_end(&mut self) {
         if let Some(last) = self.last {
             if self.says && last != b'\n' && last != b'\r' {
+                // it is said on a terminal alone, where how far the sheet is may stand in the line
                 let _ = eprintln!(self.rt;
-                    "note: the last line of the sheet has no end; look whether it was cut off"
+                    "\r\x1b[Knote: the last line of the sheet has no end; look whether it was cut off"
                 );
             }
         }
@@ -148,6 +150,7 @@ impl<'a> SystemSheets<'a, HostRuntime> {
         SystemSheets {
             rt,
             says: rt.stderr().is_terminal(),
+            is_typed: rt.stdin().is_terminal(),
         }
     }
 }
@@ -179,13 +182,17 @@ impl<'a, R: Runtime<A = Global> + Net> Sheets for SystemSheets<'a, R> {
         Ok(self.sheet(SystemBytes::File(file)))
     }
 
-    fn is_whole(&self, name: &str) -> bool {
+    fn extent(&self, name: &str) -> Extent {
         if name == "stdin" {
-            return false;
+            return if self.is_typed {
+                Extent::Typed
+            } else {
+                Extent::Sent
+            };
         }
         match fs::metadata(self.rt, name) {
-            Ok(metadata) => metadata.is_file(),
-            Err(_) => false,
+            Ok(metadata) if metadata.is_file() => Extent::Bytes(metadata.len()),
+            _ => Extent::Sent,
         }
     }
 }
