@@ -143,7 +143,7 @@ run_known holds way read (Some t) before after old new outcome is ran = subst (�
 
 module _ {K : Type 0} (holds : K → Result Image Table → Type 0) (kind : Sheet) (read : List ℕ) (known : Option (List ℕ)) (is : IfSome known (λ t. read ≡ t)) (before after : DeskView K) (old : Option (List ℕ)) where
   sheet_known : (resumes : Bool) (new : Option (List ℕ)) (ending : Ending) → EndsSheet holds kind resumes (Some read) before after old new ending → EndsSheet holds kind resumes known before after old new ending
-  sheet_known false new ending (inl (pace, ran)) = inl (pace, record { outcome = ran.outcome; ran = run_known holds _ read known before after old new ran.outcome is ran.ran; ends = ran.ends })
+  sheet_known false new ending (inl (pace, ran)) = inl (pace, record { outcome = ran.outcome; ran = run_known holds (record { kind = kind; pace = pace; passed = 0 }) read known before after old new ran.outcome is ran.ran; ends = ran.ends })
   sheet_known false new ending (inr unopened) = inr unopened
   sheet_known true new ending (inl done) = inl (record {
     text = done.text;

@@ -15,12 +15,12 @@ fn is_edge(byte: u8) -> bool
     byte == b',' || byte == b'\n'
 }
 
-/// Writes a byte, and before it what begins its cell or ends the one that is open.
-fn write_byte<W: Write>(writer: &mut W, is_open: bool, byte: u8) -> io::Result<()>
+/// Writes a byte; before an edge what ends the cell that is open, and else what begins one where none is.
+fn write_byte<W: Write>(writer: &mut W, is_open: bool, edge: bool, byte: u8) -> io::Result<()>
     ensures { OnOk result (Appends (W.contents writer.old) (W.contents writer.new)
-        (with_marks is_open (is_edge byte) byte)) }
+        (with_marks is_open edge byte)) }
 {
-    match (is_open, is_edge(byte)) {
+    match (is_open, edge) {
         (true, true) => writer.write_all(&[b'"', b'"', b'"', byte]),
         (false, false) => writer.write_all(&[b'"', b'=', b'"', b'"', byte]),
         (true, false) | (false, true) => writer.write_all(&[byte]),
@@ -46,8 +46,9 @@ pub(crate) fn write_text_cells<W: Write>(writer: &mut W, text: &[u8]) -> io::Res
 {
     let mut is_open = false;
     for byte in text {
-        write_byte(writer, is_open, *byte)?;
-        is_open = !is_edge(*byte);
+        let edge = is_edge(*byte);
+        write_byte(writer, is_open, edge, *byte)?;
+        is_open = !edge;
     }
     write_close(writer, is_open)
 }

@@ -83,12 +83,6 @@ fn writes_text_cells(job: &Job<'_>) -> bool
     }
 }
 
-fn question_work<'a>(question: Question, as_text: bool) -> Work<'a>
-    ensures { result ≡ Work.Question question as_text }
-{
-    Work::Question { question, as_text }
-}
-
 /// What a job asks for. Its words are read, and nothing else is looked at.
 ///
 /// # Errors
@@ -142,7 +136,13 @@ pub fn task_of<'a>(alloc: Global, job: &Job<'a>) -> Result<Task<'a>, QuestionFau
         | Job::Rows { db, .. }
         | Job::Gone { db, .. }
         | Job::Log { db, .. } => match question_of(alloc, job)? {
-            Some(question) => (db, question_work(question, writes_text_cells(job))),
+            Some(question) => (
+                db,
+                Work::Question {
+                    question,
+                    as_text: writes_text_cells(job),
+                },
+            ),
             None => unreachable!(),
         },
     };

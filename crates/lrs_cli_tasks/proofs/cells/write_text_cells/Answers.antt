@@ -9,7 +9,7 @@ loop-byte-init g c = none_marked c.args.text.now (g.W.Write.contents c.args.writ
 
 pub loop-byte-preserved : goal.loop-byte-preserved
 loop-byte-preserved g c =
-    rw c.is_edge.ensures (one_marked c.args.text.now _ _ _ c.loop-byte.is_open c.loop-byte.byte-index c.loop-byte-test.true c.loop-byte.invariant c.in_ok-write_byte.ensures)
+    rw c.is_edge-edge.ensures (one_marked c.args.text.now _ _ _ c.loop-byte.is_open c.loop-byte.byte-index c.loop-byte-test.true c.loop-byte.invariant (rw c.is_edge-edge.ensures at c.in_ok-write_byte.ensures))
 
 pub returns : goal.returns
 returns g c =
