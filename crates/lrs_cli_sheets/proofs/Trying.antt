@@ -15,7 +15,7 @@ use Rattle.lrs_cli_tasks.specs.declared.fault.ProgramFault.TheVariants as progra
 use Rattle.lrs_cli_sheets.specs.declared.sheets.Pace.TheVariants.{InPieces}
 use Rattle.lrs_cli_sheets.specs.declared.sheets.Way.{Way}
 use Rattle.lrs_cli_sheets.specs.Audits.{IsAudited, IsMadeBy, log_of}
-use Rattle.lrs_cli_sheets.specs.Sheets.{EndsAsRun, EndsSheet, HasRun, IsUnwritten, is_cut_off}
+use Rattle.lrs_cli_sheets.specs.Sheets.{EndsSheet, HasRun, IsUnwritten, is_cut_off}
 use Rattle.lrs_cli_tasks.specs.declared.endings.Ending.{Ending}
 use Rattle.lrs_cli_sheets.specs.Trials.{EndsAll, EndsGiven, EndsRecords, IsFull, IsTried}
 

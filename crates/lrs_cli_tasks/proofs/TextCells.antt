@@ -1,6 +1,6 @@
 -- A CSV text whose cells are written as text, byte by byte.
 use Rattle.std.proofs.Common.{◌≡◌, ◌∙◌, ◌<◌, ◌≤◌, ◌+◌, ℕ, zero, suc, Bool, true, false, cond, not, ◌||◌, List, [], ◌∷◌, ◌++◌, map, length, drop, get_or, Option, Some, None, refl, sym, ap, append_assoc, append-nil, drop-cons, eqb-true, arith}
-use Rattle.std.specs.Prelude.{◌==◌, Ok, Err}
+use Rattle.std.specs.Prelude.{◌==◌}
 use Rattle.std.specs.List.{join_with_byte, onto_first}
 use Rattle.std.specs.Io.KnownBytes.{Appends}
 use Rattle.std.proofs.lemmas.List.Splits.{length-slice_split}

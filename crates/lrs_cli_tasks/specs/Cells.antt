@@ -1,5 +1,5 @@
 -- What is written of a CSV text byte by byte, where each of its cells is written as text.
-use Rattle.std.specs.Prelude.{ℕ, ◌==◌, ◌||◌, Bool, true, false, not, List, [], ◌∷◌, ◌++◌}
+use Rattle.std.specs.Prelude.{ℕ, ◌==◌, ◌||◌, Bool, true, false, not, [], ◌∷◌, ◌++◌}
 use Rattle.lrs_machine.specs.Lines.{Text}
 
 -- a comma, or the end of a line
