@@ -2,3 +2,4 @@ pub mod Sheets
 pub mod Trials
 pub mod QuestionSheets
 pub mod Audits
+pub mod Tidyings

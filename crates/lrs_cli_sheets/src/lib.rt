@@ -1,5 +1,5 @@
-//! What the program does with sheets, whatever keeps the inventory: they are done, tried, and asked; and an inventory is
-//! compared with what its log makes.
+//! What the program does with sheets, whatever keeps the inventory: they are done, tried, asked and tidied; and an
+//! inventory is compared with what its log makes.
 #![tactic(auto)]
 
 mod advice;
@@ -9,6 +9,7 @@ mod progress;
 mod question_sheets;
 mod sheets;
 mod streams;
+mod tidy_sheet;
 mod trial;
 mod world;
 
@@ -17,5 +18,6 @@ pub use progress::ProgressDisplay;
 pub use question_sheets::{QuestionPace, answer_sheet, do_questions};
 pub use sheets::Pace;
 pub use streams::write_out;
+pub use tidy_sheet::do_tidy;
 pub use trial::{do_check, do_records};
 pub use world::{Sheets, SystemSheet, SystemSheets, World};

@@ -11,7 +11,7 @@ use Rattle.lrs_cli_tasks.specs.declared.task.Task.TheVariants as task
 use Rattle.lrs_cli_tasks.specs.declared.task.Work.{Work}
 use Rattle.lrs_cli_tasks.specs.declared.task.Work.TheVariants as work
 
--- the inventory that it names; none for the page
+-- the inventory that it names; none for the page, or to tidy a sheet
 abbrev pub inventory_of : Job → Option Text
 inventory_of (job.Edit db sheet sums resume all) = Some db.now
 inventory_of (job.Survey db sheet sums resume all) = Some db.now
@@ -32,25 +32,27 @@ inventory_of (job.Log db from key) = Some db.now
 inventory_of (job.Audit db) = Some db.now
 inventory_of (job.Serve db port max sums log end_on_fault most_reply) = Some db.now
 inventory_of (job.Page dir) = None
+inventory_of (job.Tidy file survey) = None
 
--- of which kind a sheet is that is checked
-abbrev pub kind_checked : Bool → Sheet
-kind_checked true = Survey
-kind_checked false = Edits
+-- of which kind a sheet is that is checked or tidied
+abbrev pub kind_of : Bool → Sheet
+kind_of true = Survey
+kind_of false = Edits
 
 -- `edit` does an edit sheet, `survey` a survey, `check` tries one, `ask` answers a sheet of questions, `audit` audits, `serve` serves where and how its words say, and every other job asks what they say
 abbrev pub IsWorkOf : Job → Work → Type 0
 IsWorkOf (job.Edit db sheet sums resume all) (work.Sheet kind from resumes whole) = (kind ≡ Edits) × (from.now ≡ sheet.now) × (resumes ≡ resume) × (whole ≡ all)
 IsWorkOf (job.Survey db sheet sums resume all) (work.Sheet kind from resumes whole) = (kind ≡ Survey) × (from.now ≡ sheet.now) × (resumes ≡ resume) × (whole ≡ all)
-IsWorkOf (job.Check db sheet survey) (work.Check kind from) = (kind ≡ kind_checked survey) × (from.now ≡ sheet.now)
+IsWorkOf (job.Check db sheet survey) (work.Check kind from) = (kind ≡ kind_of survey) × (from.now ≡ sheet.now)
 IsWorkOf (job.Ask db questions) (work.Questions from) = from.now ≡ questions.now
 IsWorkOf (job.Audit db) work.Audit = ⊤
 IsWorkOf (job.Serve db port max sums log end_on_fault most_reply) (work.Service service) = SaysService port.now max.now log end_on_fault (option_map (λ w. w.now) most_reply) service
 IsWorkOf j (work.Question question) = Asks j question
 IsWorkOf j w = ⊥
 
--- `page` has a folder, and every other job an inventory and what is done with it
+-- `page` has a folder, `tidy` a file, and every other job an inventory and what is done with it
 abbrev pub IsTaskOf : Job → Task → Type 0
 IsTaskOf (job.Page dir) (task.Page folder) = folder.now ≡ dir.now
+IsTaskOf (job.Tidy file survey) (task.Tidy kind from) = (kind ≡ kind_of survey) × (from.now ≡ file.now)
 IsTaskOf j (task.Inventory db w) = (inventory_of j ≡ Some db.now) × IsWorkOf j w
 IsTaskOf j t = ⊥
