@@ -17,7 +17,7 @@ use Rattle.lrs_sheet_records.specs.declared.fault.SheetFault.{SheetFault}
 use Rattle.lrs_sheet_records.specs.declared.fault.SheetFault.TheVariants as fault
 use Rattle.lrs_sheet_records.specs.declared.sheet.Sheet.{Sheet}
 use Rattle.lrs_sheet_advice.specs.TidyReadings.{HasGivenTidy, TellsTidy}
-use Rattle.lrs_sheet_advice.specs.TidySheets.{IsTidyRecord, IsTidyRow, IsTidySheet}
+use Rattle.lrs_sheet_advice.specs.TidySheets.{IsTidied, IsTidyRecord, IsTidyRow, IsTidySheet, IsUntidy}
 
 -- ---- lists of records
 
@@ -92,11 +92,11 @@ begins_all input all front (s1, y1, reached, none) (s2, y2, begun) = begin_with 
 
 -- ---- the sheet
 
-first_of : List (List Text) → List Text
+abbrev first_of : List (List Text) → List Text
 first_of [] = []
 first_of (r ∷ rs) = r
 
-others_of : List (List Text) → List (List Text)
+abbrev others_of : List (List Text) → List (List Text)
 others_of [] = []
 others_of (r ∷ rs) = rs
 
@@ -112,7 +112,6 @@ module _ {R : Type 0} (kind : Sheet) (rem : R → Option Text) (next : Reader R)
 
   -- a record that stands in a tidy sheet is tidy
   row_is_tidy : (records : List (List Text)) (fields : List Text) → BeginsWith input (header ∷ (records ++ fields ∷ [])) → IsTidySheet kind input → IsTidyRow kind fields
-  unfolding others_of
   row_is_tidy records fields begins sheet =
       let (behind, same) = begins_all input (sheet.header ∷ sheet.records) (header ∷ (records ++ fields ∷ [])) sheet.all begins in
       let under : sheet.records ≡ (records ++ fields ∷ []) ++ behind = ap others_of same in
@@ -125,7 +124,7 @@ module _ {R : Type 0} (kind : Sheet) (rem : R → Option Text) (next : Reader R)
       other (row_is_tidy w.records bad begun sheet).0
   not_tidy (last, w, inr (after, fields, gave, untidy)) sheet =
       let (rest, source, reached) = gave-more rem next last after w.records (fields ∷ []) w.gave gave input (header ∷ []) has in
-      untidy (row_is_tidy w.records fields (_, rest, reached) sheet).1
+      untidy (row_is_tidy w.records fields (after.state, rest, reached) sheet).1
 
   told_header : (is : Bool) → IsHeader kind header → TellsTidy kind rem next is → IsTrue is ↔ IsTidySheet kind input
   told_header true head tells = (λ e. is_tidy head tells, λ sheet. refl)
@@ -153,9 +152,8 @@ told_empty kind rem rows (Some input) start ends = (λ e. cc e, λ sheet. absurd
 
 -- nor is one with another header
 other_header : {R : Type 0} (kind : Sheet) (rem : R → Option Text) (next : Reader R) (input : Text) (fields : List Text) → HasRead rem next input (fields ∷ []) → (IsHeader kind fields → ⊥) → IsTidySheet kind input → ⊥
-unfolding first_of
 other_header kind rem next input fields (rest, source, reached) other sheet =
-    let (behind, same) = begins_all input (sheet.header ∷ sheet.records) (fields ∷ []) sheet.all (_, rest, reached) in
+    let (behind, same) = begins_all input (sheet.header ∷ sheet.records) (fields ∷ []) sheet.all (next.state, rest, reached) in
     let first : sheet.header ≡ fields = ap first_of same in
     other (subst (IsHeader kind) first sheet.is_header)
 
@@ -163,3 +161,14 @@ pub told_other : {R : Type 0} (kind : Sheet) (rem : R → Option Text) (rows nex
     → IfSome known (λ input. IsTrue false ↔ IsTidySheet kind input)
 told_other kind rem rows next None fields start gave other = tt
 told_other kind rem rows next (Some input) fields start gave other = (λ e. cc e, λ sheet. absurd (other_header kind rem next input fields (gave input [] start) other sheet))
+
+-- ---- what a text becomes
+
+pub tidied_same : (kind : Sheet) (text tidied : Text) (is : Bool) → is ≡ true → (IsTrue is ↔ IsTidySheet kind text) → tidied ≡ text → IsTidied kind text tidied
+tidied_same kind text tidied is yes tells same = record { tidy = subst (IsTidySheet kind) (sym same) (tells.0 yes); same = λ sheet. same }
+
+pub untidy : (kind : Sheet) (text : Text) (was : Bool) → was ≡ false → (IsTrue was ↔ IsTidySheet kind text) → IsUntidy kind text
+untidy kind text was no tells sheet = let both : false ≡ true = sym no ∙ tells.1 sheet in cc both
+
+pub tidied_other : (kind : Sheet) (text tidied : Text) (was is : Bool) → was ≡ false → (IsTrue was ↔ IsTidySheet kind text) → is ≡ true → (IsTrue is ↔ IsTidySheet kind tidied) → IsTidied kind text tidied
+tidied_other kind text tidied was is no tells yes tells_now = record { tidy = tells_now.0 yes; same = λ sheet. absurd (untidy kind text was no tells sheet) }

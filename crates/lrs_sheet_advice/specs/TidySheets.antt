@@ -1,4 +1,4 @@
--- Tidy sheets: the header of their kind, as many fields in each record, and in each field nothing that a spreadsheet put there.
+-- Sheets that are tidy, and what a text becomes that is tidied. A tidy sheet has the header of its kind, as many fields in each record, and in each field nothing that could be read in two ways.
 use Rattle.std.specs.Prelude.{◌≡◌, ◌==◌, ◌&&◌, ◌||◌, ℕ, ◌-◌, ◌<◌, nat_le, nat_lt, Bool, false, not, List, ◌∷◌, length, Option, slice_get, slice_index, IsTrue, codes, count_by, if◌then◌else◌}
 use Rattle.std.specs.List.{AllByRecursion, list_all}
 use Rattle.std.specs.Option.{option_map_or}
@@ -29,7 +29,7 @@ is_list_byte byte = is_printable byte && not (byte == 44) && not (byte == 46)
 
 -- the text begins or ends with a space
 abbrev pub has_outer_space : Text → Bool
-has_outer_space text = if length text == 0 then false else (slice_index text 0 == 32) || (slice_index text (length text - 1) == 32)
+has_outer_space text = if length text == 0 then false else ((slice_index text 0 == 32) || (slice_index text (length text - 1) == 32))
 
 -- how many slashes the text has
 abbrev pub slashes : Text → ℕ

@@ -1,6 +1,6 @@
 //! Whether what stands in a field of a sheet can be read in one way at most.
 
-ghost use Rattle.std.specs.Prelude.{◌≡◌, ◌==◌, count_by};
+ghost use Rattle.std.specs.Prelude.{◌≡◌};
 ghost use Rattle.std.specs.List.{list_all};
 ghost use Rattle.lrs_sheet_advice.specs.AdviceLines as lines;
 ghost use Rattle.lrs_sheet_advice.specs.TidySheets as spec;

@@ -15,9 +15,6 @@ use csv::ByteRecord;
 use lrs_machine::Field;
 use lrs_sheet_records::{Sheet, SheetRecord, Verb, place_of, read_verb, text_at};
 
-/// How many fields a record of an edit sheet has.
-const PLACES: usize = 11;
-
 /// The field at a place of an edit sheet.
 pub(crate) fn field_of(place: usize) -> Field
     requires { place < 11 }
@@ -130,7 +127,7 @@ pub(crate) fn form_at(record: &SheetRecord<'_>, place: usize) -> CellForm
 fn are_tidy_fields(record: &SheetRecord<'_>) -> bool
     ensures { IsTrue result ↔ spec.AreTidyFields (edit_fields record.now) }
 {
-    for place in 0..PLACES {
+    for place in 0..11 {
         if !is_tidy(form_at(record, place), text_at(record, place)) {
             return false;
         }

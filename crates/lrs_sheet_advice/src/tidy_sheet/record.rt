@@ -1,5 +1,7 @@
 //! A record of a sheet, made of a row of a text.
 
+ghost use Rattle.std.specs.Prelude.{◌<◌};
+
 use crate::column::column_of;
 use crate::line::AdviceLine;
 use crate::slot::{Slot, slot_of};
@@ -14,9 +16,6 @@ use lrs_machine::Field;
 use lrs_position::{Method, read_method};
 use lrs_sheet_records::{Sheet, SheetRecord, column, place_of, text_at};
 use std::alloc::{AllocError, Global};
-
-/// How many fields a record of an edit sheet has.
-const PLACES: usize = 11;
 
 /// A row of a text, and where it stands.
 #[derive(Clone, Copy)]
@@ -262,7 +261,7 @@ impl<'a> Row<'a> {
         notes: &mut Notes,
         sheet: &mut Vec<u8>,
     ) -> Result<(), AllocError> {
-        for place in 0..PLACES {
+        for place in 0..11 {
             if place == 1 && self.kind == Sheet::Survey {
                 continue;
             }

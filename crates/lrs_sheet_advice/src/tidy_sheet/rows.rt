@@ -51,13 +51,14 @@ impl<'a> Rows<'a> {
         }
     }
 
-    /// Goes on to the next row that has something in it, and says whether there is one.
-    fn go_to_header(&mut self) -> Result<bool, TidyFault> {
+    /// Goes on to the first row that has something in it, and says whether there is one.
+    fn go_to_header(&mut self, bench: &mut Bench) -> Result<bool, TidyFault> {
         for _turn in 0..u64::MAX {
             if !self.go_on()? {
                 return Ok(false);
             }
-            if !is_blank(&self.row) {
+            bench.take_header(&self.row)?;
+            if !is_blank(&bench.record) {
                 return Ok(true);
             }
         }
@@ -83,7 +84,6 @@ impl<'a> Rows<'a> {
         notes: &mut Notes,
     ) -> Result<Columns, TidyFault> {
         let line = self.line();
-        bench.take_header(&self.row)?;
         let header = Header {
             kind,
             row: &bench.record,
@@ -128,7 +128,7 @@ impl<'a> Rows<'a> {
         notes: &mut Notes,
         sheet: &mut Vec<u8>,
     ) -> Result<(), TidyFault> {
-        if !self.go_to_header()? {
+        if !self.go_to_header(bench)? {
             bench.note.clear();
             bench.note.say("line 1: the sheet is empty")?;
             notes.add_doubt(&bench.note)?;
