@@ -34,6 +34,7 @@ fn write_tidied<W: Write + Drop>(tidied: &[u8], to: W) -> Result<W, ProgramFault
 }
 
 // Tidies the bytes of a file, and writes what they became.
+#[tactic(auto, using(crate::proofs::Tidied::has_tidied, crate::proofs::Tidied::has_not_tidied))]
 fn tidy_bytes<R: Runtime<A = Global>, W: Write + Drop>(
     rt: &R,
     kind: Sheet,

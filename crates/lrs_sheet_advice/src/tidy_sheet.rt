@@ -159,6 +159,7 @@ fn mend(
     Ok(true)
 }
 
+#[tactic(auto, using(crate::proofs::TidyRows::tidied_same, crate::proofs::TidyRows::tidied_other, crate::proofs::TidyRows::untidy))]
 /// Makes a tidy sheet of the bytes of a file, and says in lines what was changed. A tidy sheet is left as it is, byte for
 /// byte. Where a text could be read in two ways, nothing is made of it: `said` names each such text, and the answer is no.
 ///

@@ -162,5 +162,8 @@ pub(crate) fn is_blank(row: &ByteRecord) -> bool
 pub(crate) fn is_tidy_record(record: &SheetRecord<'_>) -> bool
     ensures { IsTrue result ↔ spec.IsTidyRecord record.now.sheet (fields_of record.now.fields.now) }
 {
-    !is_blank(record.fields) && are_tidy_fields(record)
+    if is_blank(record.fields) {
+        return false;
+    }
+    are_tidy_fields(record)
 }
