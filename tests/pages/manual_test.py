@@ -45,7 +45,7 @@ def table(name):
 def test_the_page_describes_each_command_with_its_words():
     plain = re.sub(r"\\f[BIR]", "", PAGE).replace("\\-", "-")
     synopsis = plain.partition(".SH SYNOPSIS")[2].partition(".SH DESCRIPTION")[0]
-    described = re.findall(r'^\.BI (\w+) " D(?:B|IR)', plain.partition(".SH COMMANDS")[2].partition(".SH OPTIONS")[0], re.M)
+    described = re.findall(r'^\.BI (\w+) " (?:DB|DIR|FILE)', plain.partition(".SH COMMANDS")[2].partition(".SH OPTIONS")[0], re.M)
     assert sorted(described) == sorted(commands())
     for command in commands():
         line = re.search(rf"^roadlrs {command} ((?:.*)(?:\n +.*)?)$", synopsis, re.M)

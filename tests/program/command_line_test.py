@@ -174,7 +174,7 @@ def test_sums_that_are_not_understood(words):
     is_misused(run(*words, given=FIRST))
 
 
-NAMES_OF_JOBS = ["edit", "survey", "check", "serve", "at", "where", "translate", "strip", "diagram", "totals", "lengths", "find", "ask", "list", "rows", "gone", "log", "audit", "page"]
+NAMES_OF_JOBS = ["edit", "survey", "check", "tidy", "serve", "at", "where", "translate", "strip", "diagram", "totals", "lengths", "find", "ask", "list", "rows", "gone", "log", "audit", "page"]
 
 
 OPTIONS = {
@@ -183,7 +183,7 @@ OPTIONS = {
     b"--all": (b"Does the sheet only if no record of it is refused", ["edit", "survey"]),
     b"--whole": (b"Does the sheet only if its last line has an end", ["edit", "survey"]),
     b"--text": (b"Writes each cell as text, for a spreadsheet", ["lengths", "list", "rows", "gone", "log"]),
-    b"--survey": (b"The sheet is a survey", ["check"]),
+    b"--survey": (b"The sheet is a survey", ["check", "tidy"]),
     b"--log": (b"Writes a line for each request on standard error, and a count at the end", ["serve"]),
     b"--end-on-fault": (b"Ends with status 3 once the inventory was not written", ["serve"]),
     b"--most-reply <BYTES>": (b"How many bytes a reply has at most, 67108864 unless said; a longer one is a 503", ["serve"]),

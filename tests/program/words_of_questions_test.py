@@ -19,6 +19,7 @@ EXAMPLES = {
     "edit": ("edit roads.db first.csv", 3, "fault Read"),
     "survey": ("survey roads.db found.csv", 3, "fault Read"),
     "check": ("check roads.db first.csv", 3, "fault Read"),
+    "tidy": ("tidy first.txt > first.csv", 3, "fault Read"),
     "at": ("at roads.db A1 abs 3000", 1, "NoRoute"),
     "where": ("where roads.db A1 3000", 1, "NoRoute"),
     "translate": ("translate roads.db A1 int 1/3 abs", 1, "NoRoute"),

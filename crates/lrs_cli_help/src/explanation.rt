@@ -1,7 +1,7 @@
 //! What stands behind each fault of a job, and what to do about it: lines on standard error.
 
 use crate::contents::Contents;
-use crate::flaw::{tell_flaw, tell_last_line};
+use crate::flaw::{tell_flaw, tell_last_line, tell_tidying};
 use crate::holder::Holder;
 use crate::inspection::{Found, inspect};
 use crate::job_texts::{
@@ -358,6 +358,7 @@ pub fn explain_header(rt: &HostRuntime, job: &Job<'_>) {
         let _ = eprintln!(rt; "explain: {sheet}: its first line is not the header {header}");
         tell_check(rt, job);
     }
+    let _ = tell_tidying(rt, job);
     if has_questions(job) {
         say(rt, "nothing was asked; mend the header and ask again");
     } else {
@@ -390,6 +391,7 @@ pub fn explain_record(rt: &HostRuntime, job: &Job<'_>) {
         say_of(rt, sheet, "a record has too few or too many fields");
         tell_check(rt, job);
     }
+    let _ = tell_tidying(rt, job);
     say(rt, state_before_record(job));
 }
 

@@ -3,9 +3,9 @@
 use crate::job_texts::{sheet_kind, sheet_of, wanted_header};
 use crate::lines::{say, say_of};
 use crate::shown::shown;
-use crate::spreadsheet::{first_line, last_line, trace_in};
+use crate::spreadsheet::{WORKBOOK, first_line, last_line, trace_in};
 use lrs_cli_words::Job;
-use lrs_sheet_advice::{SheetFlaw, write_fault_advice};
+use lrs_sheet_advice::{SheetFlaw, tidy, write_fault_advice};
 use lrs_sheet_records::Sheet;
 use std::fs;
 use std::rt::HostRuntime;
@@ -62,6 +62,40 @@ fn tell_header(rt: &HostRuntime, job: &Job<'_>, sheet: &str, text: &[u8]) -> Opt
 fn tell_record(rt: &HostRuntime, job: &Job<'_>, sheet: &str, text: &[u8]) -> Option<()> {
     let kind = sheet_kind(job).unwrap_or(Sheet::Edits);
     tell_line(rt, sheet, kind, SheetFlaw::Width, text)
+}
+
+// Whether the header of a sheet of this kind can be tidied, whatever stands below it.
+fn can_tidy(rt: &HostRuntime, kind: Sheet, header: &[u8]) -> bool {
+    let mut tidied = Vec::new(rt.alloc());
+    let mut said = Vec::new(rt.alloc());
+    matches!(
+        tidy(rt.alloc(), kind, header, &mut tidied, &mut said),
+        Ok(true)
+    )
+}
+
+// Whether a text is nearly a sheet of this kind: spreadsheets write it so, or its header can be tidied.
+fn is_near(rt: &HostRuntime, kind: Sheet, header: &str, text: &[u8]) -> bool {
+    match trace_in(text, header) {
+        Some(trace) => trace != WORKBOOK,
+        None => can_tidy(rt, kind, first_line(text)),
+    }
+}
+
+/// Says what makes a sheet of what a spreadsheet wrote, where the sheet of a job is in a file and nearly one.
+pub(crate) fn tell_tidying(rt: &HostRuntime, job: &Job<'_>) -> Option<()> {
+    let kind = sheet_kind(job)?;
+    let sheet = sheet_of(job)?;
+    let text = bytes_of(rt, sheet)?;
+    if !is_near(rt, kind, wanted_header(job), text.as_slice()) {
+        return None;
+    }
+    let option = match kind {
+        Sheet::Edits => "",
+        Sheet::Survey => " --survey",
+    };
+    let _ = eprintln!(rt; "explain: roadlrs tidy {sheet}{option} > NEW.csv makes a sheet of it");
+    Some(())
 }
 
 /// Reads the sheet of a job once more, if it is in a file, and says which line is the first that is wrong. None where

@@ -123,7 +123,7 @@ pub(crate) fn method_given<'a>(job: &Job<'a>) -> Option<&'a str> {
     Some(position_in(job)?.0)
 }
 
-/// The inventory of a job: none for the page.
+/// The inventory of a job: none for the page, and to tidy a sheet.
 pub(crate) fn inventory_of<'a>(job: &Job<'a>) -> Option<&'a str> {
     match job {
         Job::Edit { db, .. }
@@ -144,7 +144,7 @@ pub(crate) fn inventory_of<'a>(job: &Job<'a>) -> Option<&'a str> {
         | Job::Log { db, .. }
         | Job::Audit { db }
         | Job::Serve { db, .. } => Some(db),
-        Job::Page { .. } => None,
+        Job::Page { .. } | Job::Tidy { .. } => None,
     }
 }
 
@@ -155,6 +155,7 @@ pub(crate) fn sheet_of<'a>(job: &Job<'a>) -> Option<&'a str> {
             Some(sheet)
         }
         Job::Ask { questions, .. } => Some(questions),
+        Job::Tidy { file, .. } => Some(file),
         _ => None,
     }
 }

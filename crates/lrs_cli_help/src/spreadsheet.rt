@@ -24,11 +24,14 @@ fn has_comma(line: &[u8]) -> bool {
     line.contains(&b',')
 }
 
+/// What is said of a file that is no text.
+pub(crate) const WORKBOOK: &str = "this is a workbook, as .xlsx or .ods: save its sheet as CSV";
+
 /// What a spreadsheet has done to a sheet with another header than this one, where that is seen.
 pub(crate) fn trace_in(text: &[u8], header: &str) -> Option<&'static str> {
     let line = first_line(text);
     if text.starts_with(b"PK\x03\x04") {
-        Some("this is a workbook, as .xlsx or .ods: save its sheet as CSV")
+        Some(WORKBOOK)
     } else if text.starts_with(b"\xff\xfe") || text.starts_with(b"\xfe\xff") {
         Some("this is UTF-16: save it as CSV in UTF-8")
     } else if line.starts_with(b"sep=") {

@@ -7,6 +7,7 @@ use Rattle.lrs_machine.specs.Image.{nothing, state_of}
 use Rattle.lrs_image.specs.KeeperCalls.{HoldsOnly}
 use Rattle.lrs_desk.specs.DeskView.{DeskView}
 use Rattle.lrs_desk.specs.declared.desk.OpenFault.{OpenFault}
+use Rattle.lrs_sheet_records.specs.declared.sheet.Sheet.{Sheet}
 use Rattle.lrs_cli_words.specs.Questions.{IsFaultOf}
 use Rattle.lrs_cli_words.specs.declared.job.Job.{Job}
 use Rattle.lrs_cli_words.specs.declared.question.QuestionFault.{QuestionFault}
@@ -16,6 +17,7 @@ use Rattle.lrs_cli_sheets.specs.Sheets.{IsUnwritten}
 use Rattle.lrs_cli_sheets.specs.QuestionSheets.{EndsQuestions}
 use Rattle.lrs_cli_sheets.specs.Trials.{EndsCheck, EndsRecords, IsAfterCommands}
 use Rattle.lrs_cli_sheets.specs.Audits.{EndsAudit}
+use Rattle.lrs_cli_sheets.specs.Tidyings.{EndsTidy}
 use Rattle.lrs_cli_tasks.specs.Faults.{fault_of_open}
 use Rattle.lrs_cli_tasks.specs.Tasks.{IsTaskOf}
 use Rattle.lrs_cli_tasks.specs.declared.endings.Ending.{Ending}
@@ -106,6 +108,11 @@ Tries w = ⊥
 abbrev pub EndsPage : Option Text → Printed → Type 0
 EndsPage old given = EndsSilent old given Done ⊎ EndsSilent old given (Stopped Memory) ⊎ EndsSilent old given (Stopped Write)
 
+-- a sheet was tidied, or it could not be; or not all of it was written
+abbrev pub EndsTidied : Sheet → Option Text → Option Text → Printed → Type 0
+EndsTidied kind known old (Ok done) = EndsTidy kind known old done.0 done.1
+EndsTidied kind known old (Err fault) = fault ≡ Write
+
 -- how the program ends where its words cannot be read
 abbrev pub ending_of_words : QuestionFault → Ending
 ending_of_words (unread.Unreadable word) = Unreadable word
@@ -132,6 +139,7 @@ module _ {M F Q : Type 0} (memory : M → Result Image Table → Type 0) (file :
   -- `:memory:` is an inventory in memory, and every other name that of a file
   abbrev pub EndsTask : Task → Option Text → Printed → Type 0
   EndsTask (task.Page dir) old given = EndsPage old given
+  EndsTask (task.Tidy kind from) old given = EndsTidied kind (text_of from.now) old given
   EndsTask (task.Inventory db w) old given =
       ((db.now ≡ codes ":memory:") × EndsInMemory text_of memory w old given)
       ⊎ ((db.now ≡ codes ":memory:" → ⊥) × EndsInFile w old given)

@@ -2,19 +2,20 @@
 
 ghost use Rattle.std.specs.Prelude.{◌≡◌, ◌↔◌, false, true, IsTrue};
 ghost use Rattle.lrs_desk.specs.DeskView.{DeskView};
-ghost use Rattle.lrs_cli_jobs.specs.Jobs.{EndsInFile, EndsInMemory, EndsJob, EndsPage, EndsTask, EndsWithLog, FindsKept, HasWorked, Looks, printed};
+ghost use Rattle.lrs_cli_jobs.specs.Jobs.{EndsInFile, EndsInMemory, EndsJob, EndsPage, EndsTask, EndsTidied, EndsWithLog, FindsKept, HasWorked, Looks, printed};
 
 use crate::desk::{open_desk, open_desk_to_look};
 use crate::service::do_service;
 use lrs_cli_help::{Site, site_at};
 use lrs_cli_sheets::{
-    Pace, ProgressDisplay, Sheets, World, do_audit, do_check, do_questions, do_records,
+    Pace, ProgressDisplay, Sheets, World, do_audit, do_check, do_questions, do_records, do_tidy,
 };
 use lrs_cli_tasks::{
     Ending, ProgramFault, Task, Work, answer, do_page, is_in_memory, open_in_memory, task_of,
 };
 use lrs_cli_words::{Job, QuestionFault, new_has_sums};
 use lrs_desk::{Desk, Files, Holder, Keeper, OpenFault, Plain};
+use lrs_sheet_records::Sheet;
 use std::alloc::Global;
 use std::fs;
 use std::io::Write;
@@ -297,7 +298,20 @@ fn give_page<R: Runtime<A = Global>, W: Write + Drop>(
     Ok((to, do_page(rt, dir)))
 }
 
-// Does a task: writes the page, or works in the inventory that it names.
+// Tidies a sheet.
+fn give_tidied<S: Sheets, W: Write + Drop>(
+    world: &World<'_, HostRuntime, S>,
+    kind: Sheet,
+    from: &str,
+    to: W,
+) -> Result<(W, Ending), ProgramFault>
+    ensures { EndsTidied kind (S.text_of world.now.sheets.now from.now)
+        (W.contents to) (printed W.contents result) }
+{
+    do_tidy(world, kind, from, to)
+}
+
+// Does a task: writes the page, tidies a sheet, or works in the inventory that it names.
 fn do_task<F: Files, S: Sheets, W: Write + Drop>(
     world: &World<'_, HostRuntime, S>,
     files: &mut F,
@@ -312,6 +326,7 @@ fn do_task<F: Files, S: Sheets, W: Write + Drop>(
 {
     match task {
         Task::Page { dir } => give_page(world.rt, dir, to),
+        Task::Tidy { kind, from } => give_tidied(world, kind, from, to),
         Task::Inventory { db, work } => {
             if is_in_memory(db) {
                 return do_in_memory(world, work, to);

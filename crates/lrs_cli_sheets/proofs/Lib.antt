@@ -1,3 +1,4 @@
 pub mod Between
 pub mod BetweenQuestions
 pub mod Trying
+pub mod Tidied

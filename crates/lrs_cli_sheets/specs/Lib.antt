@@ -3,3 +3,4 @@ pub mod Trials
 pub mod QuestionSheets
 pub mod Audits
 pub mod Reports
+pub mod Tidyings

@@ -1,5 +1,5 @@
-//! What the program does with sheets, whatever keeps the inventory: they are done, tried, and asked; and an inventory is
-//! compared with what its log makes.
+//! What the program does with sheets, whatever keeps the inventory: they are done, tried, asked and tidied; and an
+//! inventory is compared with what its log makes.
 #![tactic(auto)]
 
 mod advice;
@@ -10,6 +10,7 @@ mod question_sheets;
 mod report;
 mod sheets;
 mod streams;
+mod tidy_sheet;
 mod trial;
 mod world;
 
@@ -18,5 +19,6 @@ pub use progress::{Extent, ProgressDisplay};
 pub use question_sheets::{QuestionPace, answer_sheet, do_questions};
 pub use sheets::Pace;
 pub use streams::write_out;
+pub use tidy_sheet::do_tidy;
 pub use trial::{do_check, do_records};
 pub use world::{Sheets, SystemSheet, SystemSheets, World};

@@ -11,7 +11,7 @@ use Rattle.lrs_cli_tasks.specs.declared.task.Task.TheVariants as task
 use Rattle.lrs_cli_tasks.specs.declared.task.Work.{Work}
 use Rattle.lrs_cli_tasks.specs.declared.task.Work.TheVariants as work
 
--- the inventory that it names; none for the page
+-- the inventory that it names; none for the page, or to tidy a sheet
 abbrev pub inventory_of : Job → Option Text
 inventory_of (job.Edit db sheet sums resume all whole) = Some db.now
 inventory_of (job.Survey db sheet sums resume all whole) = Some db.now
@@ -32,11 +32,12 @@ inventory_of (job.Log db from key text) = Some db.now
 inventory_of (job.Audit db) = Some db.now
 inventory_of (job.Serve db port max sums log end_on_fault most_reply) = Some db.now
 inventory_of (job.Page dir) = None
+inventory_of (job.Tidy file survey) = None
 
--- of which kind a sheet is that is checked
-abbrev pub kind_checked : Bool → Sheet
-kind_checked true = Survey
-kind_checked false = Edits
+-- of which kind a sheet is that is checked or tidied
+abbrev pub kind_of : Bool → Sheet
+kind_of true = Survey
+kind_of false = Edits
 
 -- each cell of what the job lists is written as text
 abbrev pub has_text_cells : Job → Bool
@@ -51,15 +52,16 @@ has_text_cells _ = false
 abbrev pub IsWorkOf : Job → Work → Type 0
 IsWorkOf (job.Edit db sheet sums resume all whole) (work.Sheet kind from resumes at_once with_end) = (kind ≡ Edits) × (from.now ≡ sheet.now) × (resumes ≡ resume) × (at_once ≡ all) × (with_end ≡ whole)
 IsWorkOf (job.Survey db sheet sums resume all whole) (work.Sheet kind from resumes at_once with_end) = (kind ≡ Survey) × (from.now ≡ sheet.now) × (resumes ≡ resume) × (at_once ≡ all) × (with_end ≡ whole)
-IsWorkOf (job.Check db sheet survey) (work.Check kind from) = (kind ≡ kind_checked survey) × (from.now ≡ sheet.now)
+IsWorkOf (job.Check db sheet survey) (work.Check kind from) = (kind ≡ kind_of survey) × (from.now ≡ sheet.now)
 IsWorkOf (job.Ask db questions) (work.Questions from) = from.now ≡ questions.now
 IsWorkOf (job.Audit db) work.Audit = ⊤
 IsWorkOf (job.Serve db port max sums log end_on_fault most_reply) (work.Service service) = SaysService port.now max.now log end_on_fault (option_map (λ w. w.now) most_reply) service
 IsWorkOf j (work.Question question as_text) = Asks j question × (as_text ≡ has_text_cells j)
 IsWorkOf j w = ⊥
 
--- `page` has a folder, and every other job an inventory and what is done with it
+-- `page` has a folder, `tidy` a file, and every other job an inventory and what is done with it
 abbrev pub IsTaskOf : Job → Task → Type 0
 IsTaskOf (job.Page dir) (task.Page folder) = folder.now ≡ dir.now
+IsTaskOf (job.Tidy file survey) (task.Tidy kind from) = (kind ≡ kind_of survey) × (from.now ≡ file.now)
 IsTaskOf j (task.Inventory db w) = (inventory_of j ≡ Some db.now) × IsWorkOf j w
 IsTaskOf j t = ⊥

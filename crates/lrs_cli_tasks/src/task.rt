@@ -2,7 +2,7 @@
 
 ghost use Rattle.std.specs.Prelude.{◌≡◌, IfOk, IfErr};
 ghost use Rattle.lrs_cli_words.specs.Questions.{IsFaultOf};
-ghost use Rattle.lrs_cli_tasks.specs.Tasks.{IsTaskOf, has_text_cells, kind_checked};
+ghost use Rattle.lrs_cli_tasks.specs.Tasks.{IsTaskOf, has_text_cells, kind_of};
 
 use lrs_cli_words::{Job, QuestionFault, Service, question_of, service_of};
 use lrs_machine::Question;
@@ -48,6 +48,8 @@ pub enum Task<'a> {
     Inventory { db: &'a str, work: Work<'a> },
     /// The web page is written into the folder `dir`.
     Page { dir: &'a str },
+    /// A sheet of this kind is made of what is read from `from`.
+    Tidy { kind: Sheet, from: &'a str },
 }
 
 fn sheet_work<'a>(kind: Sheet, from: &'a str, resumes: bool, all: bool, whole: bool) -> Work<'a>
@@ -62,10 +64,16 @@ fn sheet_work<'a>(kind: Sheet, from: &'a str, resumes: bool, all: bool, whole: b
     }
 }
 
-fn check_work<'a>(from: &'a str, survey: bool) -> Work<'a>
-    ensures { result ≡ Work.Check (kind_checked survey) from.entry }
+fn kind_of(survey: bool) -> Sheet
+    ensures { result ≡ kind_of survey }
 {
-    let kind = if survey { Sheet::Survey } else { Sheet::Edits };
+    if survey { Sheet::Survey } else { Sheet::Edits }
+}
+
+fn check_work<'a>(from: &'a str, survey: bool) -> Work<'a>
+    ensures { result ≡ Work.Check (kind_of survey) from.entry }
+{
+    let kind = kind_of(survey);
     Work::Check { kind, from }
 }
 
@@ -83,6 +91,13 @@ fn writes_text_cells(job: &Job<'_>) -> bool
     }
 }
 
+fn tidy_task<'a>(from: &'a str, survey: bool) -> Task<'a>
+    ensures { result ≡ Task.Tidy (kind_of survey) from.entry }
+{
+    let kind = kind_of(survey);
+    Task::Tidy { kind, from }
+}
+
 /// What a job asks for. Its words are read, and nothing else is looked at.
 ///
 /// # Errors
@@ -93,6 +108,7 @@ pub fn task_of<'a>(alloc: Global, job: &Job<'a>) -> Result<Task<'a>, QuestionFau
 {
     let (db, work) = match job {
         Job::Page { dir } => return Ok(Task::Page { dir }),
+        Job::Tidy { file, survey } => return Ok(tidy_task(file, *survey)),
         Job::Edit {
             db,
             sheet,

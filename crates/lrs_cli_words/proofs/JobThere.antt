@@ -156,6 +156,10 @@ has_flags job.Check = record {
   long = long_among (rules_at job.Check) (flag_at (codes "survey") ∷ []) (survey_fills, survey_fills, tt) help_fills;
   short = short_help (rules_at job.Check) help_fills;
 }
+has_flags job.Tidy = record {
+  long = long_among (rules_at job.Tidy) (flag_at (codes "survey") ∷ []) (survey_fills, survey_fills, tt) help_fills;
+  short = short_help (rules_at job.Tidy) help_fills;
+}
 has_flags job.At = record { long = without_options job.At help_fills; short = short_help (rules_at job.At) help_fills }
 has_flags job.Where = record { long = without_options job.Where help_fills; short = short_help (rules_at job.Where) help_fills }
 has_flags job.Translate = record { long = without_options job.Translate help_fills; short = short_help (rules_at job.Translate) help_fills }
@@ -231,6 +235,7 @@ none_lack : (j : JobName) → list_any (λ r. lacks r.id) (rules_of j) ≡ false
 none_lack job.Edit = refl
 none_lack job.Survey = refl
 none_lack job.Check = refl
+none_lack job.Tidy = refl
 none_lack job.At = refl
 none_lack job.Where = refl
 none_lack job.Translate = refl
@@ -252,6 +257,7 @@ none_missing : (j : JobName) (rows : List Row) → check_fault (shape_at j) rows
 none_missing job.Edit rows e = missing_none _ e
 none_missing job.Survey rows e = missing_none _ e
 none_missing job.Check rows e = missing_none _ e
+none_missing job.Tidy rows e = missing_none _ e
 none_missing job.At rows e = missing_none _ e
 none_missing job.Where rows e = missing_none _ e
 none_missing job.Translate rows e = missing_none _ e

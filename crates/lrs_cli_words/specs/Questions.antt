@@ -125,11 +125,12 @@ pub record SaysService (at most : Text) (tells ends : Bool) (longest : Option Te
 
 -- ---- questions
 
--- the job asks no single question: it does or checks a sheet, answers a sheet of questions, audits, serves, or writes the page
+-- the job asks no single question: it does, checks or tidies a sheet, answers a sheet of questions, audits, serves, or writes the page
 abbrev pub AsksNothing : Job → Type 0
 AsksNothing (job.Edit db sheet sums resume all whole) = ⊤
 AsksNothing (job.Survey db sheet sums resume all whole) = ⊤
 AsksNothing (job.Check db sheet survey) = ⊤
+AsksNothing (job.Tidy file survey) = ⊤
 AsksNothing (job.Ask db questions) = ⊤
 AsksNothing (job.Audit db) = ⊤
 AsksNothing (job.Serve db port max sums log end_on_fault most_reply) = ⊤

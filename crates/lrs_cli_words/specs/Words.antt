@@ -9,7 +9,7 @@ use Rattle.clap.specs.declared.error.ErrorKind.TheVariants as kind
 use Rattle.lrs_cli_words.specs.declared.job.JobName.{JobName}
 use Rattle.lrs_cli_words.specs.declared.job.JobName.TheVariants as job
 use Rattle.lrs_cli_words.specs.declared.job.Job.{Job}
-use Rattle.lrs_cli_words.specs.declared.job.Job.TheVariants.{Edit, Survey, Check, At, Where, Translate, Strip, Diagram, Totals, Lengths, Find, Ask, List as Listing, Rows, Gone, Log, Audit, Serve, Page}
+use Rattle.lrs_cli_words.specs.declared.job.Job.TheVariants.{Edit, Survey, Check, Tidy, At, Where, Translate, Strip, Diagram, Totals, Lengths, Find, Ask, List as Listing, Rows, Gone, Log, Audit, Serve, Page}
 
 -- ---- the command line
 
@@ -41,6 +41,7 @@ abbrev pub name_text : JobName → Text
 name_text job.Edit = codes "edit"
 name_text job.Survey = codes "survey"
 name_text job.Check = codes "check"
+name_text job.Tidy = codes "tidy"
 name_text job.At = codes "at"
 name_text job.Where = codes "where"
 name_text job.Translate = codes "translate"
@@ -63,6 +64,7 @@ abbrev pub rules_of : JobName → List Rule
 rules_of job.Edit = required (codes "DB") ∷ required (codes "SHEET") ∷ []
 rules_of job.Survey = required (codes "DB") ∷ required (codes "SHEET") ∷ []
 rules_of job.Check = required (codes "DB") ∷ required (codes "SHEET") ∷ []
+rules_of job.Tidy = required (codes "FILE") ∷ []
 rules_of job.At = required (codes "DB") ∷ required (codes "ROUTE") ∷ required (codes "METHOD") ∷ required (codes "POS") ∷ []
 rules_of job.Where = required (codes "DB") ∷ required (codes "ROUTE") ∷ required (codes "CHAINAGE") ∷ []
 rules_of job.Translate = required (codes "DB") ∷ required (codes "ROUTE") ∷ required (codes "METHOD") ∷ required (codes "POS") ∷ required (codes "TO") ∷ []
@@ -80,11 +82,12 @@ rules_of job.Audit = required (codes "DB") ∷ []
 rules_of job.Serve = required (codes "DB") ∷ required (codes "PORT") ∷ required (codes "MAX") ∷ []
 rules_of job.Page = required (codes "DIR") ∷ []
 
--- what may be left out: those jobs that may make a file have `--sums`, those that do a sheet also `--resume`, `--all` and `--whole`, a service also `--log`, `--end-on-fault` and `--most-reply`, a check says of which kind its sheet is, a place on a link has its millimetre, a diagram has its classes and its ends, and a list may be narrowed, and has `--text`
+-- what may be left out: those jobs that may make a file have `--sums`, those that do a sheet also `--resume`, `--all` and `--whole`, a service also `--log`, `--end-on-fault` and `--most-reply`, a check and a tidying say of which kind their sheet is, a place on a link has its millimetre, a diagram has its classes and its ends, and a list may be narrowed, and has `--text`
 abbrev pub options_of : JobName → List Rule
 options_of job.Edit = flag (codes "sums") ∷ flag (codes "resume") ∷ flag (codes "all") ∷ flag (codes "whole") ∷ []
 options_of job.Survey = flag (codes "sums") ∷ flag (codes "resume") ∷ flag (codes "all") ∷ flag (codes "whole") ∷ []
 options_of job.Check = flag (codes "survey") ∷ []
+options_of job.Tidy = flag (codes "survey") ∷ []
 options_of job.Serve = flag (codes "sums") ∷ flag (codes "log") ∷ flag (codes "end-on-fault") ∷ option (codes "most-reply") ∷ []
 options_of job.Where = optional (codes "MM") ∷ []
 options_of job.Lengths = option (codes "route") ∷ flag (codes "text") ∷ []
@@ -109,7 +112,7 @@ with_job a j = with_subcommand a (line_of_job j)
 -- all jobs
 abbrev pub jobs : List JobName
 jobs =
-    job.Edit ∷ job.Survey ∷ job.Check ∷ job.At ∷ job.Where ∷ job.Translate ∷ job.Strip ∷ job.Diagram ∷ job.Totals ∷ job.Lengths ∷ job.Find ∷ job.Ask ∷ job.List
+    job.Edit ∷ job.Survey ∷ job.Check ∷ job.Tidy ∷ job.At ∷ job.Where ∷ job.Translate ∷ job.Strip ∷ job.Diagram ∷ job.Totals ∷ job.Lengths ∷ job.Find ∷ job.Ask ∷ job.List
     ∷ job.Rows ∷ job.Gone ∷ job.Log ∷ job.Audit ∷ job.Serve ∷ job.Page ∷ []
 
 abbrev pub bare_line : App
@@ -127,6 +130,7 @@ abbrev pub job_name : Job → JobName
 job_name (Edit db sheet sums resume all whole) = job.Edit
 job_name (Survey db sheet sums resume all whole) = job.Survey
 job_name (Check db sheet survey) = job.Check
+job_name (Tidy file survey) = job.Tidy
 job_name (At db route method position) = job.At
 job_name (Where db route chainage mm) = job.Where
 job_name (Translate db route method position to) = job.Translate
@@ -149,6 +153,7 @@ abbrev pub words_of : Job → List (Text × Text)
 words_of (Edit db sheet sums resume all whole) = (codes "DB", db.now) ∷ (codes "SHEET", sheet.now) ∷ []
 words_of (Survey db sheet sums resume all whole) = (codes "DB", db.now) ∷ (codes "SHEET", sheet.now) ∷ []
 words_of (Check db sheet survey) = (codes "DB", db.now) ∷ (codes "SHEET", sheet.now) ∷ []
+words_of (Tidy file survey) = (codes "FILE", file.now) ∷ []
 words_of (At db route method position) = (codes "DB", db.now) ∷ (codes "ROUTE", route.now) ∷ (codes "METHOD", method.now) ∷ (codes "POS", position.now) ∷ []
 words_of (Where db route chainage mm) = (codes "DB", db.now) ∷ (codes "ROUTE", route.now) ∷ (codes "CHAINAGE", chainage.now) ∷ []
 words_of (Translate db route method position to) =
@@ -230,9 +235,10 @@ HasText (Gone db edit text) rows = IsTrue text ↔ IsSet (codes "text") rows
 HasText (Log db from key text) rows = IsTrue text ↔ IsSet (codes "text") rows
 HasText _ rows = ⊤
 
--- a survey is checked exactly where `--survey` was given
+-- a survey is checked or tidied exactly where `--survey` was given
 abbrev pub HasKind : Job → List Row → Type 0
 HasKind (Check db sheet survey) rows = IsTrue survey ↔ IsSet (codes "survey") rows
+HasKind (Tidy file survey) rows = IsTrue survey ↔ IsSet (codes "survey") rows
 HasKind _ rows = ⊤
 
 -- a service tells its requests exactly where `--log` was given, and ends on a fault exactly where `--end-on-fault` was

@@ -18,6 +18,8 @@ const DB: &str = "The inventory's file, or :memory: for a fresh one in memory";
 
 const SHEET: &str = "The sheet's file, or stdin for the standard input";
 
+const FILE: &str = "The file that a spreadsheet wrote, or stdin for the standard input";
+
 const QUESTIONS: &str = "The file of the questions, or stdin for the standard input";
 
 // What help says of the program, behind its commands.
@@ -137,6 +139,16 @@ Replies: KEY,done,N or KEY,again,N or KEY,refused,CAUSE. See docs/SHEETS.md.
 
 Example: roadlrs survey roads.db found.csv";
 
+// What help says of a sheet that is tidied.
+const TIDIED: &str =
+    "It takes semicolons or tabs between fields, UTF-16, a header in another case or
+order, missing fields at the end, empty rows, spaces and quotation marks around
+fields, other dashes, and numbers that end in .0. A right sheet stays as it is.
+Where a field can be read in two ways, as 1.234 or a date that was made of 1/3,
+the field is named, the status is 1, and nothing is printed.
+
+Example: roadlrs tidy first.txt > first.csv";
+
 // What help says of the records of a sheet of questions.
 const ASKED: &str = "A record has a key, a question and its fields a to d, 6 fields in all:
   at ROUTE METHOD POS            a position's place on its link, what is there
@@ -194,6 +206,17 @@ static CHECK: JobLine = JobLine {
     parts: &[
         LinePart::Required("DB", DB),
         LinePart::Required("SHEET", SHEET),
+        LinePart::Switch("survey", AS_SURVEY),
+    ],
+};
+
+static TIDY: JobLine = JobLine {
+    name: "tidy",
+    about: "Prints what a spreadsheet wrote as a sheet; says what it changed",
+    example: TIDIED,
+    usage: None,
+    parts: &[
+        LinePart::Required("FILE", FILE),
         LinePart::Switch("survey", AS_SURVEY),
     ],
 };
@@ -401,6 +424,7 @@ fn line_in_table(job: JobName) -> &'static JobLine
         JobName::Edit => &EDIT,
         JobName::Survey => &SURVEY,
         JobName::Check => &CHECK,
+        JobName::Tidy => &TIDY,
         JobName::At => &AT,
         JobName::Where => &WHERE,
         JobName::Translate => &TRANSLATE,
@@ -467,6 +491,7 @@ pub(crate) fn program<'a>(alloc: Global) -> Result<Command<'a>, AllocError>
             JobName::Edit,
             JobName::Survey,
             JobName::Check,
+            JobName::Tidy,
             JobName::At,
             JobName::Where,
             JobName::Translate,

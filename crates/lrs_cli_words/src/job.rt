@@ -10,6 +10,7 @@ pub enum JobName {
     Edit,
     Survey,
     Check,
+    Tidy,
     At,
     Where,
     Translate,
@@ -56,6 +57,11 @@ pub enum Job<'a> {
     Check {
         db: &'a str,
         sheet: &'a str,
+        survey: bool,
+    },
+    /// Makes an edit sheet of what a spreadsheet wrote into the file `file`, or a survey.
+    Tidy {
+        file: &'a str,
         survey: bool,
     },
     /// Says who holds a millimetre of a route.
@@ -176,6 +182,7 @@ pub fn new_has_sums(job: &Job<'_>) -> bool
     match job {
         Job::Edit { sums, .. } | Job::Survey { sums, .. } | Job::Serve { sums, .. } => *sums,
         Job::Check { .. }
+        | Job::Tidy { .. }
         | Job::At { .. }
         | Job::Where { .. }
         | Job::Translate { .. }
@@ -203,6 +210,7 @@ pub(crate) fn read_job(name: &str) -> Option<JobName>
         "edit" => Some(JobName::Edit),
         "survey" => Some(JobName::Survey),
         "check" => Some(JobName::Check),
+        "tidy" => Some(JobName::Tidy),
         "at" => Some(JobName::At),
         "where" => Some(JobName::Where),
         "translate" => Some(JobName::Translate),

@@ -366,8 +366,8 @@ pub fn service_of(
     })
 }
 
-/// What a job asks of its inventory; none where it does or checks a sheet, answers a sheet of questions, audits, serves,
-/// or writes the page.
+/// What a job asks of its inventory; none where it does, checks or tidies a sheet, answers a sheet of questions, audits,
+/// serves, or writes the page.
 ///
 /// # Errors
 /// The first word that cannot be read, and `Memory`.
@@ -380,6 +380,7 @@ pub fn question_of(alloc: Global, job: &Job<'_>) -> Result<Option<Question>, Que
         Job::Edit { .. }
         | Job::Survey { .. }
         | Job::Check { .. }
+        | Job::Tidy { .. }
         | Job::Ask { .. }
         | Job::Audit { .. }
         | Job::Serve { .. }

@@ -160,6 +160,16 @@ fn check_job<'a>(given: &ArgMatches<'a>) -> Job<'a>
     Job::Check { db, sheet, survey }
 }
 
+fn tidy_job<'a>(given: &ArgMatches<'a>) -> Job<'a>
+    requires { AreGiven (rules_of JobName.Tidy) (rows_of (found_of given.now)) }
+    ensures name { job_name result ≡ JobName.Tidy }
+    ensures words { HasWords result (rows_of (found_of given.now)) }
+{
+    let file = given_word(given, "FILE");
+    let survey = is_set(given, "survey");
+    Job::Tidy { file, survey }
+}
+
 fn at_job<'a>(given: &ArgMatches<'a>) -> Job<'a>
     requires { AreGiven (rules_of JobName.At) (rows_of (found_of given.now)) }
     ensures name { job_name result ≡ JobName.At }
@@ -417,6 +427,7 @@ fn job_with<'a>(alloc: Global, name: JobName, given: &ArgMatches<'a>) -> Result<
         JobName::Edit => Ok(edit_job(given)),
         JobName::Survey => Ok(survey_job(given)),
         JobName::Check => Ok(check_job(given)),
+        JobName::Tidy => Ok(tidy_job(given)),
         JobName::At => Ok(at_job(given)),
         JobName::Where => Ok(where_job(given)),
         JobName::Translate => Ok(translate_job(given)),

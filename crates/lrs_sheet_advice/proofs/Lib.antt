@@ -1,2 +1,4 @@
 pub mod WrittenLines
 pub mod SlotRows
+pub mod TidyForms
+pub mod TidyRows

@@ -3,3 +3,5 @@ pub mod Refusals
 pub mod Columns
 pub mod Slots
 pub mod Summary
+pub mod TidySheets
+pub mod TidyReadings

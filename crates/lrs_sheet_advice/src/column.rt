@@ -11,7 +11,7 @@ use lrs_sheet_records::{Sheet, column, place_of};
 use std::alloc::AllocError;
 
 /// In which column a field stands, from 0. A survey has none for the verb.
-fn column_of(kind: Sheet, field: Field) -> usize
+pub(crate) fn column_of(kind: Sheet, field: Field) -> usize
     ensures place { result ≡ spec.column_of kind field }
     ensures within { result < width_of kind }
 {

@@ -15,7 +15,7 @@ use std::marker::Model;
 const MOST_SHOWN: usize = 40;
 
 /// Whether a byte is printed as it is.
-fn is_printable(byte: u8) -> bool
+pub(crate) fn is_printable(byte: u8) -> bool
     ensures { result ≡ spec.is_printable byte }
 {
     b' ' <= byte && byte <= b'~'

@@ -1,0 +1,7 @@
+use Rattle.std.proofs.Common.{◌∙◌}
+use Rattle.lrs_sheet_records.specs.Kinds.{edit_fields}
+use Rattle.lrs_sheet_advice.proofs.TidyForms.{form_in_place}
+use Rattle.lrs_sheet_advice.proofs.tidy_sheet.form.form_behind.Goals as goal
+
+pub returns : goal.returns
+returns c = c.form_of.ensures ∙ form_in_place (edit_fields c.args.record.now) c.args.place c.verb_of.result c.field_of.result c.slot_of-slot.result c.requires.behind c.field_of.ensures c.verb_of.ensures c.slot_of-slot.ensures

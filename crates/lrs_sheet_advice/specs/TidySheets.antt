@@ -1,0 +1,105 @@
+-- Sheets that are tidy, and what a text becomes that is tidied. A tidy sheet has the header of its kind, as many fields in each record, and in each field nothing that could be read in two ways.
+use Rattle.std.specs.Prelude.{◌≡◌, ◌==◌, ◌&&◌, ◌||◌, ℕ, ◌-◌, ◌<◌, nat_le, nat_lt, Bool, false, not, List, ◌∷◌, length, Option, slice_get, slice_index, IsTrue, codes, count_by, if◌then◌else◌}
+use Rattle.std.specs.List.{AllByRecursion, list_all}
+use Rattle.std.specs.Option.{option_map_or}
+use Rattle.std.specs.Str.{bytes_eq}
+use Rattle.lrs_machine.specs.Lines.{Text}
+use Rattle.lrs_sheet_records.specs.Kinds.{IsHeader, edit_record, width_of}
+use Rattle.lrs_sheet_records.specs.Records.{text_at, texts_of}
+use Rattle.lrs_sheet_records.specs.Rows.{AreAll}
+use Rattle.lrs_sheet_records.specs.Shapes.{Shape, Marks, OrNothing, Pieces, PositionBy, Whole}
+use Rattle.lrs_sheet_records.specs.Verbs.{shapes_of}
+use Rattle.lrs_sheet_records.specs.declared.sheet.Sheet.{Sheet}
+use Rattle.lrs_sheet_advice.specs.AdviceLines.{is_printable}
+use Rattle.lrs_sheet_advice.specs.declared.tidy_sheet.cell.CellForm.{CellForm}
+use Rattle.lrs_sheet_advice.specs.declared.tidy_sheet.cell.CellForm.TheVariants as form
+
+-- ---- one field
+
+abbrev pub is_digit : ℕ → Bool
+is_digit byte = nat_le 48 byte && nat_le byte 57
+
+-- a byte of a proportion: a digit or a slash
+abbrev pub is_ratio_byte : ℕ → Bool
+is_ratio_byte byte = is_digit byte || (byte == 47)
+
+-- a byte of a list or of a distance: printable, and no comma and no point, which may part thousands or a fraction
+abbrev pub is_list_byte : ℕ → Bool
+is_list_byte byte = is_printable byte && not (byte == 44) && not (byte == 46)
+
+-- the text begins or ends with a space
+abbrev pub has_outer_space : Text → Bool
+has_outer_space text = if length text == 0 then false else ((slice_index text 0 == 32) || (slice_index text (length text - 1) == 32))
+
+-- how many slashes the text has
+abbrev pub slashes : Text → ℕ
+slashes text = count_by (λ byte. byte == 47) text
+
+-- The text of a field can be read in one way at most: a whole number is digits alone; a proportion is empty, or digits and one slash, and so no date; a list has no comma and no point; and where there may be words they are printable ASCII, with no space around them.
+abbrev pub is_tidy : CellForm → Text → Bool
+is_tidy form.Digits text = list_all is_digit text
+is_tidy form.Ratio text = (length text == 0) || (list_all is_ratio_byte text && (slashes text == 1))
+is_tidy form.Listed text = list_all is_list_byte text && not (has_outer_space text)
+is_tidy form.Words text = list_all is_printable text && not (has_outer_space text)
+
+-- ---- one record
+
+-- the form of a position by the method of this name
+abbrev pub form_by : Text → CellForm
+form_by name = if bytes_eq name (codes "abs") then form.Digits else (if bytes_eq name (codes "int") then form.Ratio else (if bytes_eq name (codes "rel") then form.Listed else form.Words))
+
+-- the form of a field that says something of this shape
+abbrev pub form_of_shape : List Text → Shape → CellForm
+form_of_shape fields (Whole low high) = form.Digits
+form_of_shape fields (PositionBy field) = form_by (texts_of fields field)
+form_of_shape fields Pieces = form.Listed
+form_of_shape fields Marks = form.Listed
+form_of_shape fields (OrNothing shape) = form_of_shape fields shape
+form_of_shape fields other = form.Words
+
+-- the same, where a shape is wanted at all
+abbrev pub form_of : List Text → Option Shape → CellForm
+form_of fields wanted = option_map_or (form_of_shape fields) wanted form.Words
+
+-- the form of the field at a place of a record of an edit sheet, by its verb
+abbrev pub form_at : List Text → ℕ → CellForm
+form_at fields place = if nat_lt place 2 then form.Words else form_of fields (slice_get (shapes_of (text_at fields 1)) (place - 2))
+
+-- each field of a record of an edit sheet is tidy
+abbrev pub AreTidyFields : List Text → Type 0
+AreTidyFields fields = (place : ℕ) → place < 11 → IsTrue (is_tidy (form_at fields place) (text_at fields place))
+
+-- all fields are empty
+abbrev pub IsBlank : List Text → Type 0
+IsBlank fields = (place : ℕ) → place < length fields → length (text_at fields place) ≡ 0
+
+-- The record has something in it, and each field is tidy.
+abbrev pub IsTidyRecord : Sheet → List Text → Type 0
+IsTidyRecord kind fields = (IsBlank fields → ⊥) × AreTidyFields (edit_record kind fields)
+
+-- the same, and it has as many fields as the header
+abbrev pub IsTidyRow : Sheet → List Text → Type 0
+IsTidyRow kind fields = (length fields ≡ width_of kind) × IsTidyRecord kind fields
+
+-- ---- the sheet
+
+-- The text is a tidy sheet.
+pub record IsTidySheet (kind : Sheet) (text : Text) : Type 0 where
+  pub header : List Text
+  pub records : List (List Text)
+  pub is_header : IsHeader kind header
+  pub all : AreAll text (header ∷ records)
+  pub tidy : AllByRecursion (IsTidyRow kind) records
+
+-- What a text becomes that is tidied: a tidy sheet, and the text itself where it is one.
+pub record IsTidied (kind : Sheet) (text tidied : Text) : Type 0 where
+  pub tidy : IsTidySheet kind tidied
+  pub same : IsTidySheet kind text → tidied ≡ text
+
+-- A text that is not tidied is no tidy sheet.
+abbrev pub IsUntidy : Sheet → Text → Type 0
+IsUntidy kind text = IsTidySheet kind text → ⊥
+
+-- To tidy twice is to tidy once.
+abbrev pub TidiesOnce : Type 0
+TidiesOnce = (kind : Sheet) (text once twice : Text) → IsTidied kind text once → IsTidied kind once twice → twice ≡ once

@@ -1,0 +1,100 @@
+//! Where the records of a text begin, and what stands between two fields of them.
+
+use lrs_sheet_records::cut_at;
+
+/// Where the records of a text begin, and what stands between two fields of them.
+#[derive(Clone, Copy)]
+pub(crate) struct Lead<'a> {
+    pub records: &'a [u8],
+    pub separator: u8,
+    /// Whether a line that names the separator stands before them.
+    pub is_named: bool,
+}
+
+/// What a line `sep=;` names, as spreadsheets write it before the header.
+fn separator_named(line: &[u8]) -> Option<u8> {
+    let named = match line {
+        [b's' | b'S', b'e' | b'E', b'p' | b'P', b'=', named] => *named,
+        [b's' | b'S', b'e' | b'E', b'p' | b'P', b'=', named, b'\r'] => *named,
+        [
+            b'"',
+            b's' | b'S',
+            b'e' | b'E',
+            b'p' | b'P',
+            b'=',
+            named,
+            b'"',
+        ] => *named,
+        [
+            b'"',
+            b's' | b'S',
+            b'e' | b'E',
+            b'p' | b'P',
+            b'=',
+            named,
+            b'"',
+            b'\r',
+        ] => *named,
+        _ => return None,
+    };
+    if matches!(named, b',' | b';' | b'\t' | b'|') {
+        Some(named)
+    } else {
+        None
+    }
+}
+
+fn is_empty_line(line: &[u8]) -> bool {
+    line.iter().all(|byte| *byte == b'\r' || *byte == b' ')
+}
+
+/// The first line of a text that has something in it.
+fn header_line(text: &[u8]) -> &[u8] {
+    let mut rest = text;
+    for _turn in 0..u64::MAX {
+        let (line, behind) = cut_at(rest, b'\n');
+        if !is_empty_line(line) {
+            return line;
+        }
+        match behind {
+            Some(text) => rest = text,
+            None => return line,
+        }
+    }
+    rest
+}
+
+fn count(line: &[u8], byte: u8) -> usize {
+    line.iter().filter(|other| **other == byte).count()
+}
+
+/// What stands between two fields of a header: the comma, unless there are more semicolons or tabs.
+fn separator_in(line: &[u8]) -> u8 {
+    let commas = count(line, b',');
+    let semicolons = count(line, b';');
+    let tabs = count(line, b'\t');
+    if tabs > commas && tabs > semicolons {
+        b'\t'
+    } else if semicolons > commas {
+        b';'
+    } else {
+        b','
+    }
+}
+
+/// Where the records of a text begin.
+pub(crate) fn lead_of(text: &[u8]) -> Lead<'_> {
+    let (line, behind) = cut_at(text, b'\n');
+    match (separator_named(line), behind) {
+        (Some(separator), Some(records)) => Lead {
+            records,
+            separator,
+            is_named: true,
+        },
+        _ => Lead {
+            records: text,
+            separator: separator_in(header_line(text)),
+            is_named: false,
+        },
+    }
+}
