@@ -116,17 +116,16 @@ fn is_job(word: &str) -> bool {
 
 // The port behind the words `serve` and DB: options, and what they are given, do not count.
 fn port_among(words: &[&str]) -> Option<u64> {
-    let mut given = 0u8;
-    let mut is_value = false;
+    let (mut has_db, mut is_value) = (false, false);
     for word in words.iter().skip_while(|word| **word != "serve").skip(1) {
         if is_value {
             is_value = false;
         } else if word.starts_with('-') {
             is_value = *word == "--most-reply" || *word == "--wait";
-        } else if given == 1 {
+        } else if has_db {
             return word.parse::<u64>().ok();
         } else {
-            given = 1;
+            has_db = true;
         }
     }
     None
@@ -149,7 +148,7 @@ fn name_of(rt: &HostRuntime, process: u64) -> Option<String> {
 fn holder_by_words(rt: &HostRuntime, process: u64, name: String, command: &str) -> Option<Holder> {
     let words = command.split('\0').collect::<Vec<&str>>(rt.alloc()).ok()?;
     let port = port_among(words.as_slice());
-    let job = words.iter().skip(1).find(|word| is_job(word));
+    let job = words.iter().skip(1).find(|word| is_job(**word));
     match job {
         Some(job) if port.is_some() || name.as_str() == "roadlrs" => {
             let called = format!(in rt.alloc(); "{} {job}", name.as_str()).ok()?;

@@ -30,7 +30,8 @@ pub struct Options {
 pub struct GivenWords<'a> {
     pub words: Vec<&'a str>,
     pub wait: Option<&'a [u8]>,
-    is_next: bool,
+    /// Whether the next word says it.
+    pub is_next: bool,
 }
 
 fn is_option(option: &str, word: &str) -> bool
@@ -101,7 +102,7 @@ pub fn read_words<'a>(alloc: Global, given: &[&'a str]) -> Result<GivenWords<'a>
         wait: None,
         is_next: false,
     };
-    for word in given {
+    for &word in given {
         words.read(word)?;
     }
     Ok(words)

@@ -12,8 +12,8 @@ const OUTPUT: i32 = 1;
 
 const ERROR: i32 = 2;
 
-// How long a reader of standard error is waited for.
-const PATIENCE: Duration = Duration::from_secs(1);
+// How many seconds a reader of standard error is waited for.
+const PATIENCE: u64 = 1;
 
 // What is told of a stream that is to be written, as soon as there is something, and within this time.
 fn told_of(rt: &HostRuntime, stream: i32, time: Duration) -> io::Result<Events<Global>> {
@@ -28,7 +28,7 @@ fn told_of(rt: &HostRuntime, stream: i32, time: Duration) -> io::Result<Events<G
 
 /// Whether standard output is a pipe whose reader has gone. Of a file, which cannot be waited for, it is not said.
 pub fn is_reader_gone(rt: &HostRuntime) -> bool {
-    match told_of(rt, OUTPUT, Duration::ZERO) {
+    match told_of(rt, OUTPUT, Duration::from_millis(0)) {
         Ok(events) => events.iter().any(|event| event.is_error()),
         Err(_) => false,
     }
@@ -37,7 +37,7 @@ pub fn is_reader_gone(rt: &HostRuntime) -> bool {
 /// Whether standard error takes a line, for which a pipe is waited for at most a second: else nobody reads it. What cannot
 /// be waited for, as a file, takes one.
 pub fn is_error_read(rt: &HostRuntime) -> bool {
-    match told_of(rt, ERROR, PATIENCE) {
+    match told_of(rt, ERROR, Duration::from_secs(PATIENCE)) {
         Ok(events) => !events.is_empty(),
         Err(_) => true,
     }

@@ -14,24 +14,24 @@ use std::time::{Duration, Instant};
 use std::{fs, thread};
 
 // Bytes that are locked: the first, and how many.
-type Range = (u64, u64);
+type LockedBytes = (u64, u64);
 
-const GATE: Range = (FIRST_LOCKED + COUNT_LOCKED, 1);
+const GATE: LockedBytes = (FIRST_LOCKED + COUNT_LOCKED, 1);
 
-const OF_DATABASE: Range = (FIRST_LOCKED, COUNT_LOCKED);
+const OF_DATABASE: LockedBytes = (FIRST_LOCKED, COUNT_LOCKED);
 
 // On the index of a log, as SQLite has it: to copy the log into the database, and the last one of its readers.
-const OF_COPYING: Range = (121, 1);
+const OF_COPYING: LockedBytes = (121, 1);
 
-const OF_READERS: Range = (127, 1);
+const OF_READERS: LockedBytes = (127, 1);
 
 // How long is waited before a lock is tried again, at first and at the most.
 const SHORTEST_PAUSE: u64 = 1;
 
 const LONGEST_PAUSE: u64 = 50;
 
-// After so long a terminal says what is waited for.
-const QUIET: Duration = Duration::from_secs(1);
+// After so many seconds a terminal says what is waited for.
+const QUIET_SECONDS: u64 = 1;
 
 /// What a file is opened for.
 #[derive(Clone, Copy, PartialEq, Eq)]
@@ -95,14 +95,14 @@ fn kind_for(purpose: Purpose) -> RangeLock {
 }
 
 // Whether a lock of another is in the way of this one; where there is none, it is taken.
-fn is_kept_out(file: &fs::File, kind: RangeLock, range: Range) -> bool {
+fn is_kept_out(file: &fs::File, kind: RangeLock, range: LockedBytes) -> bool {
     let (first, count) = range;
     os::try_lock_range(file.as_raw_fd(), kind, first, count) != 0
         && io::Error::from_raw_os_error(os::errno()).kind() == ErrorKind::WouldBlock
 }
 
 // The same of a lock that is let go at once.
-fn would_be_kept_out(file: &fs::File, kind: RangeLock, range: Range) -> bool {
+fn would_be_kept_out(file: &fs::File, kind: RangeLock, range: LockedBytes) -> bool {
     if is_kept_out(file, kind, range) {
         return true;
     }
@@ -174,12 +174,15 @@ fn wait_at(
         if is_over || patience.has_passed(rt, patience.limit) {
             return is_told;
         }
-        if patience.tells && !is_told && patience.has_passed(rt, QUIET) {
+        if patience.tells
+            && !is_told
+            && patience.has_passed(rt, Duration::from_secs(QUIET_SECONDS))
+        {
             tell_waiting(rt, path);
             is_told = true;
         }
         thread::sleep(rt, Duration::from_millis(pause));
-        pause = (2 * pause).min(LONGEST_PAUSE);
+        pause = pause.saturating_mul(2).min(LONGEST_PAUSE);
     }
     is_told
 }
