@@ -10,7 +10,7 @@ mod holder;
 mod inspection;
 mod job_texts;
 mod lines;
-mod making;
+mod made_file;
 mod options;
 mod outlet;
 mod rules;
@@ -21,7 +21,7 @@ mod turn;
 mod verbs;
 
 pub use hints::hint_at;
-pub use making::{MadeFile, make_file, remove_file};
+pub use made_file::{MadeFile, make_file, remove_file};
 pub use options::{GivenWords, Options, options_of, read_words, wait_of};
 pub use outlet::{is_error_read, is_reader_gone};
 pub use site::{Site, site_at};

@@ -9,6 +9,7 @@ use os::RangeLock;
 use std::fs::OpenOptions;
 use std::io::{self, ErrorKind};
 use std::os::fd::AsRawFd;
+use std::os::unix::fs::MetadataExt;
 use std::rt::HostRuntime;
 use std::time::{Duration, Instant};
 use std::{fs, thread};
@@ -59,6 +60,10 @@ impl Patience {
             limit: Duration::from_secs(seconds),
             tells,
         }
+    }
+
+    fn is_over(&self, rt: &HostRuntime) -> bool {
+        self.has_passed(rt, self.limit)
     }
 
     // Whether so much time has passed.
@@ -171,7 +176,7 @@ fn wait_at(
     for _turn in 0..u64::MAX {
         is_at_gate = is_at_gate || !is_kept_out(file, kind_for(purpose), GATE);
         let is_over = is_at_gate && !is_taken(rt, path, file, purpose);
-        if is_over || patience.has_passed(rt, patience.limit) {
+        if is_over || patience.is_over(rt) {
             return is_told;
         }
         if patience.tells
@@ -187,14 +192,28 @@ fn wait_at(
     is_told
 }
 
+// Whether a path still names a file.
+fn is_named(rt: &HostRuntime, path: &str, file: &fs::File) -> bool {
+    match (fs::metadata(rt, path), file.metadata()) {
+        (Ok(named), Ok(found)) => named.dev() == found.dev() && named.ino() == found.ino(),
+        _ => false,
+    }
+}
+
 /// Waits for a turn at the file at a path, where there is one. Where patience is over it is given all the same: then the
 /// opening finds the file taken.
 pub fn take_turn(rt: &HostRuntime, path: &str, purpose: Purpose, patience: Patience) -> Turn {
-    let gate = open_to_lock(rt, path, purpose);
-    if let Some(file) = &gate {
-        if wait_at(rt, path, file, purpose, patience) {
+    for _turn in 0..u64::MAX {
+        let Some(file) = open_to_lock(rt, path, purpose) else {
+            return Turn { gate: None };
+        };
+        if wait_at(rt, path, &file, purpose, patience) {
             let _ = eprint!(rt; "\r\x1b[K");
         }
+        // who had the file may have taken it away
+        if is_named(rt, path, &file) || patience.is_over(rt) {
+            return Turn { gate: Some(file) };
+        }
     }
-    Turn { gate }
+    Turn { gate: None }
 }
