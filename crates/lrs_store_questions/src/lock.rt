@@ -5,7 +5,7 @@ use os::RangeLock;
 use std::fs;
 use std::io::{self, ErrorKind};
 use std::os::fd::AsRawFd;
-use std::os::unix::fs::MetadataExt;
+use std::os::unix::fs::{FileExt, MetadataExt};
 use std::rt::HostRuntime;
 
 /// SQLite's pending, reserved and shared locks on a database. A file that is open to be read gets no lock but a shared
@@ -19,12 +19,24 @@ const OF_COPYING: (u64, u64) = (121, 1);
 
 const OF_READERS: (u64, u64) = (127, 1);
 
+/// How many bytes the header of a log has. It is another one once the log is begun anew.
+const LOG_HEADER: usize = 32;
+
+/// What is another where a database is written, or its log is begun anew.
+#[derive(Drop)]
+struct Marks {
+    len: u64,
+    modified: (i64, i64),
+    log_header: [u8; LOG_HEADER],
+}
+
 /// The locks of a reader on the files of an inventory. They go as this is dropped.
 #[derive(Drop)]
 pub struct ReadLock {
     rt: HostRuntime,
     db: fs::File,
-    index_path: String,
+    log_path: String,
+    marks: Marks,
     index: Option<fs::File>,
 }
 
@@ -50,6 +62,36 @@ fn lock_index(rt: &HostRuntime, path: &str) -> io::Result<Option<fs::File>> {
     }
 }
 
+// The header of the log at a path; zeros where there is none, and behind the end of a short one.
+fn log_header(rt: &HostRuntime, path: &str) -> io::Result<[u8; LOG_HEADER]> {
+    let mut header = [0; LOG_HEADER];
+    match fs::open(rt, path) {
+        Ok(log) => {
+            log.read_at(&mut header, 0)?;
+        }
+        Err(error) if error.kind() == ErrorKind::NotFound => {}
+        Err(error) => return Err(error),
+    }
+    Ok(header)
+}
+
+fn marks_of(rt: &HostRuntime, db: &fs::File, log_path: &str) -> io::Result<Marks> {
+    let found = db.metadata()?;
+    Ok(Marks {
+        len: found.len(),
+        modified: (found.mtime(), found.mtime_nsec()),
+        log_header: log_header(rt, log_path)?,
+    })
+}
+
+impl Marks {
+    fn are(&self, others: &Marks) -> bool {
+        self.len == others.len
+            && self.modified == others.modified
+            && self.log_header == others.log_header
+    }
+}
+
 impl ReadLock {
     /// Takes the locks on the files at a path, of which none is made.
     ///
@@ -61,10 +103,13 @@ impl ReadLock {
         lock(&db, OF_DATABASE)?;
         let index_path = format!(in rt.alloc(); "{}-shm", real.as_str())?;
         let index = lock_index(rt, index_path.as_str())?;
+        let log_path = format!(in rt.alloc(); "{}-wal", real.as_str())?;
+        let marks = marks_of(rt, &db, log_path.as_str())?;
         Ok(ReadLock {
             rt: *rt,
             db,
-            index_path,
+            log_path,
+            marks,
             index,
         })
     }
@@ -75,9 +120,15 @@ impl ReadLock {
         Ok(locked.dev() == found.dev() && locked.ino() == found.ino())
     }
 
-    /// Whether nobody has opened the log as SQLite does since the locks were taken, unless it was open so already: such a
-    /// program could have copied the log, or begun it anew, while it was read.
+    /// Whether the database is as it was when the locks were taken, and its log was not begun anew. Else a program of
+    /// SQLite's had no index then, and has opened and copied the log since, which no lock could keep it from.
     pub fn holds_still(&self) -> bool {
-        self.index.is_some() || fs::metadata(&self.rt, self.index_path.as_str()).is_err()
+        if self.index.is_some() {
+            return true;
+        }
+        match marks_of(&self.rt, &self.db, self.log_path.as_str()) {
+            Ok(marks) => marks.are(&self.marks),
+            Err(_) => false,
+        }
     }
 }
