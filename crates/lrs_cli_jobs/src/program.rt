@@ -88,7 +88,7 @@ fn answer_words(rt: &HostRuntime, fault: WordsFault) -> Ending {
         WordsFault::Version(text) => show(rt, text),
         WordsFault::Usage(text) => {
             if is_error_read(rt) {
-                let _ = rt.eprint(text);
+                let _ = rt.eprint(text.as_str());
             }
             Ending::Misused
         }
