@@ -27,7 +27,7 @@ declare -gA _roadlrs_words=(
 )
 
 # the options that go with every command
-declare -g _roadlrs_general="--existing --explain"
+declare -g _roadlrs_general="--existing --explain --wait="
 
 # the verbs of edit sheets, on which there is help
 declare -g _roadlrs_verbs="link class route ref unref enter retire supersede split join renumber recalibrate turn realign close"
@@ -113,7 +113,7 @@ _roadlrs() {
         if [[ -z $only_words && $word == -- ]]; then
             only_words=yes
         elif [[ -z $only_words && $word == -* ]]; then
-            [[ " ${_roadlrs_options[$command]:-} " == *" $word= "* ]] && last="$word="
+            [[ " ${_roadlrs_options[${command:-help}]:-} $_roadlrs_general " == *" $word= "* ]] && last="$word="
         elif [[ -z $command ]]; then
             command=$word
             place=0
@@ -127,7 +127,7 @@ _roadlrs() {
     fi
     if [[ -z $command ]]; then
         options="--help --version $_roadlrs_general"
-        if [[ $cur == -* ]]; then _roadlrs_reply -W "$options" -- "$cur"; else _roadlrs_word command "$cur"; fi
+        if [[ $cur == -* ]]; then _roadlrs_reply -W "${options//=/}" -- "$cur"; else _roadlrs_word command "$cur"; fi
     elif [[ $cur == -* && -z $only_words ]]; then
         options="${_roadlrs_options[$command]:-} $_roadlrs_general --help"
         _roadlrs_reply -W "${options//=/}" -- "$cur"

@@ -12,7 +12,7 @@ import time
 
 import pytest
 
-from program import FIRST, FIRST_REPLIES, HEADER, PATIENCE, PROGRAM, ends, faults, record, with_files_up_to
+from program import FIRST, FIRST_REPLIES, HEADER, PATIENCE, PROGRAM, ends, faults, record, run, with_files_up_to
 from refusing import library
 from stores import edit, folder, is_whole, look, make, rows_of
 
@@ -170,7 +170,7 @@ def test_a_file_that_sqlite3_has():
         before = path.read_bytes()
         with contextlib.closing(sqlite3.connect(path, isolation_level=None)) as db:
             db.execute("BEGIN EXCLUSIVE")
-            faults(edit(path, FIRST), "Open")
+            faults(run("edit", str(path), "stdin", "--wait", "0", given=FIRST), "Open")
             assert path.read_bytes() == before
             db.execute("ROLLBACK")
         ends(edit(path, FIRST), FIRST_REPLIES.replace(b"done", b"again"), 0)

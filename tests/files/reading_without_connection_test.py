@@ -121,7 +121,7 @@ def test_a_store_that_is_served_is_not_looked_at(tmp_path):
     with started(db=path):
         for text in LOOKS:
             name, *words = text.split()
-            faults(run(name, str(path), *words), "Open")
+            faults(run(name, str(path), *words, "--wait", "0"), "Open")
 
 
 def test_rows_that_stand_for_no_inventory_are_named():

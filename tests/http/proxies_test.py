@@ -335,10 +335,23 @@ def test_who_asks_haproxy_gets_no_answer_that_broke_off(tmp_path):
     ends(edit(db, HEADER), b"", 0)
     with supervised(words_of_the_unit(db, program_port, 60)), balancer(tmp_path, program_port) as port:
         once_it_runs(port, sheet_of("k1,link,1,5"))
+
+        def ask(_):
+            got = totals(port)
+            # while HAProxy has no server it says so at once, again and again
+            time.sleep(0.3 if got[0] == 503 else 0)
+            return got
+
         with concurrent.futures.ThreadPoolExecutor(6) as pool:
-            got = list(pool.map(lambda _: totals(port), range(240)))
+            got = list(pool.map(ask, range(240)))
+        # once it is up again, an answer comes
+        until = time.monotonic() + 10
+        while (last := totals(port))[0] == 503 and time.monotonic() < until:
+            time.sleep(0.1)
     # where the program is not up again in time, HAProxy has no server; but it hands on no answer that broke off
-    assert all(answer == (200, b'{"totals":[]}') or answer[0] == 503 for answer in got), got
+    answered = (200, b'{"totals":[]}')
+    assert all(answer == answered or answer[0] == 503 for answer in got), got
+    assert got.count(answered) >= 120 and last == answered, (got.count(answered), last)
 
 
 # The settings of the unit, by section, with the form of each value (the manual pages systemd.unit, systemd.service and systemd.exec).

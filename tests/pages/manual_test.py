@@ -25,7 +25,7 @@ def options(command):
 
 
 # the options that go with every command
-GENERAL = ["--existing", "--explain"]
+GENERAL = ["--existing", "--explain", "--wait"]
 
 
 def words(command):
@@ -60,7 +60,7 @@ def test_the_page_has_each_option():
         for option in options(command):
             assert re.search(rf"--{option}\b", shown), (command, option)
     for option in GENERAL:
-        assert re.search(rf"^\.B {option}$", shown, re.M) and option in run("--help").stdout.decode(), option
+        assert re.search(rf"^\.BI? {option}\b", shown, re.M) and option in run("--help").stdout.decode(), option
 
 
 def test_the_page_uses_the_macros_of_manual_pages_alone():
@@ -97,7 +97,10 @@ def completed(line):
         ("roadlrs edit :m", [":memory:"]),
         ("roadlrs where roads.db l", ["link"]),
         ("roadlrs help re", ["ref", "retire", "renumber", "recalibrate", "realign"]),
-        ("roadlrs serve roads.db 8080 5 --e", ["--end-on-fault", *GENERAL]),
+        ("roadlrs serve roads.db 8080 5 --e", ["--end-on-fault", "--existing", "--explain"]),
+        ("roadlrs --wait 5 ch", ["check"]),
+        ("roadlrs list --wait ", []),
+        ("roadlrs list --wait=5 roads.db l", ["links"]),
     ],
 )
 def test_what_is_completed(line, offered):

@@ -193,7 +193,7 @@ def test_a_file_that_another_program_has(top):
     server = subprocess.Popen([PROGRAM, "serve", db, "28117", "5"], stdout=subprocess.PIPE)
     try:
         assert server.stdout.readline() == b"listening 28117\n"
-        fault, said = explained("totals", str(db))
+        fault, said = explained("totals", str(db), "--wait", "0")
         assert fault == "Open" and "another program has it open" in said[0], said
         is_holder(said[0], server.pid)
         fault, said = explained("serve", ":memory:", "28117", "5")
@@ -211,7 +211,7 @@ def test_a_file_that_a_reader_of_sqlite_has(top):
     try:
         reader.execute("BEGIN")
         reader.execute("SELECT * FROM link").fetchall()
-        said = explained("edit", str(db), "stdin", given=FIRST)[1]
+        said = explained("edit", str(db), "stdin", "--wait", "0", given=FIRST)[1]
         assert "another program has it open" in said[0], said
         is_holder(said[0], os.getpid())
     finally:

@@ -1,9 +1,11 @@
 """Where replies, help and progress go: full devices, closed streams, terminals; and sheets that come slowly."""
 
+import contextlib
 import os
 import pathlib
 import re
 import resource
+import select
 import socket
 import subprocess
 import tempfile
@@ -161,6 +163,32 @@ def test_a_standard_output_that_does_not_wait():
                 stdout = replies.read()
             stderr = child.communicate(timeout=PATIENCE)[1]
     ends(Ended(subprocess.CompletedProcess([], child.returncode, stdout, stderr)), LONG_REPLIES, 0)
+
+
+def test_a_standard_error_that_nobody_reads_stops_nobody():
+    """The pipe is full: a line is waited with for a second, and is then not said."""
+    for is_waiting in [True, False]:
+        reader, writer = os.pipe()
+        os.set_blocking(writer, False)
+        with contextlib.suppress(BlockingIOError):
+            while True:
+                os.write(writer, bytes(4_096))
+        os.set_blocking(writer, is_waiting)
+        before = time.monotonic()
+        ends(run("edit", ":memory:", "stdin", given=FIRST + BAD_RECORD, stderr=writer), FIRST_REPLIES, 3)
+        ends(run("edit", ":memory:", "stdin", "--explain", given=FIRST + BAD_RECORD, stderr=writer), FIRST_REPLIES, 3)
+        ends(run("find", ":memory:", "x", stderr=writer), b"", 2)
+        ends(run("nonsense", stderr=writer), b"", 2)
+        ends(run("edit", ":memory:", "stdin", given=FIRST, stderr=writer), FIRST_REPLIES, 0)
+        assert time.monotonic() - before < 60
+        # who reads it again is told
+        while os.read(reader, 65_536):
+            if not select.select([reader], [], [], 0)[0]:
+                break
+        ends(run("edit", ":memory:", "stdin", given=FIRST + BAD_RECORD, stderr=writer), FIRST_REPLIES, 3)
+        assert os.read(reader, 65_536) == b"roadlrs: fault BadCsv\n"
+        os.close(reader)
+        os.close(writer)
 
 
 def test_a_short_sheet_shows_no_progress():

@@ -1,3 +1,4 @@
+pub mod GivenWords
 pub mod Options
 pub mod Shown
 pub mod Verbs

@@ -28,7 +28,7 @@ fn nothing_there(job: &Job<'_>, existing: bool) -> &'static str {
 
 fn tell_holder(rt: &HostRuntime, db: &str, holder: &Option<Holder>) {
     match holder {
-        Some(Holder { process, name }) => {
+        Some(Holder { process, name, .. }) => {
             let _ = eprintln!(rt;
                 "explain: {db}: another program has it open: {name}, process {process}"
             );
@@ -138,6 +138,26 @@ fn tell_cure_of_contents(rt: &HostRuntime, db: &str, contents: &Contents) {
     say(rt, cure);
 }
 
+// Says what to do about a file that another program has.
+fn tell_cure_of_use(rt: &HostRuntime, holder: &Option<Holder>) {
+    match holder {
+        Some(
+            Holder {
+                port: Some(port),
+                ..
+            },
+        ) => {
+            let _ = eprintln!(rt;
+                "explain: ask it over HTTP, as http://127.0.0.1:{port}/v1/totals: it has the file as long as it runs"
+            );
+        }
+        _ => say(
+            rt,
+            "end that program, or wait for it by --wait SECONDS: one program at a time has the file",
+        ),
+    }
+}
+
 // Says what to do about what stands at the path of an inventory.
 fn tell_cure(rt: &HostRuntime, job: &Job<'_>, existing: bool, db: &str, found: &Found) {
     match found {
@@ -158,10 +178,7 @@ fn tell_cure(rt: &HostRuntime, job: &Job<'_>, existing: bool, db: &str, found: &
             rt,
             "the file, its log named -wal and their folder must be open to you to write",
         ),
-        Found::InUse(_) => say(
-            rt,
-            "end that program, or ask it: one program at a time has the file",
-        ),
+        Found::InUse(holder) => tell_cure_of_use(rt, holder),
         Found::NoDatabase => say(
             rt,
             "name another file, or restore a copy; this one was not changed",

@@ -1,12 +1,14 @@
 //! What is done with an inventory, in memory or in a file.
 
-ghost use Rattle.std.specs.Prelude.{◌≡◌, ◌↔◌, false, true, IsTrue};
+ghost use Rattle.std.specs.Prelude.{◌≡◌, ◌↔◌, false, true, IsTrue, length};
 ghost use Rattle.lrs_desk.specs.DeskView.{DeskView};
 ghost use Rattle.lrs_cli_jobs.specs.Jobs.{EndsInFile, EndsInMemory, EndsJob, EndsPage, EndsTask, EndsTidied, EndsWithLog, FindsKept, HasWorked, Looks, printed};
 
 use crate::desk::{open_desk, open_desk_to_look};
 use crate::service::do_service;
-use lrs_cli_help::{Site, site_at};
+use lrs_cli_help::{
+    MadeFile, Options, Patience, Purpose, Site, Turn, make_file, remove_file, site_at, take_turn,
+};
 use lrs_cli_sheets::{
     Pace, ProgressDisplay, Sheets, World, do_audit, do_check, do_questions, do_records, do_tidy,
 };
@@ -24,6 +26,20 @@ use std::rt::{HostRuntime, Runtime};
 
 // A file of so many bytes takes about a second to open.
 const LONG_BYTES: u64 = 4_000_000;
+
+/// The file of an inventory, and how it is opened.
+#[derive(Clone, Copy)]
+struct Target<'a> {
+    path: &'a str,
+    /// A new file gets sums of its pages.
+    new_has_sums: bool,
+    /// None is made.
+    existing: bool,
+    /// How long it is waited for where another program has it.
+    patience: Patience,
+    /// The file that this run has made for it.
+    made: Option<MadeFile>,
+}
 
 // Does what a job asks for at a desk, whatever keeps the inventory, and writes what is said to it. The replies to a
 // sheet in a file go out at the pace `of_file`.
@@ -92,14 +108,52 @@ fn tell_opening(rt: &HostRuntime, path: &str, shown: ProgressDisplay) -> bool {
     }
 }
 
-// Takes that line away, where it was said, and hands on what was opened.
-fn cleared<T>(rt: &HostRuntime, was_said: bool, opened: T) -> T
+// Waits for a turn at a file.
+fn turn_at(rt: &HostRuntime, target: Target<'_>, purpose: Purpose) -> Turn {
+    take_turn(rt, target.path, purpose, target.patience)
+}
+
+// Ends the turn in which something was opened, takes the line away that said so, and hands on what was opened.
+fn cleared<T>(rt: &HostRuntime, turn: Turn, was_said: bool, opened: T) -> T
     ensures { result ≡ opened }
 {
+    turn.end();
     if was_said {
         let _ = eprint!(rt; "\r\x1b[K");
     }
     opened
+}
+
+// Takes the file of a new inventory away again, in which nothing is kept: no edit, and none that may be.
+fn take_away<K: Keeper>(
+    rt: &HostRuntime,
+    target: Target<'_>,
+    _desk: &Desk<K>,
+    shown: ProgressDisplay,
+)
+    requires empty { length _desk.now.image.edits ≡ 0 }
+    requires kept { _desk.now.must_reopen ≡ false }
+{
+    if let Some(made) = target.made {
+        if remove_file(rt, target.path, made) && shown != ProgressDisplay::Nowhere {
+            let path = target.path;
+            let _ = eprintln!(rt; "takes it away again: {path}");
+        }
+    }
+}
+
+// Leaves no file that this run has made where its work was not done, and nothing is kept.
+fn leave_none<K: Keeper, W>(
+    rt: &HostRuntime,
+    target: Target<'_>,
+    desk: &Desk<K>,
+    given: &Result<(W, Ending), ProgramFault>,
+    shown: ProgressDisplay,
+) {
+    let is_done = matches!(given, Ok((_, Ending::Done)));
+    if !is_done && desk.inventory().edits() == 0 && !desk.must_reopen() {
+        take_away(rt, target, desk, shown);
+    }
 }
 
 // Does work at a desk, whose keeper is then closed.
@@ -107,6 +161,7 @@ fn do_and_close<F: Files, S: Sheets, W: Write + Drop>(
     world: &World<'_, HostRuntime, S>,
     files: &mut F,
     mut desk: Desk<F::Kept>,
+    target: Target<'_>,
     work: Work<'_>,
     to: W,
 ) -> Result<(W, Ending), ProgramFault>
@@ -117,6 +172,8 @@ fn do_and_close<F: Files, S: Sheets, W: Write + Drop>(
         × FindsKept F.Kept.may_hold after (F.may_find files.new) }
 {
     let given = do_work(world, &mut desk, work, Pace::InGroups, to);
+    // the file is open still, and nobody else has it
+    leave_none(world.rt, target, &desk, &given, world.shown);
     files.close(desk.into_keeper());
     given
 }
@@ -126,21 +183,22 @@ fn do_and_close<F: Files, S: Sheets, W: Write + Drop>(
 fn do_with_log<F: Files, S: Sheets, W: Write + Drop>(
     world: &World<'_, HostRuntime, S>,
     files: &mut F,
-    path: &str,
-    new_has_sums: bool,
+    target: Target<'_>,
     work: Work<'_>,
     to: W,
 ) -> Result<(W, Ending), ProgramFault>
     ensures { EndsWithLog (S.text_of world.now.sheets.now) F.Kept.may_hold F.has_opened
         (F.may_find files.new) work.entry (W.contents to) (printed W.contents result) }
 {
-    let was_said = tell_opening(world.rt, path, world.shown);
+    let turn = turn_at(world.rt, target, Purpose::Change);
+    let was_said = tell_opening(world.rt, target.path, world.shown);
     match cleared(
         world.rt,
+        turn,
         was_said,
-        open_desk(world.rt, files, path, new_has_sums),
+        open_desk(world.rt, files, target.path, target.new_has_sums),
     ) {
-        Ok(desk) => do_and_close(world, files, desk, work, to),
+        Ok(desk) => do_and_close(world, files, desk, target, work, to),
         Err(fault) => Ok((to, Ending::Stopped(ProgramFault::from(fault)))),
     }
 }
@@ -177,8 +235,7 @@ fn looks(work: &Work<'_>) -> bool
 fn do_in_file<F: Files, S: Sheets, W: Write + Drop>(
     world: &World<'_, HostRuntime, S>,
     files: &mut F,
-    path: &str,
-    new_has_sums: bool,
+    target: Target<'_>,
     work: Work<'_>,
     to: W,
 ) -> Result<(W, Ending), ProgramFault>
@@ -187,22 +244,33 @@ fn do_in_file<F: Files, S: Sheets, W: Write + Drop>(
         work.entry (W.contents to) (printed W.contents result) }
 {
     if matches!(work, Work::Audit) {
-        return audit_with_log(world, files, path, new_has_sums, work, to);
+        return audit_with_log(world, files, target, work, to);
     }
     if !looks(&work) {
-        return do_with_log(world, files, path, new_has_sums, work, to);
+        return do_with_log(world, files, target, work, to);
     }
-    let was_said = tell_opening(world.rt, path, world.shown);
-    match cleared(world.rt, was_said, open_desk_to_look(world.rt, files, path)) {
+    let turn = turn_at(world.rt, target, Purpose::Look);
+    let was_said = tell_opening(world.rt, target.path, world.shown);
+    match cleared(
+        world.rt,
+        turn,
+        was_said,
+        open_desk_to_look(world.rt, files, target.path),
+    ) {
         Ok(Some(desk)) => look::<F, S, W>(world, desk, work, to),
-        Ok(None) => do_with_log(world, files, path, new_has_sums, work, to),
+        Ok(None) => do_with_log(world, files, target, work, to),
         Err(fault) => Ok((to, Ending::Stopped(ProgramFault::from(fault)))),
     }
 }
 
 // Looks at the file of an inventory, and lets it go.
-fn try_to_look<F: Files>(rt: &HostRuntime, files: &mut F, path: &str) -> Result<(), OpenFault> {
-    if let Some(keeper) = files.open_to_look(rt, path)? {
+fn try_to_look<F: Files>(
+    rt: &HostRuntime,
+    files: &mut F,
+    target: Target<'_>,
+) -> Result<(), OpenFault> {
+    let turn = turn_at(rt, target, Purpose::Look);
+    if let Some(keeper) = cleared(rt, turn, false, files.open_to_look(rt, target.path))? {
         F::discard_seen(keeper);
     }
     Ok(())
@@ -213,16 +281,15 @@ fn try_to_look<F: Files>(rt: &HostRuntime, files: &mut F, path: &str) -> Result<
 fn audit_with_log<F: Files, S: Sheets, W: Write + Drop>(
     world: &World<'_, HostRuntime, S>,
     files: &mut F,
-    path: &str,
-    new_has_sums: bool,
+    target: Target<'_>,
     work: Work<'_>,
     to: W,
 ) -> Result<(W, Ending), ProgramFault>
     ensures { EndsWithLog (S.text_of world.now.sheets.now) F.Kept.may_hold F.has_opened
         (F.may_find files.new) work.entry (W.contents to) (printed W.contents result) }
 {
-    match try_to_look(world.rt, files, path) {
-        Ok(()) => do_with_log(world, files, path, new_has_sums, work, to),
+    match try_to_look(world.rt, files, target) {
+        Ok(()) => do_with_log(world, files, target, work, to),
         Err(fault) => Ok((to, Ending::Stopped(ProgramFault::from(fault)))),
     }
 }
@@ -239,13 +306,23 @@ fn tell_making(rt: &HostRuntime, path: &str, shown: ProgressDisplay) {
     }
 }
 
+// The same target, with a file that is made for it where nothing is.
+fn made_at<'a>(rt: &HostRuntime, target: Target<'a>) -> Target<'a> {
+    Target {
+        path: target.path,
+        new_has_sums: target.new_has_sums,
+        existing: target.existing,
+        patience: target.patience,
+        made: make_file(rt, target.path),
+    }
+}
+
 // Makes an inventory, or goes on with one whose making was cut off, and does work in it. What makes none has none; but a
 // sheet is tried in a fresh one.
 fn do_in_new<F: Files, S: Sheets, W: Write + Drop>(
     world: &World<'_, HostRuntime, S>,
     files: &mut F,
-    path: &str,
-    new_has_sums: bool,
+    target: Target<'_>,
     work: Work<'_>,
     to: W,
 ) -> Result<(W, Ending), ProgramFault>
@@ -254,8 +331,8 @@ fn do_in_new<F: Files, S: Sheets, W: Write + Drop>(
         work.entry (W.contents to) (printed W.contents result) }
 {
     if makes(&work) {
-        tell_making(world.rt, path, world.shown);
-        return do_with_log(world, files, path, new_has_sums, work, to);
+        tell_making(world.rt, target.path, world.shown);
+        return do_with_log(world, files, made_at(world.rt, target), work, to);
     }
     if matches!(work, Work::Check { .. }) {
         return do_in_memory(world, work, to);
@@ -263,13 +340,22 @@ fn do_in_new<F: Files, S: Sheets, W: Write + Drop>(
     Ok((to, Ending::Stopped(ProgramFault::Open)))
 }
 
+// What stands at a path. Where it is no inventory, it is looked once more when nobody is about to make one.
+fn settled_site(rt: &HostRuntime, target: Target<'_>) -> Site {
+    match site_at(rt, target.path) {
+        Site::Inventory => Site::Inventory,
+        _ => {
+            turn_at(rt, target, Purpose::Look).end();
+            site_at(rt, target.path)
+        }
+    }
+}
+
 // Does work at a path, by what stands there. Where an inventory has to be there, none is made.
 fn do_at_path<F: Files, S: Sheets, W: Write + Drop>(
     world: &World<'_, HostRuntime, S>,
     files: &mut F,
-    path: &str,
-    new_has_sums: bool,
-    existing: bool,
+    target: Target<'_>,
     work: Work<'_>,
     to: W,
 ) -> Result<(W, Ending), ProgramFault>
@@ -277,11 +363,11 @@ fn do_at_path<F: Files, S: Sheets, W: Write + Drop>(
         F.has_opened F.has_read (F.may_find files.new) (S.text_of world.now.sheets.now)
         work.entry (W.contents to) (printed W.contents result) }
 {
-    match site_at(world.rt, path) {
-        Site::Inventory => do_in_file(world, files, path, new_has_sums, work, to),
-        Site::Vacant if !existing => do_in_new(world, files, path, new_has_sums, work, to),
-        Site::Remnant if !existing && makes(&work) => {
-            do_in_new(world, files, path, new_has_sums, work, to)
+    match settled_site(world.rt, target) {
+        Site::Inventory => do_in_file(world, files, target, work, to),
+        Site::Vacant if !target.existing => do_in_new(world, files, target, work, to),
+        Site::Remnant if !target.existing && makes(&work) => {
+            do_in_new(world, files, target, work, to)
         }
         _ => Ok((to, Ending::Stopped(ProgramFault::Open))),
     }
@@ -311,13 +397,30 @@ fn give_tidied<S: Sheets, W: Write + Drop>(
     do_tidy(world, kind, from, to)
 }
 
+// The file that a job works in, as its options have it.
+fn target_at<'a>(
+    rt: &HostRuntime,
+    path: &'a str,
+    new_has_sums: bool,
+    options: Options,
+    shown: ProgressDisplay,
+) -> Target<'a> {
+    Target {
+        path,
+        new_has_sums,
+        existing: options.existing,
+        patience: Patience::new(rt, options.wait, shown != ProgressDisplay::Nowhere),
+        made: None,
+    }
+}
+
 // Does a task: writes the page, tidies a sheet, or works in the inventory that it names.
 fn do_task<F: Files, S: Sheets, W: Write + Drop>(
     world: &World<'_, HostRuntime, S>,
     files: &mut F,
     task: Task<'_>,
     new_has_sums: bool,
-    existing: bool,
+    options: Options,
     to: W,
 ) -> Result<(W, Ending), ProgramFault>
     ensures { EndsTask ⟦<Plain as Holder>⟧.may_hold F.Kept.may_hold F.Seen.may_hold
@@ -331,13 +434,14 @@ fn do_task<F: Files, S: Sheets, W: Write + Drop>(
             if is_in_memory(db) {
                 return do_in_memory(world, work, to);
             }
-            do_at_path(world, files, db, new_has_sums, existing, work, to)
+            let target = target_at(world.rt, db, new_has_sums, options, world.shown);
+            do_at_path(world, files, target, work, to)
         }
     }
 }
 
-/// Reads the words of a job, and then opens its inventory, if it has one. With `existing` no file is made. All answers are
-/// written to `to`, replies to the sheets of a file in groups, and it is given back with how the program ends; the page
+/// Reads the words of a job, and then opens its inventory, if it has one, by the options `existing` and `wait`. All answers
+/// are written to `to`, replies to the sheets of a file in groups, and it is given back with how the program ends; the page
 /// goes into its folder. `files` has then the files that were closed.
 ///
 /// # Errors
@@ -346,7 +450,7 @@ pub fn do_job<F: Files, S: Sheets, W: Write + Drop>(
     world: &World<'_, HostRuntime, S>,
     files: &mut F,
     job: &Job<'_>,
-    existing: bool,
+    options: Options,
     to: W,
 ) -> Result<(W, Ending), ProgramFault>
     ensures { EndsJob ⟦<Plain as Holder>⟧.may_hold F.Kept.may_hold F.Seen.may_hold
@@ -354,7 +458,7 @@ pub fn do_job<F: Files, S: Sheets, W: Write + Drop>(
         job.now (W.contents to) (printed W.contents result) }
 {
     match task_of(world.rt.alloc(), job) {
-        Ok(task) => do_task(world, files, task, new_has_sums(job), existing, to),
+        Ok(task) => do_task(world, files, task, new_has_sums(job), options, to),
         Err(QuestionFault::Unreadable(word)) => Ok((to, Ending::Unreadable(word))),
         Err(QuestionFault::Memory) => Ok((to, Ending::Stopped(ProgramFault::Memory))),
     }

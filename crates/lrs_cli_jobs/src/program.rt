@@ -3,7 +3,9 @@
 use crate::explanation::explain;
 use crate::jobs::do_job;
 use crate::output::Output;
-use lrs_cli_help::{Options, hint_at, is_reader_gone, keep_job_words, options_of, verb_help};
+use lrs_cli_help::{
+    Options, hint_at, is_error_read, is_reader_gone, options_of, read_words, verb_help, wait_of,
+};
 use lrs_cli_sheets::{ProgressDisplay, Sheets, World};
 use lrs_cli_tasks::{Ending, ProgramFault, status};
 use lrs_cli_words::{Job, WordsFault, job_of};
@@ -27,7 +29,7 @@ fn is_explained(
     fault: ProgramFault,
 ) -> bool {
     let is_wanted = options.explain || shown != ProgressDisplay::Nowhere;
-    is_wanted && !is_quiet(rt, fault)
+    is_wanted && !is_quiet(rt, fault) && is_error_read(rt)
 }
 
 // Does a job, and prints its answers. Says what was given for a word that cannot be read, and explains the fault that
@@ -41,12 +43,12 @@ fn do_explained<F: Files, S: Sheets>(
     let rt = world.rt;
     let failure = Cell::new(None);
     let output = Output::new(rt, &failure);
-    let ending = match do_job(world, &mut files, job, options.existing, output) {
+    let ending = match do_job(world, &mut files, job, options, output) {
         Ok((_, ending)) => ending,
         Err(fault) => Ending::Stopped(fault),
     };
     match ending {
-        Ending::Unreadable(word) => hint_at(rt, job, word),
+        Ending::Unreadable(word) if is_error_read(rt) => hint_at(rt, job, word),
         Ending::Stopped(fault) if is_explained(rt, world.shown, options, fault) => {
             explain(rt, job, options.existing, fault, failure.get());
         }
@@ -85,7 +87,9 @@ fn answer_words(rt: &HostRuntime, fault: WordsFault) -> Ending {
         WordsFault::Help(text) => show(rt, text),
         WordsFault::Version(text) => show(rt, text),
         WordsFault::Usage(text) => {
-            let _ = rt.eprint(text);
+            if is_error_read(rt) {
+                let _ = rt.eprint(text.as_str());
+            }
             Ending::Misused
         }
     }
@@ -106,6 +110,16 @@ fn do_given<F: Files, S: Sheets>(
         Ok(job) => do_explained(world, files, &job, options),
         Err(fault) => answer_words(rt, fault),
     }
+}
+
+// Says that what `--wait` is given is no number of seconds.
+fn refuse_wait(rt: &HostRuntime, given: Option<&[u8]>) -> Ending {
+    let text = str::from_utf8(given.unwrap_or(b"".as_slice())).unwrap_or("");
+    let _ = eprintln!(rt;
+        "error: invalid value '{text}' for '--wait <SECONDS>': no whole number from 0 to 3600"
+    );
+    let _ = eprintln!(rt; "\nFor more information, try '--help'.");
+    Ending::Misused
 }
 
 fn do_words<F: Files, S: Sheets>(world: &World<'_, HostRuntime, S>, files: F) -> Ending {
@@ -129,17 +143,27 @@ fn do_words<F: Files, S: Sheets>(world: &World<'_, HostRuntime, S>, files: F) ->
             return Ending::Stopped(ProgramFault::Memory);
         }
     }
-    let options = options_of(words.as_slice());
-    keep_job_words(&mut words);
-    do_given(world, files, words.as_slice(), options)
+    let Ok(read) = read_words(rt.alloc(), words.as_slice()) else {
+        return Ending::Stopped(ProgramFault::Memory);
+    };
+    match wait_of(read.wait) {
+        Some(wait) => {
+            let options = options_of(words.as_slice(), wait);
+            do_given(world, files, read.words.as_slice(), options)
+        }
+        None => refuse_wait(rt, read.wait),
+    }
 }
 
-// Says how the program ends.
+// Says how the program ends, where somebody reads it.
 fn tell_ending(rt: &HostRuntime, ending: Ending) {
     match ending {
+        Ending::Done | Ending::RecordsRefused | Ending::Misused => {}
         Ending::Stopped(fault) if is_quiet(rt, fault) => {}
         _ => {
-            let _ = eprint!(rt; "{ending}");
+            if is_error_read(rt) {
+                let _ = eprint!(rt; "{ending}");
+            }
         }
     }
 }

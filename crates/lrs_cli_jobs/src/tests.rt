@@ -3,6 +3,7 @@
 ghost use Rattle.std.specs.Prelude.{◌≡◌, IfErr};
 
 use crate::do_job;
+use lrs_cli_help::Options;
 use lrs_cli_sheets::{Extent, Pace, ProgressDisplay, Sheets, World, do_records};
 use lrs_cli_tasks::{Ending, open_in_memory, status};
 use lrs_cli_words::{Job, job_of};
@@ -159,7 +160,12 @@ fn done(rt: &HostRuntime, job: &Job<'_>, text: &str) -> Option<(Vec<u8>, Ending)
         shown: ProgressDisplay::Nowhere,
     };
     let mut files = FirstFiles;
-    do_job(&world, &mut files, job, false, Vec::new(rt.alloc())).ok()
+    let options = Options {
+        existing: false,
+        explain: false,
+        wait: 0,
+    };
+    do_job(&world, &mut files, job, options, Vec::new(rt.alloc())).ok()
 }
 
 /// The same of a job by its words.
