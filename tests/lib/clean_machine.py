@@ -68,7 +68,7 @@ def set_up(root):
     stanzas = [stanza.strip() + "\n\n" for stanza in pathlib.Path("/var/lib/dpkg/status").read_text().split("\n\n") if stanza.strip()]
     of_these = {f"Package: {name}" for name in packages}
     dpkg = root / "var" / "lib" / "dpkg"
-    (dpkg / "updates").mkdir(parents=True)
+    (dpkg / "updates").mkdir(exist_ok=True)
     (dpkg / "status").write_text("".join(stanza for stanza in stanzas if stanza.partition("\n")[0] in of_these))
     for name in ["passwd", "group"]:
         (root / "etc" / name).write_bytes((root / "usr" / "share" / "base-passwd" / f"{name}.master").read_bytes())
@@ -109,8 +109,13 @@ mount -t sysfs sysfs sys
 mount -t cgroup2 cgroup2 sys/fs/cgroup
 mount -t tmpfs -o mode=755 tmpfs run
 mount -t tmpfs -o mode=755 tmpfs dev
-for device in null:3 zero:5 full:7 random:8 urandom:9; do mknod -m 666 "dev/${device%:*}" c 1 "${device#*:}"; done
+for device in null,1,3 zero,1,5 full,1,7 random,1,8 urandom,1,9 tty,5,0; do
+    IFS=, read -r name major minor <<<"$device"
+    mknod -m 666 "dev/$name" c "$major" "$minor"
+done
 mkdir dev/shm dev/pts old
+mount -t devpts -o newinstance,ptmxmode=666 devpts dev/pts
+ln -s pts/ptmx dev/ptmx
 ln -s /proc/self/fd dev/fd
 pivot_root . old
 umount -l /old

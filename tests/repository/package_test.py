@@ -12,7 +12,7 @@ import tarfile
 
 import pytest
 
-from clean_machine import booted, set_up, unbooted
+from clean_machine import ENVIRONMENT, booted, set_up, unbooted
 from documents import first_sheet
 from program import FIRST, FIRST_REPLIES, PATIENCE, TOP, run
 from proxies import blocks_of_the_document, put
@@ -205,7 +205,7 @@ def started(machine, name):
     words = [re.sub(r"\$\{?(\w+)\}?", lambda found: environment.get(found[1], ""), word) for word in settings["ExecStart"].split()]
     called = ["chroot", f"--userspec={user}:{user}", machine.root, "env", "-C", folder, *filter(None, words)]
     streams = {"stdin": subprocess.DEVNULL, "stdout": subprocess.PIPE, "stderr": subprocess.PIPE}
-    return subprocess.Popen(called, env={"PATH": "/usr/bin:/bin", **environment}, umask=int(settings["UMask"], 8), **streams)
+    return subprocess.Popen(called, env={**ENVIRONMENT, **environment}, umask=int(settings["UMask"], 8), **streams)
 
 
 @contextlib.contextmanager
@@ -265,7 +265,7 @@ def test_an_inventory_outlives_an_upgrade_and_a_removal(root):
     kept = kept_of(inventory)
     # a removal, and a purge
     for word in ["-r", "-P"]:
-        assert (wanted / "multi-user.target.wants" / "roadlrs@north.service").is_symlink() == (word == "-r")
+        assert len(list(wanted.glob("*/roadlrs*"))) == 2
         machine.does("dpkg", word, "roadlrs")
         assert kept_of(inventory) == kept and backup_of(machine) == ("edits-00000007.csv", log)
         assert (root / "etc" / "roadlrs" / "north.conf").exists() and int(machine.does("id", "-u", "roadlrs")) == owner
