@@ -19,11 +19,9 @@ from proxies import blocks_of_the_document, put
 from serving import answer, free_port, reply, request, sheet_reply
 from trees import OTHER_COMMANDS
 
-DEBIAN = TOP / "tools" / "debian"
 UNITS = "usr/lib/systemd/system"
 EXAMPLES = "usr/share/doc/roadlrs/examples"
 EXECUTABLE = {"usr/bin/roadlrs", "usr/lib/roadlrs/backup"}
-COMMAND = re.compile(r"^  (\w+) +\S", re.M)
 
 
 def clone_of(folder):
@@ -94,12 +92,10 @@ def test_rights_and_owners(package):
 
 def test_an_operator_finds_everything(package, files):
     names = members(package)
-    commands = [name for name in COMMAND.findall(help_of(files)) if name != "help"]
-    assert len(commands) >= 19
     units = [f"{UNITS}/{name}" for name in ["roadlrs@.service", "roadlrs-backup@.service", "roadlrs-backup@.timer"]]
     examples = [f"{EXAMPLES}/{name}" for name in ["roadlrs.conf", "nginx.conf", "haproxy.cfg", *os.listdir(TOP / "examples")]]
-    manual = [f"usr/share/man/man1/{name}.1.gz" for name in ["roadlrs", *(f"roadlrs-{command}" for command in commands)]]
-    docs = [str(path.relative_to(TOP)) for path in (TOP / "docs").rglob("*") if path.suffix in (".md", ".json", ".svg", ".png")]
+    manual = [f"usr/share/man/man1/{name}.1.gz" for name in ["roadlrs", *(f"roadlrs-{command}" for command in commands(files))]]
+    docs = [str(path.relative_to(TOP)) for pattern in ["*.md", "openapi.json", "pictures/*"] for path in (TOP / "docs").glob(pattern)]
     doc = [f"usr/share/doc/roadlrs/{name}" for name in ["README.md", "manifest", "copyright", *docs]]
     completions = ["usr/share/bash-completion/completions/roadlrs"]
     wanted = {*EXECUTABLE, *units, *examples, *manual, *doc, *completions}
@@ -122,15 +118,20 @@ def help_of(files, *command):
     return subprocess.run([files / "usr" / "bin" / "roadlrs", *command, "--help"], capture_output=True, text=True, check=True).stdout
 
 
+def commands(files):
+    """The commands that the help names, but for help itself."""
+    found = [name for name in re.findall(r"^  (\w+) +\S", help_of(files), re.M) if name != "help"]
+    assert len(found) >= 19
+    return found
+
+
 def words_of(text):
     return {word.strip("<>[].") for word in text.split()}
 
 
 def test_each_word_of_a_help_is_in_the_manual(files):
     """And the pages use macros of manual pages alone."""
-    for command in COMMAND.findall(help_of(files)):
-        if command == "help":
-            continue
+    for command in commands(files):
         page = gzip.decompress((files / "usr" / "share" / "man" / "man1" / f"roadlrs-{command}.1.gz").read_bytes()).decode()
         said = help_of(files, command)
         plain = re.sub(r"\\f[BIR]", "", page).replace("\\-", "-")
@@ -154,7 +155,13 @@ def test_an_unpacked_package_runs(files):
 def clean(tmp_path_factory):
     root = tmp_path_factory.mktemp("clean") / "root"
     set_up(root)
-    return root
+    yield root
+    remove(root)
+
+
+def remove(root):
+    """What is mounted there is not the test's to remove."""
+    subprocess.run(["rm", "-rf", "--one-file-system", root], check=True)
 
 
 def as_version(files, version, path):
@@ -174,7 +181,8 @@ def root(clean, package, files, tmp_path):
     subprocess.run(["cp", "-a", clean, folder], check=True)
     shutil.copy(package, folder / "package.deb")
     as_version(files, "0.0.1", folder / "before.deb")
-    return folder
+    yield folder
+    remove(folder)
 
 
 def test_the_units_are_hardened_and_read_without_a_word(root):
@@ -311,6 +319,9 @@ def test_systemd_keeps_an_inventory_served(root):
         assert machine.does(*ASKING, "--data-binary", "@/network.csv", "http://127.0.0.1:8080/v1/edits").encode() == FIRST_REPLIES
         machine.does("systemctl", "start", "roadlrs-backup@north")
         assert machine.does("ls", "/var/lib/roadlrs-backups/north") == "edits-00000007.csv\n"
+        status = machine.does("cat", f"/proc/{process().strip()}/status").splitlines()
+        assert {"NoNewPrivs:\t1", "Seccomp:\t2", f"CapEff:\t{0:016}", f"CapBnd:\t{0:016}"} <= set(status), status
+        assert machine.does("journalctl", "-q", "-p", "warning", "-u", "roadlrs@north", "-u", "roadlrs-backup@north") == ""
         # it is killed
         machine.does("systemctl", "kill", "-s", "KILL", "roadlrs@north")
         assert health() == '{"edits":7}'
