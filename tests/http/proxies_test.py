@@ -1,18 +1,15 @@
-"""docs/SERVICE.md: its nginx and its HAProxy before the program, its unit, and its scripts, all taken out of the page itself.
+"""docs/SERVICE.md: its nginx and its HAProxy before the program, and its script, taken out of the page itself; and the service and the
+backup of the package (tools/debian).
 
 A client that says nothing, or little at a time, or takes no reply, costs the proxy a connection, and the next client nothing.
 """
 
 import concurrent.futures
-import configparser
 import contextlib
 import http.client
 import json
 import os
-import pathlib
-import re
 import select
-import shutil
 import signal
 import socket
 import subprocess
@@ -21,7 +18,7 @@ import time
 
 import pytest
 
-from program import FIRST, FIRST_REPLIES, HEADER, PATIENCE, PROGRAM, ends, lines, long_sheet, record, run, sheet_of, with_files_up_to
+from program import FIRST, FIRST_REPLIES, HEADER, PATIENCE, PROGRAM, TOP, ends, lines, long_sheet, record, run, sheet_of, with_files_up_to
 from proxies import balancer, blocks_of_the_document, put, web_server
 from serving import HOST, LONG_QUESTION, SURVEY, TABLE, connect, free_port, long_question, request, started
 from stores import edit, rows_of
@@ -272,15 +269,19 @@ def test_clients_of_haproxy_do_not_notice_a_start(tmp_path):
             assert got == [(200, b'{"totals":[]}')]
 
 
+DEBIAN = TOP / "tools" / "debian"
+
+
 def unit():
     """The settings of the unit, each under its name."""
-    (text,) = blocks_of_the_document("ini")
-    return dict(line.split("=", 1) for line in text.splitlines() if "=" in line)
+    return dict(line.split("=", 1) for line in (DEBIAN / "roadlrs@.service").read_text().splitlines() if "=" in line)
 
 
 def words_of_the_unit(db, port, most):
     """What the unit runs, with the file, the port and the number of connections of a test."""
-    told = put(put(unit()["ExecStart"], "/srv/roads/roads.db", str(db)), " 8080 1000000", f" {port} {most}")
+    told = unit()["ExecStart"]
+    for variable, word in [("$OPTIONS ", ""), ("/var/lib/roadlrs/%i/roads.db", str(db)), ("${PORT}", str(port)), ("${MAX}", str(most))]:
+        told = put(told, variable, word)
     program, *words = told.split()
     assert program == "/usr/bin/roadlrs"
     return [PROGRAM, *words]
@@ -354,43 +355,6 @@ def test_who_asks_haproxy_gets_no_answer_that_broke_off(tmp_path):
     assert got.count(answered) >= 120 and last == answered, (got.count(answered), last)
 
 
-# The settings of the unit, by section, with the form of each value (the manual pages systemd.unit, systemd.service and systemd.exec).
-SWITCH = "yes|no|true|false|on|off|1|0"
-SETTINGS = {
-    "Unit": {"Description": r"\S.*", "StartLimitIntervalSec": r"\d+"},
-    "Service": {
-        "ExecStart": r"/\S+( \S+)*",
-        "User": r"[a-z_][a-z0-9_-]*",
-        "Restart": "no|on-success|on-failure|on-abnormal|on-watchdog|on-abort|always",
-        "RestartSec": r"\d+",
-        "NoNewPrivileges": SWITCH,
-        "PrivateTmp": SWITCH,
-        "ProtectSystem": f"{SWITCH}|full|strict",
-        "ProtectHome": f"{SWITCH}|read-only|tmpfs",
-        "ReadWritePaths": r"/\S+( /\S+)*",
-    },
-    "Install": {"WantedBy": r"\S+\.target"},
-}
-
-
-def test_the_unit_is_one_that_systemd_reads(tmp_path):
-    """Each setting is one of its section, once, and has a value of its form; where systemd is there, it says so too."""
-    (text,) = blocks_of_the_document("ini")
-    read = configparser.RawConfigParser(delimiters="=", empty_lines_in_values=False)
-    read.optionxform = str
-    read.read_string(text)
-    assert read.sections() == list(SETTINGS)
-    for section, settings in SETTINGS.items():
-        assert set(read[section]) == set(settings), section
-        for name, value in read[section].items():
-            assert re.fullmatch(settings[name], value), (section, name, value)
-    path = tmp_path / "roadlrs.service"
-    path.write_text(put(text, "/usr/bin/roadlrs", str(pathlib.Path(PROGRAM).resolve())))
-    if shutil.which("systemd-analyze"):
-        done = subprocess.run(["systemd-analyze", "verify", "--man=no", str(path)], capture_output=True, text=True, timeout=PATIENCE)
-        assert (done.returncode, "roadlrs.service" in done.stderr) == (0, False), done
-
-
 # ---- health, and a line for each request
 
 
@@ -420,26 +384,24 @@ def test_each_request_has_a_line(tmp_path):
         assert set(words) <= set(line.split()), line
 
 
-# ---- the scripts
+# ---- the script, and the backup
 
 
-def scripts(port):
-    """The script that sends a large sheet, and the one that takes a backup."""
-    large, backup = blocks_of_the_document("bash")
-    large = put(large, "https://roads.example.org/", f"http://{HOST}:{port}/")
-    backup = put(backup, "http://127.0.0.1:8080/", f"http://{HOST}:{port}/")
-    return [text.replace("curl ", "curl -q --noproxy '*' ") for text in [large, backup]]
+def script(port):
+    """What sends a large sheet."""
+    (text,) = blocks_of_the_document("bash")
+    return put(text, "https://roads.example.org/", f"http://{HOST}:{port}/").replace("curl ", "curl -q --noproxy '*' ")
 
 
-def does(script, folder):
-    return subprocess.run(["bash", "-c", script], cwd=folder, capture_output=True, timeout=PATIENCE)
+def sends(port, folder):
+    return subprocess.run(["bash", "-c", script(port)], cwd=folder, capture_output=True, timeout=PATIENCE)
 
 
 def test_a_large_sheet_goes_in_parts(tmp_path):
     sheet, done = long_sheet(60_000)
     with started() as server, web_server(tmp_path, server.port) as port:
         (tmp_path / "year.csv").write_bytes(sheet)
-        ended = does(scripts(port)[0], tmp_path)
+        ended = sends(port, tmp_path)
         assert (ended.stderr, (tmp_path / "replies.csv").read_bytes()) == (b"", done)
         parts = sorted(tmp_path.glob("part-*"))
         assert len(parts) == 2 and all(part.stat().st_size <= LONGEST for part in parts)
@@ -450,7 +412,7 @@ def test_a_large_sheet_stops_at_the_part_that_was_not_done(tmp_path):
     rows[60_000] = b"of one field\n"
     with started() as server, web_server(tmp_path, server.port) as port:
         (tmp_path / "year.csv").write_bytes(b"".join(rows))
-        ended = does(scripts(port)[0], tmp_path)
+        ended = sends(port, tmp_path)
         assert ended.stderr.splitlines()[-1] == b"stopped at part-0001", ended
         assert (tmp_path / "replies.csv").read_bytes().splitlines()[-2:] == [b"k59999,done,59999", b"-,fault,BadCsv"]
         # mended, and sent again from there on
@@ -459,17 +421,31 @@ def test_a_large_sheet_stops_at_the_part_that_was_not_done(tmp_path):
         assert status == 200 and body.startswith(b"k60000,done,60000\n")
 
 
-def test_the_log_is_kept_and_makes_the_same_inventory(tmp_path):
-    db, log = tmp_path / "roads.db", tmp_path / "roads.log.csv"
+@pytest.fixture
+def logs(tmp_path):
+    """The folder of the files that the backup keeps."""
+    folder = tmp_path / "logs"
+    folder.mkdir()
+    return folder
+
+
+def backs_up(port, logs, **env):
+    """What the backup writes and ends with, and the names of the files that are kept then."""
+    env = {"PATH": os.environ["PATH"], "PORT": str(port), **env}
+    done = subprocess.run([DEBIAN / "backup"], cwd=logs, env=env, capture_output=True, timeout=PATIENCE)
+    return done.stdout + done.stderr, done.returncode, sorted(path.name for path in logs.iterdir())
+
+
+def test_the_log_is_kept_and_makes_the_same_inventory(tmp_path, logs):
+    db = tmp_path / "roads.db"
     with started(db=db) as server:
-        backup = scripts(server.port)[1]
+        assert backs_up(server.port, logs) == (b"", 0, [])
         assert posted(server.port, FIRST) == (200, FIRST_REPLIES)
-        assert does(backup, tmp_path).returncode == 0
-        assert len(log.read_bytes().splitlines()) == 1 + 7
+        assert backs_up(server.port, logs) == (b"", 0, ["edits-00000007.csv"])
         assert posted(server.port, SURVEY, "/v1/surveys") == (200, b"e1,done,8\n")
         for _ in range(2):
-            assert does(backup, tmp_path).returncode == 0
-            assert len(log.read_bytes().splitlines()) == 1 + 8
+            assert backs_up(server.port, logs) == (b"", 0, ["edits-00000007.csv", "edits-00000008.csv"])
+    log = logs / "edits-00000008.csv"
     ends(run("log", str(db)), log.read_bytes(), 0)
     ended = run("edit", str(tmp_path / "new.db"), str(log), "--all")
     ends(ended, FIRST_REPLIES + lines("e1,done,8"), 0)
@@ -477,17 +453,37 @@ def test_the_log_is_kept_and_makes_the_same_inventory(tmp_path):
     assert rows_of(tmp_path / "new.db") == rows_of(db)
 
 
-def test_a_backup_stops_where_the_inventory_is_another_one(tmp_path):
-    db, log = tmp_path / "roads.db", tmp_path / "roads.log.csv"
+def test_the_last_of_the_logs_are_kept(logs):
+    with started() as server:
+        for n in range(1, 11):
+            assert posted(server.port, sheet_of(f"k{n},link,{n},5"))[0] == 200
+            assert backs_up(server.port, logs, KEEP="2")[:2] == (b"", 0)
+        assert backs_up(server.port, logs, KEEP="2") == (b"", 0, ["edits-00000009.csv", "edits-00000010.csv"])
+        assert (logs / "edits-00000010.csv").read_bytes() == asked(server.port, "GET", "/v1/log")[2]
+        for word in ["0", "-1", "many", ""]:
+            ended = backs_up(server.port, logs, KEEP=word)
+            assert ended[2] == ["edits-00000009.csv", "edits-00000010.csv"] and (ended[1] == 0) == (word == ""), (word, ended)
+
+
+def test_a_backup_stops_where_the_inventory_is_another_one(tmp_path, logs):
+    db = tmp_path / "roads.db"
     with started(db=db) as server:
-        assert does(scripts(server.port)[1], tmp_path).returncode == 0
         assert posted(server.port, FIRST) == (200, FIRST_REPLIES)
-        for _ in range(2):
-            assert does(scripts(server.port)[1], tmp_path).returncode == 0
-    kept = log.read_bytes()
+        assert backs_up(server.port, logs) == (b"", 0, ["edits-00000007.csv"])
+    (kept,) = [path.read_bytes() for path in logs.iterdir()]
     older = sheet_of("o1,link,1,5000", *(f"o{n},link,{n},5" for n in range(2, 9)))
     for copy, sheet in [("fewer.db", sheet_of("o1,link,1,5000")), ("other.db", older)]:
         ends(edit(tmp_path / copy, sheet), edit(":memory:", sheet).stdout, 0)
         with started(db=tmp_path / copy) as server:
-            ended = does(scripts(server.port)[1], tmp_path)
-            assert (ended.returncode, ended.stderr, log.read_bytes()) == (1, b"edit 7 is not the one that was kept\n", kept)
+            said, status, _ = backs_up(server.port, logs)
+            assert (said, status) == (b"roadlrs-backup: edit 7 is not the one that was kept in edits-00000007.csv\n", 1)
+            assert [path.read_bytes() for path in logs.glob("*.csv")] == [kept]
+
+
+def test_what_a_killed_backup_left_is_not_taken(logs):
+    with started() as server:
+        assert posted(server.port, sheet_of("k1,link,1,5")) == (200, b"k1,done,1\n")
+        (logs / "more.new").write_text("half a li")
+        (logs / "longer.new").write_text("half a li")
+        assert backs_up(server.port, logs) == (b"", 0, ["edits-00000001.csv"])
+        assert (logs / "edits-00000001.csv").read_bytes() == sheet_of("k1,link,1,5")

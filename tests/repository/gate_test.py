@@ -149,7 +149,15 @@ def test_the_gate_uses_all_processors_that_have_memory_for_a_check():
 
 
 # what .ci/run looks for, and the packages that have it; it finds nginx and HAProxy by their paths
-INSTALLED = {"cc": "gcc libc6-dev", "sqlite3": "sqlite3", "curl": "curl", "xz": "xz-utils", "chromium": "chromium fonts-dejavu-core", "chromedriver": "chromium-driver"}
+INSTALLED = {
+    "cc": "gcc libc6-dev",
+    "sqlite3": "sqlite3",
+    "curl": "curl",
+    "xz": "xz-utils",
+    "systemd-analyze": "systemd",
+    "chromium": "chromium fonts-dejavu-core",
+    "chromedriver": "chromium-driver",
+}
 
 
 def installs(folder, without):

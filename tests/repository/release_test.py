@@ -126,33 +126,6 @@ def test_a_byte_of_any_source_makes_it_other_sources(clone):
     assert sum_of_sources(clone) == before
 
 
-@pytest.mark.parametrize("how", ["unpacked", "installed"])
-def test_the_debian_package_runs(how, clone):
-    sheet, replies = first_sheet()
-    with tempfile.TemporaryDirectory() as folder:
-        done = subprocess.run(["tools/package"], cwd=clone, env={"PATH": OTHER_COMMANDS}, capture_output=True, text=True, timeout=PATIENCE)
-        assert done.returncode == 0, done
-        package = clone / done.stdout.split()[1]
-        root = pathlib.Path(folder) / "root"
-        if how == "unpacked":
-            subprocess.run(["dpkg-deb", "-x", package, root], check=True)
-        else:
-            install(package, root)
-        (root / "first.csv").write_text(sheet)
-        done = subprocess.run([root / "usr" / "bin" / "roadlrs", "edit", ":memory:", "first.csv"], cwd=root, capture_output=True)
-        assert (done.stdout, done.stderr, done.returncode) == (replies.encode(), b"", 1)
-
-
-def install(package, root):
-    """Installs a package into a folder that has a list of packages of its own, in which there is no C library."""
-    (root / "var" / "lib" / "dpkg" / "updates").mkdir(parents=True)
-    (root / "var" / "lib" / "dpkg" / "info").mkdir()
-    (root / "var" / "lib" / "dpkg" / "status").touch()
-    command = ["dpkg", f"--root={root}", "--force-depends", "--force-not-root", "--force-bad-path", "--log=/dev/null", "--install", package]
-    done = subprocess.run(command, capture_output=True, text=True, timeout=PATIENCE)
-    assert done.returncode == 0, done
-
-
 # releases of a small repository
 
 
@@ -525,31 +498,6 @@ def test_the_release_of_other_bytes_is_not_verified():
 
 
 # how a release is packed
-
-
-def test_the_archive_and_the_package_have_the_same_files():
-    def test(tree):
-        tree.write("docs/PAGE.md", "page\n")
-        tree.write("docs/roadlrs.1", "manual\n")
-        tree.write("released/roadlrs.bash", "completion\n")
-        ended = tree.call("tools/package")
-        archive, package = [tree.top / name for name in ended.stdout.decode().split()]
-        assert ended.status == 0 and archive.name == "roadlrs-7.0.1-x86_64-linux.tar.xz" and package.name == "roadlrs_7.0.1_amd64.deb", ended
-        first = [archive.read_bytes(), package.read_bytes()]
-        doc = ["share/doc/roadlrs/" + name for name in ["README.md", "docs/PAGE.md", "manifest"]]
-        files = ["bin/roadlrs", "share/bash-completion/completions/roadlrs", *doc, "share/man/man1/roadlrs.1.gz"]
-        subprocess.run(["tar", "-C", tree.folder, "-xf", archive], check=True)
-        subprocess.run(["dpkg-deb", "-x", package, tree.folder / "deb"], check=True)
-        for top in [tree.folder / "roadlrs-7.0.1", tree.folder / "deb" / "usr"]:
-            assert sorted(str(path.relative_to(top)) for path in top.rglob("*") if path.is_file()) == files
-            ends(tree.run(*WORDS, program=top / "bin" / "roadlrs"), OUTPUT, 0)
-        time.sleep(1.1)
-        (tree.top / "README.md").touch()
-        (tree.top / "released" / "manifest").touch()
-        assert tree.call("tools/package").status == 0
-        assert [archive.read_bytes(), package.read_bytes()] == first
-
-    in_release(test)
 
 
 def test_only_a_release_of_these_sources_is_packed():
