@@ -116,7 +116,7 @@ export function watch() {
   const box = $("diagram");
   box.addEventListener("wheel", wheel, { passive: false });
   for (const name of ["touchstart", "touchmove"]) box.addEventListener(name, touch, { passive: false });
-  box.ontouchend = box.ontouchcancel = endTouch;
+  for (const name of ["touchend", "touchcancel"]) box.addEventListener(name, endTouch);
   Object.assign(box, { onpointerdown: startDrag, onpointermove: dragOn, onpointerup: endDrag, onpointercancel: endDrag, onclick: click, onkeydown: press });
   $("in").onclick = () => zoom(0.5);
   $("out").onclick = () => zoom(2);

@@ -151,7 +151,7 @@ def test_the_wheel_zooms_where_it_points_and_is_one_step_back(page):
     _, start, end = page.drawn()
     # the place under the wheel stays, to a pixel
     assert abs((1_500_000 - start) / (end - start) - 0.25) < 0.01
-    wheel(page, 1_500_000, 5_000)
+    wheel(page, 1_500_000, 5_000, steps=3)
     page.draws("LONG", 0, 6_000_000)
     browser.runs("history.back()")
     browser.waits_for("the route", lambda browser: page.fragment() == "#LONG")

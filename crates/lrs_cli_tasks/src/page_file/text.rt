@@ -7,7 +7,7 @@ pub static PAGE: &str = r##"<!doctype html>
 <meta charset="utf-8">
 <meta name="viewport" content="width=device-width, initial-scale=1">
 <meta name="color-scheme" content="light dark">
-<meta http-equiv="Content-Security-Policy" content="default-src 'none'; style-src 'unsafe-inline'; script-src 'sha256-TCxEuiZldav9EKdx8XN8WdCiIKHIL3Egi/zzcOsYtqU='; img-src data:; connect-src 'self'; form-action 'none'; base-uri 'none'">
+<meta http-equiv="Content-Security-Policy" content="default-src 'none'; style-src 'unsafe-inline'; script-src 'sha256-n9aIhLya7x/leBYuulWNIDWAojskGqjNsFsLqrvxalI='; img-src data:; connect-src 'self'; form-action 'none'; base-uri 'none'">
 <title>Road inventory</title>
 <link rel="icon" href="data:,">
 <style>
@@ -452,8 +452,8 @@ say("under", [`${metres(chainage)} m, measure ${textOf(view.route, "abs", chaina
 function press(event) {const button = { ArrowLeft: "back", ArrowRight: "on", "+": "in", "-": "out", Home: "whole" }[event.key];if (event.ctrlKey || event.altKey || event.metaKey) return;if (button) event.preventDefault(), $(button).click();
 if (event.key === "Enter") askChainage(Math.floor((seen.from + seen.to) / 2));}
 function watch() {const box = $("diagram");box.addEventListener("wheel", wheel, { passive: false });for (const name of ["touchstart", "touchmove"]) box.addEventListener(name, touch, { passive: false });
-box.ontouchend = box.ontouchcancel = endTouch;Object.assign(box, { onpointerdown: startDrag, onpointermove: dragOn, onpointerup: endDrag, onpointercancel: endDrag, onclick: click, onkeydown: press });$("in").onclick = () => zoom(0.5);
-$("out").onclick = () => zoom(2);$("back").onclick = () => move(-0.5);$("on").onclick = () => move(0.5);$("whole").onclick = () => showRange(0, view.route.length);}
+for (const name of ["touchend", "touchcancel"]) box.addEventListener(name, endTouch);Object.assign(box, { onpointerdown: startDrag, onpointermove: dragOn, onpointerup: endDrag, onpointercancel: endDrag, onclick: click, onkeydown: press });
+$("in").onclick = () => zoom(0.5);$("out").onclick = () => zoom(2);$("back").onclick = () => move(-0.5);$("on").onclick = () => move(0.5);$("whole").onclick = () => showRange(0, view.route.length);}
 let isFirst = true;function show(address) {const isRoute = Boolean(address && address.route), changes = $("route").hidden === isRoute && !isFirst;isFirst = false;$("route").hidden = !isRoute;$("network").hidden = isRoute;
 if (changes) $(isRoute ? "route-title" : "network-title").focus({ preventScroll: true }), scrollTo(0, 0);if (isRoute) return showRoute(address);leaveRoute();document.title = "Road inventory";
 say("address-said", address ? "The address names no route." : "", Boolean(address));return loadNetwork();}
