@@ -9,10 +9,12 @@ import { view } from "./view.js";
 const MOST_VALUES = 40;
 export const off = new Set();
 export const whenSwitched = [];
-let classes = [];
+let classes = [], drawnFor;
 
 export async function loadClasses(route) {
   const [lists, { lengths }] = await Promise.all([known("v1/classes"), known("v1/lengths", [["route", route]])]);
+  if (drawnFor === lengths) return;
+  drawnFor = lengths;
   classes = lists.classes.map(entry => entry.class);
   $("classes").replaceChildren(...lists.classes.map(({ class: name, kind }) => classItem(name, kind, lengths.filter(entry => entry.class === name))));
   hideClasses();

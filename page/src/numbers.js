@@ -34,4 +34,10 @@ export function proportionOf(mm, length) {
   return `${mm / a}/${length / a}`;
 }
 
+// A measure that is a fraction, to three decimals.
+export function short(measure) {
+  const [n, d] = measure.split("/");
+  return d ? `\u2248 ${(Number(n) / Number(d)).toFixed(3)}` : n;
+}
+
 export const counted = (count, one, more = `${one}s`) => `${count} ${count === 1 ? one : more}`;

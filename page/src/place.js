@@ -2,7 +2,7 @@
 
 import { $, SIDES, attempt, linkTo, make, rowOf, say, tableOf } from "./parts.js";
 import { known } from "./requests.js";
-import { metres } from "./numbers.js";
+import { metres, short } from "./numbers.js";
 import { METHODS, writeAddress } from "./addresses.js";
 import { fill, said, whatLies } from "./positions.js";
 import { drawMarks, seen, shownDiagram, unitsAt, chainageAt } from "./diagram.js";
@@ -49,7 +49,7 @@ function waysOf({ at, link, mm, positions }, { name }) {
   const ways = [...positions].sort((a, b) => distance(a) - distance(b)).slice(0, MOST_WAYS);
   for (const { method, pos } of [{ method: "chainage", pos: metres(at) }, ...ways]) {
     const item = make("li", `${METHODS[method]}: `), canBeAsked = method !== "abs" || !pos.includes("/");
-    item.append(canBeAsked ? linkTo(writeAddress({ route: name, place: { method, pos } }), pos) : pos);
+    item.append(canBeAsked ? linkTo(writeAddress({ route: name, place: { method, pos } }), pos) : `${pos} (${short(pos)})`);
     list.append(item);
   }
   list.append(make("li", `on link ${link}: ${mm} mm`));

@@ -2,7 +2,7 @@
 
 import { $, SIDES, linkTo, make, offer, rowOf, say } from "./parts.js";
 import { known } from "./requests.js";
-import { counted, metres } from "./numbers.js";
+import { counted, metres, short } from "./numbers.js";
 import { writeAddress } from "./addresses.js";
 import { off, rangeOf, whenSwitched } from "./classes.js";
 import { LongTable } from "./sight.js";
@@ -81,12 +81,6 @@ function assetRow(row) {
   const made = rowOf([row.class, row.value, SIDES[row.side], metres(row.from), metres(row.to), short(row.from_measure), short(row.to_measure), link, row.offset, row.entered_by]);
   for (const at of [3, 4, 5, 6, 7]) made.cells[at].className = "number";
   return made;
-}
-
-// A measure that is a fraction, to three decimals; all of it is in the CSV.
-export function short(measure) {
-  const [n, d] = measure.split("/");
-  return d ? `\u2248 ${(Number(n) / Number(d)).toFixed(3)}` : n;
 }
 
 export function saveRows() {

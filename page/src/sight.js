@@ -17,19 +17,23 @@ export class LongTable {
     this.body = this.table.createTBody();
     this.below = this.table.createTBody();
     box.replaceChildren(this.table);
+    box.tabIndex = -1;
     box.onscroll = () => this.draw();
     box.addEventListener("keydown", event => this.step(event));
     new ResizeObserver(() => this.draw()).observe(box);
     tables.push(this);
   }
 
+  // Whoever was at a row is at the row of the same name, or at the table.
   show(items) {
+    const at = this.body.contains(document.activeElement) && document.activeElement.textContent;
     this.items = items;
     this.rows.clear();
     this.body.replaceChildren();
     this.box.scrollTop = 0;
     this.table.setAttribute("aria-rowcount", items.length + 1);
     this.draw();
+    if (at) ([...this.body.querySelectorAll("a")].find(link => link.textContent === at) || this.box).focus();
   }
 
   draw() {

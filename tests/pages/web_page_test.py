@@ -359,7 +359,7 @@ def test_a_click_asks_for_the_millimetre_under_it(page):
     # the same place in other words; those that can be asked lead to it
     assert browser.text("#ways li").splitlines() == [
         "chainage, in metres: 2.499",
-        "measure: 14994/5",
+        "measure: 14994/5 (≈ 2998.800)",
         "proportion: 2499/8000",
         "from a referent: KM2+2497",
         "on link 1: 2499 mm",

@@ -7,7 +7,7 @@ pub static PAGE: &str = r##"<!doctype html>
 <meta charset="utf-8">
 <meta name="viewport" content="width=device-width, initial-scale=1">
 <meta name="color-scheme" content="light dark">
-<meta http-equiv="Content-Security-Policy" content="default-src 'none'; style-src 'unsafe-inline'; script-src 'sha256-n9aIhLya7x/leBYuulWNIDWAojskGqjNsFsLqrvxalI='; img-src data:; connect-src 'self'; form-action 'none'; base-uri 'none'">
+<meta http-equiv="Content-Security-Policy" content="default-src 'none'; style-src 'unsafe-inline'; script-src 'sha256-UDx3MhrmHUZReCJ4D/WIAeSyaSraMkhew6hg2uU9y+Y='; img-src data:; connect-src 'self'; form-action 'none'; base-uri 'none'">
 <title>Road inventory</title>
 <link rel="icon" href="data:,">
 <style>
@@ -162,13 +162,15 @@ function measureAt(marks, chainage) {const behind = Math.max(marks.findIndex(([a
 return [BigInt(low) * BigInt(end - start) + BigInt(chainage - start) * BigInt(high - low), BigInt(end - start)];}
 function decimal([n, d]) {const thousandths = (n * 1000n) / d, rest = String(thousandths % 1000n).padStart(3, "0");return n % d ? `${thousandths / 1000n}.${rest}` : String(n / d);}
 function proportionOf(mm, length) {let [a, b] = [mm, length];while (b) [a, b] = [b, a % b];return `${mm / a}/${length / a}`;}
+function short(measure) {const [n, d] = measure.split("/");return d ? `\u2248 ${(Number(n) / Number(d)).toFixed(3)}` : n;}
 const counted = (count, one, more = `${one}s`) => `${count} ${count === 1 ? one : more}`;
 async function askHealth() {try {const edits = await renew();say("health", `${counted(edits, "edit")}. The program answers.`);return edits;} catch (error) {return void say("health", error.message, true);}
 }
 const SPARE = 10, MOST_PRINTED = 2000;const tables = [];let isPrinting = false;class LongTable {constructor(box, heads, makeRow) {Object.assign(this, { box, makeRow, items: [], rows: new Map(), height: 30 });this.table = make("table");
-this.head = this.table.createTHead().insertRow();this.head.append(...heads);this.above = this.table.createTBody();this.body = this.table.createTBody();this.below = this.table.createTBody();box.replaceChildren(this.table);
+this.head = this.table.createTHead().insertRow();this.head.append(...heads);this.above = this.table.createTBody();this.body = this.table.createTBody();this.below = this.table.createTBody();box.replaceChildren(this.table);box.tabIndex = -1;
 box.onscroll = () => this.draw();box.addEventListener("keydown", event => this.step(event));new ResizeObserver(() => this.draw()).observe(box);tables.push(this);}
-show(items) {this.items = items;this.rows.clear();this.body.replaceChildren();this.box.scrollTop = 0;this.table.setAttribute("aria-rowcount", items.length + 1);this.draw();}
+show(items) {const at = this.body.contains(document.activeElement) && document.activeElement.textContent;this.items = items;this.rows.clear();this.body.replaceChildren();this.box.scrollTop = 0;
+this.table.setAttribute("aria-rowcount", items.length + 1);this.draw();if (at) ([...this.body.querySelectorAll("a")].find(link => link.textContent === at) || this.box).focus();}
 draw() {const first = isPrinting ? 0 : Math.max(Math.floor(this.box.scrollTop / this.height) - SPARE, 0);
 const last = Math.min(isPrinting ? MOST_PRINTED : first + Math.ceil(this.box.clientHeight / this.height) + 2 * SPARE, this.items.length);
 for (const [at, row] of this.rows) if ((at < first || at >= last) && !row.contains(document.activeElement)) this.rows.delete(at), row.remove();let behind = null;for (let at = last - 1; at >= first; at--) {
@@ -285,8 +287,9 @@ function showRange(from, to, isGesture) {const { length } = view.route, [start, 
 return go({ route, stretch: end - start === length ? undefined : chainages(start, end), place, asset }, isGesture);}
 function aroundAsset(route, from, to, asset, length = Infinity) {const around = Math.max(Math.round((to - from) / 4), 5000), start = Math.max(from - around, 0), end = Math.min(to + around, length);
 return { route, stretch: start === 0 && end === length ? undefined : chainages(start, end), asset };}
-const MOST_VALUES = 40;const off = new Set();const whenSwitched = [];let classes = [];async function loadClasses(route) {const [lists, { lengths }] = await Promise.all([known("v1/classes"), known("v1/lengths", [["route", route]])]);
-classes = lists.classes.map(entry => entry.class);$("classes").replaceChildren(...lists.classes.map(({ class: name, kind }) => classItem(name, kind, lengths.filter(entry => entry.class === name))));hideClasses();}
+const MOST_VALUES = 40;const off = new Set();const whenSwitched = [];let classes = [], drawnFor;async function loadClasses(route) {
+const [lists, { lengths }] = await Promise.all([known("v1/classes"), known("v1/lengths", [["route", route]])]);if (drawnFor === lengths) return;drawnFor = lengths;classes = lists.classes.map(entry => entry.class);
+$("classes").replaceChildren(...lists.classes.map(({ class: name, kind }) => classItem(name, kind, lengths.filter(entry => entry.class === name))));hideClasses();}
 function classItem(name, kind, values) {const item = make("div", "", { className: "class" }), label = make("label"), list = make("ul", "", { className: "values" });
 const box = make("input", "", { type: "checkbox", checked: !off.has(name), value: name });box.onchange = () => switchClasses([name], box.checked);label.append(box, name);
 list.append(...values.slice(0, MOST_VALUES).map(entry => valueItem(name, kind, entry)));if (values.length > MOST_VALUES) list.append(make("li", `and ${values.length - MOST_VALUES} more`));item.append(label, list);return item;}
@@ -317,7 +320,6 @@ function assetRow(row) {const { route, address } = view, link = linkTo(writeAddr
 if (address.asset === String(row.asset)) link.setAttribute("aria-current", "true");
 const made = rowOf([row.class, row.value, SIDES[row.side], metres(row.from), metres(row.to), short(row.from_measure), short(row.to_measure), link, row.offset, row.entered_by]);
 for (const at of [3, 4, 5, 6, 7]) made.cells[at].className = "number";return made;}
-function short(measure) {const [n, d] = measure.split("/");return d ? `\u2248 ${(Number(n) / Number(d)).toFixed(3)}` : n;}
 function saveRows() {const lines = chosen.map(row => SAVED.map(name => row[name]).join(","));$("csv").download = `${view.route.name}.csv`;offer($("csv"), [[SAVED.join(","), ...lines, ""].join("\n")], "text/csv");}
 whenSwitched.push(() => table && listRows());
 const MOST_WAYS = 12;let asks = 0;const markAll = () => drawMarks([...view.asset, ...view.place]);const clearPlace = () => (asks++, (view.place = []), $("hits").replaceChildren(), $("ways").replaceChildren(), say("at-said", ""));
@@ -332,7 +334,7 @@ function hitRow(hit, found) {const link = linkTo(writeAddress({ ...view.address,
 return rowOf([link, hit.class, hit.value, SIDES[hit.side] || hit.side, hit.offset, hit.entry, found.link, found.mm]);}
 function waysOf({ at, link, mm, positions }, { name }) {const list = make("ul", "", { className: "ways" }), distance = ({ method, pos }) => (method === "rel" ? Number(/\d+$/.exec(pos)[0]) : -1);
 const ways = [...positions].sort((a, b) => distance(a) - distance(b)).slice(0, MOST_WAYS);for (const { method, pos } of [{ method: "chainage", pos: metres(at) }, ...ways]) {
-const item = make("li", `${METHODS[method]}: `), canBeAsked = method !== "abs" || !pos.includes("/");item.append(canBeAsked ? linkTo(writeAddress({ route: name, place: { method, pos } }), pos) : pos);list.append(item);}
+const item = make("li", `${METHODS[method]}: `), canBeAsked = method !== "abs" || !pos.includes("/");item.append(canBeAsked ? linkTo(writeAddress({ route: name, place: { method, pos } }), pos) : `${pos} (${short(pos)})`);list.append(item);}
 list.append(make("li", `on link ${link}: ${mm} mm`));return list;}
 function askTyped() {const place = said($("pos"), $("method").value);return place.pos ? go({ ...view.address, place }) : say("at-said", "Type a position.", true);}
 const askChainage = mm => go({ ...view.address, place: { method: "chainage", pos: metres(mm) } });async function askClick(event) {const x = shownDiagram() ? unitsAt(event) : 0;if (x < 950 || x > 11050) return;
