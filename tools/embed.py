@@ -26,7 +26,7 @@ BACK = '"##;\n'
 FORBIDDEN = {'"##': "the end of a raw text", "\t": "a tabulator", "\r": "a carriage return", " \n": "a blank at the end of a line"}
 
 IMPORT = re.compile(r'import \{ ([\w$, ]+) \} from "\./(\w+\.js)";')
-DECLARED = re.compile(r"^(?:export )?(?:async )?(?:const|let|function\*?|class) (?:([\w$]+)|\{ *([\w$, ]+) *\})", re.M)
+DECLARED = re.compile(r"^(?:export )?(?:async )?(?:(?:function\*?|class) ([\w$]+)|(?:const|let) ([\w$]+)(.*))", re.M)
 # A line that ends so goes on, or is whole: the next one can stand beside it.
 WHOLE = {"js": (";", "{", ",", "("), "css": (";", "{", "}", ",")}
 WIDTH = 240
@@ -55,14 +55,14 @@ def joined(name, lines):
 
 def exports_of(text):
     """The names that a module exports."""
-    return {name for line in text.splitlines() if line.startswith("export ") for found in [DECLARED.match(line)] if found for name in [found[1]]}
+    return {found[1] or found[2] for found in DECLARED.finditer(text) if found[0].startswith("export ")}
 
 
 class Script:
     """The modules in one script."""
 
     def __init__(self, folder):
-        self.folder, self.lines, self.done, self.declared = folder, [], {}, {}
+        self.folder, self.lines, self.done, self.declared, self.imported = folder, [], {}, {}, set()
 
     def takes(self, name, above=()):
         """Takes in a module behind those that it imports."""
@@ -76,7 +76,7 @@ class Script:
             self.checks(name, text, names.split(", "), other)
         self.done[name] = exports_of(text)
         for found in DECLARED.finditer(text):
-            for word in re.findall(r"[\w$]+", found[1] or found[2]):
+            for word in [found[1] or found[2], *re.findall(r", ([\w$]+)(?= =|,|;)", found[3] or "")]:
                 if self.declared.setdefault(word, name) != name:
                     refuse(f"{name} and {self.declared[word]} both declare {word}")
         lines = [re.sub("^export ", "", line) for line in text.splitlines() if not IMPORT.fullmatch(line)]
@@ -93,6 +93,10 @@ class Script:
                 refuse(f"{name} imports {word}, which {other} does not export")
             if not re.search(rf"(?<![\w$])(?:(?<!\.)|(?<=\.\.\.)){re.escape(word)}(?![\w$])", text):
                 refuse(f"{name} imports {word} and does not use it")
+        self.imported.update(names)
+
+    def not_imported(self):
+        return sorted(set().union(*self.done.values()) - self.imported)
 
 
 def page_of(folder):
@@ -102,9 +106,8 @@ def page_of(folder):
         styles += joined(name, (folder / name).read_text().splitlines())
     for name in re.findall(r'<script type="module" src="(\w+\.js)"></script>', text):
         script.takes(name)
-    unused = {path.name for path in folder.glob("*.js")} - set(script.done)
-    if unused:
-        refuse(f"nothing imports {', '.join(sorted(unused))}")
+    for unused in sorted({path.name for path in folder.glob("*.js")} - set(script.done)) + script.not_imported():
+        refuse(f"nothing imports {unused}")
     code = '\n"use strict";\n' + "\n".join(script.lines) + "\n"
     if "</" in code:
         refuse("a module has an end of a tag")

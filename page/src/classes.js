@@ -9,12 +9,12 @@ import { view } from "./view.js";
 const MOST_VALUES = 40;
 export const off = new Set();
 export const whenSwitched = [];
-let classes = [], drawnFor;
+let classes = [], legendOf;
 
 export async function loadClasses(route) {
   const [lists, { lengths }] = await Promise.all([known("v1/classes"), known("v1/lengths", [["route", route]])]);
-  if (drawnFor === lengths) return;
-  drawnFor = lengths;
+  if (legendOf === lengths) return;
+  legendOf = lengths;
   classes = lists.classes.map(entry => entry.class);
   $("classes").replaceChildren(...lists.classes.map(({ class: name, kind }) => classItem(name, kind, lengths.filter(entry => entry.class === name))));
   hideClasses();
@@ -38,7 +38,7 @@ function valueItem(name, kind, { value, length }) {
   return item;
 }
 
-export function switchClasses(names, on) {
+function switchClasses(names, on) {
   for (const name of names) on ? off.delete(name) : off.add(name);
   for (const box of $("classes").querySelectorAll("input")) box.checked = !off.has(box.value);
   hideClasses();

@@ -9,7 +9,7 @@ const NEAR = 60, MOST_UNDER = 12;
 export const seen = { from: 0, to: 0, things: [] };
 
 export const shownDiagram = () => $("diagram").querySelector("svg");
-export const across = chainage => 1000 + ((chainage - seen.from) * 10000) / (seen.to - seen.from);
+const across = chainage => 1000 + ((chainage - seen.from) * 10000) / (seen.to - seen.from);
 export const chainageAt = x => seen.from + ((x - 1000) * (seen.to - seen.from)) / 10000;
 
 export function putDiagram(text) {

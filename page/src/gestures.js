@@ -11,11 +11,12 @@ import { showRange, view, within } from "./view.js";
 const PAUSE = 120, LEAST_DRAG = 4;
 let wanted = null, timer, drag = null, wasDragged = false, pinch = null;
 
-export function zoom(times, middle = (seen.from + seen.to) / 2) {
-  return showRange(middle - (middle - seen.from) * times, middle + (seen.to - middle) * times);
+function zoom(times) {
+  const middle = (seen.from + seen.to) / 2, half = ((seen.to - seen.from) * times) / 2;
+  return showRange(middle - half, middle + half);
 }
 
-export const move = times => showRange(seen.from + (seen.to - seen.from) * times, seen.to + (seen.to - seen.from) * times);
+const move = times => showRange(seen.from + (seen.to - seen.from) * times, seen.to + (seen.to - seen.from) * times);
 
 // Until the program has drawn it, what is there already is stretched.
 function preview(from, to) {

@@ -21,7 +21,7 @@ function typedChainage(text, length) {
   return mm;
 }
 
-export function extentOf({ name, length, marks }) {
+function extentOf({ name, length, marks }) {
   return `${name} has measures from ${marks[0][1]} to ${marks.at(-1)[1]}, and ${metres(length)} m.`;
 }
 

@@ -72,13 +72,13 @@ function putRoute(address, { route, from, to, text, refusal }, isNew) {
 
 function tellStretch(refusal) {
   const { route, from, to, address: { stretch } } = view;
-  const measures = stretch?.method === "abs" ? [stretch.from, stretch.to] : [from, to].map(mm => textOf(route, "abs", mm));
+  const measures = ["from", "to"].map(end => (stretch?.method === "abs" && stretch[end]) || textOf(route, "abs", view[end]));
   if (refusal) say("route-said", `${refusal.message} The whole route is shown.`, true);
   else say("route-said", `From ${metres(from)} m to ${metres(to)} m of ${metres(route.length)} m: measures ${measures[0]} to ${measures[1]}.`);
 }
 
 // The fields say the stretch by the method chosen: as it was asked, where it was asked by this method.
-export function fillEnds() {
+function fillEnds() {
   const { stretch } = view.address;
   if (stretch && stretch.method !== "chainage") $("by").value = stretch.method;
   for (const end of ["from", "to"]) {

@@ -46,7 +46,7 @@ function keyOf(row, name) {
   return n / d;
 }
 
-export function compared(a, b) {
+function compared(a, b) {
   if (typeof a === "number") return a - b;
   const [x, y] = [Number(a), Number(b)];
   return Number.isNaN(x) || Number.isNaN(y) ? (a < b ? -1 : Number(a > b)) : x - y;
@@ -58,7 +58,7 @@ function sortBy(name) {
 }
 
 // Each word of the filter stands somewhere in the row.
-export function matches(row, words) {
+function matches(row, words) {
   const text = `${row.class} ${row.value} ${row.asset} ${SIDES[row.side]}`.toLowerCase();
   return words.every(word => text.includes(word));
 }

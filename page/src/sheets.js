@@ -24,7 +24,7 @@ function* recordEnds(bytes) {
 }
 
 // The bodies in which a sheet is sent, each with the header.
-export function bodiesOf(bytes) {
+function bodiesOf(bytes) {
   if (bytes.length <= MOST_BYTES) return [bytes];
   let start = null, last = null, head = null;
   const bodies = [], body = () => bodies.push(new Blob([head, bytes.subarray(start, last)]));
@@ -38,7 +38,7 @@ export function bodiesOf(bytes) {
 }
 
 // How many records a sheet has behind its header, and where the first of them end. Empty lines are none.
-export function recordsIn(bytes) {
+function recordsIn(bytes) {
   let count = -1, start = 0, shown = 0;
   for (const end of recordEnds(bytes)) {
     if (bytes.subarray(start, end).some(byte => byte !== 10 && byte !== 13)) count++;

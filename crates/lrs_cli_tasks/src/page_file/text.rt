@@ -7,7 +7,7 @@ pub static PAGE: &str = r##"<!doctype html>
 <meta charset="utf-8">
 <meta name="viewport" content="width=device-width, initial-scale=1">
 <meta name="color-scheme" content="light dark">
-<meta http-equiv="Content-Security-Policy" content="default-src 'none'; style-src 'unsafe-inline'; script-src 'sha256-UDx3MhrmHUZReCJ4D/WIAeSyaSraMkhew6hg2uU9y+Y='; img-src data:; connect-src 'self'; form-action 'none'; base-uri 'none'">
+<meta http-equiv="Content-Security-Policy" content="default-src 'none'; style-src 'unsafe-inline'; script-src 'sha256-OLgxy0rf3IO8DpbM+Lv41SHRUOu54noqO9Byek8Ra0s='; img-src data:; connect-src 'self'; form-action 'none'; base-uri 'none'">
 <title>Road inventory</title>
 <link rel="icon" href="data:,">
 <style>
@@ -287,8 +287,8 @@ function showRange(from, to, isGesture) {const { length } = view.route, [start, 
 return go({ route, stretch: end - start === length ? undefined : chainages(start, end), place, asset }, isGesture);}
 function aroundAsset(route, from, to, asset, length = Infinity) {const around = Math.max(Math.round((to - from) / 4), 5000), start = Math.max(from - around, 0), end = Math.min(to + around, length);
 return { route, stretch: start === 0 && end === length ? undefined : chainages(start, end), asset };}
-const MOST_VALUES = 40;const off = new Set();const whenSwitched = [];let classes = [], drawnFor;async function loadClasses(route) {
-const [lists, { lengths }] = await Promise.all([known("v1/classes"), known("v1/lengths", [["route", route]])]);if (drawnFor === lengths) return;drawnFor = lengths;classes = lists.classes.map(entry => entry.class);
+const MOST_VALUES = 40;const off = new Set();const whenSwitched = [];let classes = [], legendOf;async function loadClasses(route) {
+const [lists, { lengths }] = await Promise.all([known("v1/classes"), known("v1/lengths", [["route", route]])]);if (legendOf === lengths) return;legendOf = lengths;classes = lists.classes.map(entry => entry.class);
 $("classes").replaceChildren(...lists.classes.map(({ class: name, kind }) => classItem(name, kind, lengths.filter(entry => entry.class === name))));hideClasses();}
 function classItem(name, kind, values) {const item = make("div", "", { className: "class" }), label = make("label"), list = make("ul", "", { className: "values" });
 const box = make("input", "", { type: "checkbox", checked: !off.has(name), value: name });box.onchange = () => switchClasses([name], box.checked);label.append(box, name);
@@ -356,7 +356,7 @@ if (start >= end) throw new Error(`From must be before To: they are at ${metres(
 function putRoute(address, { route, from, to, text, refusal }, isNew) {const before = view.address;Object.assign(view, { route, address, from, to });for (const id of PARTS) $(id).hidden = false;putDiagram(text);fillEnds();
 tellStretch(refusal);hideClasses();markAll();attempt("classes-said", () => loadClasses(route.name));attempt("rows-said", loadRows);attempt("route-said", () => markAsset(address.asset));if (!address.place) clearPlace(), markAll();
 else if (isNew || JSON.stringify(before.place) !== JSON.stringify(address.place)) askPlace(address.place);}
-function tellStretch(refusal) {const { route, from, to, address: { stretch } } = view;const measures = stretch?.method === "abs" ? [stretch.from, stretch.to] : [from, to].map(mm => textOf(route, "abs", mm));
+function tellStretch(refusal) {const { route, from, to, address: { stretch } } = view;const measures = ["from", "to"].map(end => (stretch?.method === "abs" && stretch[end]) || textOf(route, "abs", view[end]));
 if (refusal) say("route-said", `${refusal.message} The whole route is shown.`, true);else say("route-said", `From ${metres(from)} m to ${metres(to)} m of ${metres(route.length)} m: measures ${measures[0]} to ${measures[1]}.`);}
 function fillEnds() {const { stretch } = view.address;if (stretch && stretch.method !== "chainage") $("by").value = stretch.method;for (const end of ["from", "to"]) {fill($(end), view.route, $("by").value, view[end]);
 if (stretch?.method !== $("by").value || !stretch[end]) continue;$(end).value = stretch[end];delete $(end).dataset.chainage;}
@@ -428,8 +428,8 @@ if (status !== 200) throw new Error(reason(status, text) + ([500, 502, 503, 504]
 let sheets = Promise.resolve(), waiting = 0;function enqueue(work) {waiting++;sheets = sheets.then(() => attempt("sheet-said", work)).then(() => waiting--);}
 function sendReady(refresh) {for (const sheet of ready) enqueue(() => (startReplies(), sendParts(sheet, refresh)));ready = [];$("preview").hidden = true;$("sheet-said").scrollIntoView({ block: "nearest" });}
 const goOn = refresh => enqueue(async () => stopped && sendParts(stopped, refresh));const isSending = () => waiting > 0;
-const PAUSE = 120, LEAST_DRAG = 4;let wanted = null, timer, drag = null, wasDragged = false, pinch = null;function zoom(times, middle = (seen.from + seen.to) / 2) {
-return showRange(middle - (middle - seen.from) * times, middle + (seen.to - middle) * times);}
+const PAUSE = 120, LEAST_DRAG = 4;let wanted = null, timer, drag = null, wasDragged = false, pinch = null;function zoom(times) {const middle = (seen.from + seen.to) / 2, half = ((seen.to - seen.from) * times) / 2;
+return showRange(middle - half, middle + half);}
 const move = times => showRange(seen.from + (seen.to - seen.from) * times, seen.to + (seen.to - seen.from) * times);function preview(from, to) {const svg = shownDiagram(), [start, end] = within(from, to, view.route.length);
 wanted = [start, end];const times = (seen.to - seen.from) / (end - start), left = 1000 + ((seen.from - start) * 10000) / (end - start) - times * 1000;svg.style.transformOrigin = "0 0";
 svg.style.transform = `translateX(${(left * svg.clientWidth) / 12000}px) scaleX(${times})`;$("diagram").classList.add("moving");}
