@@ -54,7 +54,11 @@ $("skip").onclick = () => $("main").focus();
 $("send").onclick = () => sendReady(refresh);
 $("forget").onclick = forget;
 $("resume").onclick = () => goOn(refresh);
-$("file").onchange = () => attempt("sheet-said", async () => (await lookAt([...$("file").files]), ($("file").value = "")));
+$("file").onchange = () => {
+  const files = [...$("file").files];
+  $("file").value = "";
+  attempt("sheet-said", () => lookAt(files));
+};
 document.ondragover = event => {
   if (!event.dataTransfer.types.includes("Files")) return;
   event.preventDefault();

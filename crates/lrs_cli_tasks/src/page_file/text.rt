@@ -7,7 +7,7 @@ pub static PAGE: &str = r##"<!doctype html>
 <meta charset="utf-8">
 <meta name="viewport" content="width=device-width, initial-scale=1">
 <meta name="color-scheme" content="light dark">
-<meta http-equiv="Content-Security-Policy" content="default-src 'none'; style-src 'unsafe-inline'; script-src 'sha256-OLgxy0rf3IO8DpbM+Lv41SHRUOu54noqO9Byek8Ra0s='; img-src data:; connect-src 'self'; form-action 'none'; base-uri 'none'">
+<meta http-equiv="Content-Security-Policy" content="default-src 'none'; style-src 'unsafe-inline'; script-src 'sha256-8+cznk7olS97IChXWRU5z07MGxRv6qtLGD8VZG1sOrI='; img-src data:; connect-src 'self'; form-action 'none'; base-uri 'none'">
 <title>Road inventory</title>
 <link rel="icon" href="data:,">
 <style>
@@ -36,7 +36,7 @@ input[type=checkbox]{min-height:0;width:1.5rem;height:1.5rem;}.class{display:fle
 tr.done td.word{background:var(--good-ground);color:var(--good);border-left:6px solid currentColor;}tr.again td.word{background:var(--known-ground);color:var(--known);border-left:6px dashed currentColor;}
 tr.refused td.word,tr.fault td.word{background:var(--bad-ground);color:var(--bad);border-left:6px double currentColor;font-weight:bold;}#drop{padding:.8rem;margin:.5rem 0;border:2px dashed var(--field);}
 .over #drop{border-style:solid;background:var(--press);}@media (min-width:1100px){#network{grid-template-columns:minmax(0,1fr) minmax(0,1fr);}#network > :first-child{grid-column:1 / 3;}}@media (max-width:800px){main{padding:.5rem;}
-header p,h1{margin:0;}.name{width:5rem;}.length{width:5rem;}td.bar{width:50%;}}
+header p,h1{margin:0;}.name,.length{width:4rem;}.long thead th{white-space:normal;}td.bar{width:50%;}}
 @media print{body,section{background:#fff;color:#000;border:0;padding:0;}header form,header button,form,.buttons,details,fieldset button,#skip,#under,#route .note a,#found{display:none;}header{background:none;color:#000;padding:0;}
 .table,.long{overflow:visible;max-height:none;height:auto;border:0;}thead th{position:static;}section,tr,#diagram{break-inside:avoid;}#diagram{border:0;overflow:visible;}#diagram svg{min-width:0;filter:none;print-color-adjust:exact;}
 .swatch,.track svg{filter:none;print-color-adjust:exact;}}
@@ -464,7 +464,7 @@ const submits = (id, work) => ($(id).onsubmit = event => (event.preventDefault()
 submits("asking", askTyped);submits("row-filtering", () => {});$("filter").oninput = listRoutes;$("row-filter").oninput = listRows;$("csv").onclick = saveRows;$("by").onchange = () => changeMethod($("by"), [$("from"), $("to")]);
 $("method").onchange = () => changeMethod($("method"), [$("pos")]);for (const id of ["from", "to", "pos"]) $(id).oninput = () => delete $(id).dataset.chainage;$("all").onclick = () => switchAll(true);
 $("none").onclick = () => switchAll(false);$("close").onclick = () => ($("found").hidden = true);$("refresh").onclick = refresh;$("skip").onclick = () => $("main").focus();$("send").onclick = () => sendReady(refresh);
-$("forget").onclick = forget;$("resume").onclick = () => goOn(refresh);$("file").onchange = () => attempt("sheet-said", async () => (await lookAt([...$("file").files]), ($("file").value = "")));document.ondragover = event => {
+$("forget").onclick = forget;$("resume").onclick = () => goOn(refresh);$("file").onchange = () => {const files = [...$("file").files];$("file").value = "";attempt("sheet-said", () => lookAt(files));};document.ondragover = event => {
 if (!event.dataTransfer.types.includes("Files")) return;event.preventDefault();document.body.classList.add("over");};document.ondragleave = event => event.relatedTarget || document.body.classList.remove("over");document.ondrop = event => {
 const files = [...event.dataTransfer.files];if (!files.length) return;event.preventDefault();document.body.classList.remove("over");$("sheets").open = true;attempt("sheet-said", () => lookAt(files));};
 window.onbeforeunload = event => void (isSending() && event.preventDefault());makeShades();watch();start(show);
