@@ -119,8 +119,16 @@ class Page:
         self.looks_at(*paths)
         self.browser.clicks("#send")
 
+    def commands(self, command, **settings):
+        return self.browser.send("POST", "/goog/cdp/execute", {"cmd": command, "params": settings})
+
     def emulates(self, command, **settings):
-        self.browser.send("POST", "/goog/cdp/execute", {"cmd": f"Emulation.{command}", "params": settings})
+        self.commands(f"Emulation.{command}", **settings)
+
+    def work(self):
+        """The seconds that a processor has worked for what is shown, from the first call on, whatever runs beside it."""
+        self.commands("Performance.enable", timeDomain="threadTicks")
+        return next(entry["value"] for entry in self.commands("Performance.getMetrics")["metrics"] if entry["name"] == "TaskDuration")
 
     def is_as_it_should_be(self):
         """No script has failed, and nothing was loaded from elsewhere."""

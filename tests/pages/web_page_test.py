@@ -84,17 +84,17 @@ def many_routes(count):
 def test_ten_thousand_routes_are_looked_through(browser, tmp_path):
     ends(run("edit", str(tmp_path / "roads.db"), "stdin", given=many_routes(9_999), stdout=None), b"", 0)
     with service(browser, tmp_path) as page:
-        since = time.monotonic()
+        before = page.work()
         page.goes_to()
         browser.shows("#routes-said", "9999 of 9999 routes.")
-        # a second where nothing runs beside it
-        assert time.monotonic() - since < 15
+        browser.shows("#edits", "r9999")
+        assert page.work() - before < 1
         assert len(page.rows("#routes")) < 60
         browser.runs("document.querySelector('#routes').scrollTop = 1e9")
         browser.shows("#routes", "R09999")
         assert len(page.rows("#routes")) < 60
         browser.types("#filter", "0500")
-        browser.shows("#routes-said", "10 of 9999 routes.")
+        browser.shows("#routes-said", "11 of 9999 routes.")
 
 
 # ---- two: the diagram of a route
@@ -495,11 +495,10 @@ def test_twenty_thousand_rows_of_a_route(browser, tmp_path):
     many += [f"e{n},enter,{n + 1},LANE,WIDE,{'LR'[n % 2]},abs,{n},{n + 1},{n % 5},0" for n in range(20_000)]
     ends(edit(tmp_path / "roads.db", sheet_of(*many), stdout=None), b"", 0)
     with service(browser, tmp_path) as page:
-        since = time.monotonic()
+        before = page.work()
         page.opens_route("WIDE")
         browser.shows("#rows-said", "20000 of 20000 rows")
-        # seconds where nothing runs beside it
-        assert time.monotonic() - since < 45
+        assert page.work() - before < 4
         assert len(page.rows("#rows")) < 60
         browser.types("#row-filter", "19999")
         browser.shows("#rows-said", "1 of 20000 rows")
