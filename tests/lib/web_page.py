@@ -42,7 +42,7 @@ class Page:
     def opens(self):
         """Opens the network."""
         self.goes_to()
-        self.browser.shows("#routes-said", " routes.")
+        self.browser.shows("#routes-said", " route")
 
     def opens_route(self, name):
         self.goes_to(f"#{name}")
