@@ -6,594 +6,468 @@ pub static PAGE: &str = r##"<!doctype html>
 <head>
 <meta charset="utf-8">
 <meta name="viewport" content="width=device-width, initial-scale=1">
-<meta http-equiv="Content-Security-Policy" content="default-src 'none'; style-src 'unsafe-inline'; script-src 'unsafe-inline'; img-src data:; connect-src 'self'; form-action 'none'; base-uri 'none'">
+<meta name="color-scheme" content="light dark">
+<meta http-equiv="Content-Security-Policy" content="default-src 'none'; style-src 'unsafe-inline'; script-src 'sha256-8+cznk7olS97IChXWRU5z07MGxRv6qtLGD8VZG1sOrI='; img-src data:; connect-src 'self'; form-action 'none'; base-uri 'none'">
 <title>Road inventory</title>
 <link rel="icon" href="data:,">
 <style>
-* { box-sizing: border-box; } [hidden] { display: none !important; }
-body { margin: 0; font: 16px/1.4 system-ui, "DejaVu Sans", sans-serif; color: #1a1a1a; background: #f3f4f6; }
-header { padding: .6rem 1rem; background: #1d3557; color: #fff; }
-h1 { margin: 0; font-size: 1.2rem; } h2 { margin: 0 0 .5rem; font-size: 1.05rem; } p { margin: 0 0 .5rem; }
-main { display: grid; gap: .8rem; padding: .8rem; grid-template-columns: 17rem minmax(0, 1fr); align-items: start; }
-.column { display: grid; gap: .8rem; min-width: 0; } section { padding: .8rem; background: #fff; border: 1px solid #b6bcc6; border-radius: 4px; min-width: 0; }
-form { display: flex; flex-wrap: wrap; gap: .5rem; align-items: end; margin: 0 0 .5rem; } label { display: inline-flex; flex-direction: column; font-size: .85rem; }
-input, select, button { font: inherit; padding: .25rem .5rem; border: 1px solid #59626f; border-radius: 3px; background: #fff; color: inherit; max-width: 100%; }
-button { background: #e8ecf2; cursor: pointer; } button:hover { background: #d5dce6; }
-:focus-visible { outline: 3px solid #b35900; outline-offset: 1px; }
-ul { list-style: none; margin: 0; padding: 0; max-height: 15rem; overflow-y: auto; } li button { width: 100%; margin-bottom: 2px; text-align: left; display: flex; justify-content: space-between; gap: .5rem; }
-li button[aria-current=true] { border-width: 2px; border-left-width: 8px; font-weight: bold; }
-.note { font-size: .9rem; overflow-wrap: anywhere; } .note:empty { display: none; } .bad { padding: .3rem .5rem; border: 2px solid #9b1c1c; background: #fdeaea; color: #7a1414; }
-.short { width: 8rem; } .wide, .wide input { display: flex; width: 100%; min-width: 0; }
-#diagram { overflow-x: auto; border: 1px solid #b6bcc6; } #diagram svg { display: block; width: 100%; min-width: 640px; height: auto; cursor: crosshair; }
-fieldset { display: flex; flex-wrap: wrap; gap: .3rem 1rem; margin: .5rem 0; padding: .3rem .6rem .5rem; border: 1px solid #b6bcc6; max-height: 9rem; overflow-y: auto; } fieldset label { flex-direction: row; gap: .3rem; align-items: center; font-size: 1rem; } #classes { display: contents; }
-.table { overflow: auto; max-height: 22rem; } table { border-collapse: collapse; font-size: .95rem; }
-th, td { padding: .2rem .6rem; border: 1px solid #b6bcc6; text-align: left; } td.number { text-align: right; }
-tr.done td.word { background: #e3f4e6; color: #0b4d1a; border-left: 6px solid #0b7a28; }
-tr.again td.word { background: #e6eefb; color: #173f85; border-left: 6px dashed #2b5fb8; }
-tr.refused td.word, tr.fault td.word { background: #fdeaea; color: #7a1414; border-left: 6px double #9b1c1c; font-weight: bold; }
-#drop { padding: .8rem; border: 2px dashed #59626f; } .over #drop { border-style: solid; background: #fff6dd; }
-@media (max-width: 800px) { main { grid-template-columns: minmax(0, 1fr); padding: .5rem; } ul { max-height: 9rem; } }
+:root{--text:#1a1a1a;--paper:#fff;--ground:#f3f4f6;--line:#8a93a0;--field:#59626f;--press:#e8ecf2;--over:#d5dce6;--head:#1d3557;--link:#1d4f91;--focus:#b35900;--bar:#5b83b8;--post:#12263f;
+--bad:#7a1414;--bad-ground:#fdeaea;--good:#0b4d1a;--good-ground:#e3f4e6;--known:#173f85;--known-ground:#e6eefb;}@media (prefers-color-scheme:dark){:root{
+--text:#e8e8e8;--paper:#1b1f26;--ground:#101318;--line:#6d7685;--field:#9aa4b2;--press:#2c333e;--over:#3a4350;--head:#16283f;--link:#9cc4ff;--focus:#ffb04d;--bar:#5b83b8;--post:#fff;
+--bad:#ffb3b3;--bad-ground:#401a1a;--good:#a8e6b4;--good-ground:#12331a;--known:#b3ccff;--known-ground:#16284a;}#diagram svg,.swatch{filter:invert(1) hue-rotate(180deg);}}*{box-sizing:border-box;}[hidden]{display:none !important;}
+body{margin:0;font:16px/1.4 system-ui,"DejaVu Sans",sans-serif;color:var(--text);background:var(--ground);}header{display:flex;flex-wrap:wrap;gap:.4rem 1.5rem;align-items:end;padding:.6rem 1rem;background:var(--head);color:#fff;}
+header p{margin:0 0 0 auto;}header .bad{color:var(--bad);}h1{margin:0 auto 0 0;font-size:1.2rem;}h1 a{color:inherit;text-decoration:none;}h2{margin:0 0 .5rem;font-size:1.05rem;}h3{margin:.6rem 0 .2rem;font-size:1rem;}p{margin:0 0 .5rem;}
+a{color:var(--link);}main{display:grid;gap:.8rem;padding:.8rem;grid-template-columns:minmax(0,1fr);}[tabindex="-1"]:focus{outline:none;}#network,#route{display:grid;gap:.8rem;grid-template-columns:minmax(0,1fr);}
+section,details{padding:.8rem;background:var(--paper);border:1px solid var(--line);border-radius:4px;min-width:0;}summary{cursor:pointer;font-weight:bold;min-height:1.5rem;}
+form,.buttons{display:flex;flex-wrap:wrap;gap:.5rem;align-items:end;margin:0 0 .5rem;}label{display:inline-flex;flex-direction:column;font-size:.85rem;}
+input,select,button{font:inherit;padding:.25rem .5rem;border:1px solid var(--field);border-radius:3px;background:var(--paper);color:var(--text);max-width:100%;min-height:1.9rem;}button{background:var(--press);cursor:pointer;}
+button:hover{background:var(--over);}:focus-visible{outline:3px solid var(--focus);outline-offset:1px;}#skip{position:absolute;left:-100rem;}#skip:focus{left:.5rem;top:.5rem;z-index:2;}ul{list-style:none;margin:0;padding:0;}
+#results{max-height:15rem;overflow-y:auto;margin-bottom:.5rem;}li{padding:.1rem 0;}.note{font-size:.9rem;overflow-wrap:anywhere;}.note:empty{display:none;}
+.bad{padding:.3rem .5rem;border:2px solid currentColor;background:var(--bad-ground);color:var(--bad);}.short{width:9rem;}.table,.long{overflow:auto;max-height:24rem;border:1px solid var(--line);}.table:empty{border:0;}
+.long{scroll-padding:2.5rem 0 .5rem;}table{border-collapse:collapse;font-size:.95rem;}th,td{padding:.2rem .6rem;border:1px solid var(--line);text-align:left;font-weight:inherit;}
+thead th{position:sticky;top:0;z-index:1;background:var(--press);font-weight:bold;}td.number{text-align:right;font-variant-numeric:tabular-nums;}.long table{width:100%;white-space:nowrap;}.long tbody tr{height:2rem;}
+.long tbody tr:hover{background:var(--press);}#routes tbody tr{cursor:pointer;}.name{width:9rem;}.length{width:8rem;}td.bar{padding:0 .6rem 0 0;width:70%;}.track{position:relative;height:2rem;overflow:hidden;}
+.track svg{display:block;height:45%;min-width:2px;background:var(--bar);}.track path{stroke:var(--post);stroke-width:1.5px;}.track span{position:absolute;bottom:0;font-size:.75rem;line-height:1.1rem;padding-left:1px;}
+button.plain{border:0;padding:0;background:none;font-weight:bold;min-height:1.5rem;}th[aria-sort=ascending] button::after{content:" \25b2";}th[aria-sort=descending] button::after{content:" \25bc";}
+#diagram{overflow-x:auto;border:1px solid var(--line);touch-action:pan-x pan-y;}#diagram.moving{overflow:hidden;}#diagram svg{display:block;width:100%;min-width:900px;height:auto;cursor:crosshair;}.moving svg{cursor:grabbing;}
+#under{min-height:1.4em;font-size:.9rem;}fieldset{margin:.5rem 0;padding:.3rem .6rem .5rem;border:1px solid var(--line);max-height:14rem;overflow-y:auto;}fieldset label{flex-direction:row;gap:.3rem;align-items:center;font-size:1rem;}
+input[type=checkbox]{min-height:0;width:1.5rem;height:1.5rem;}.class{display:flex;flex-wrap:wrap;gap:.2rem 1rem;align-items:center;}.class label{min-width:8rem;}.values{display:flex;flex-wrap:wrap;gap:.1rem 1rem;font-size:.9rem;}
+.swatch{display:inline-block;width:1.6rem;height:.9rem;margin-right:.3rem;vertical-align:middle;border:1px solid #59626f;}[aria-current=true]{font-weight:bold;}pre{overflow:auto;max-height:10rem;padding:.4rem;border:1px solid var(--line);}
+tr.done td.word{background:var(--good-ground);color:var(--good);border-left:6px solid currentColor;}tr.again td.word{background:var(--known-ground);color:var(--known);border-left:6px dashed currentColor;}
+tr.refused td.word,tr.fault td.word{background:var(--bad-ground);color:var(--bad);border-left:6px double currentColor;font-weight:bold;}#drop{padding:.8rem;margin:.5rem 0;border:2px dashed var(--field);}
+.over #drop{border-style:solid;background:var(--press);}@media (min-width:1100px){#network{grid-template-columns:minmax(0,1fr) minmax(0,1fr);}#network > :first-child{grid-column:1 / 3;}}@media (max-width:800px){main{padding:.5rem;}
+header p,h1{margin:0;}.name,.length{width:4rem;}.long thead th{white-space:normal;}td.bar{width:50%;}}
+@media print{body,section{background:#fff;color:#000;border:0;padding:0;}header form,header button,form,.buttons,details,fieldset button,#skip,#under,#route .note a,#found{display:none;}header{background:none;color:#000;padding:0;}
+.table,.long{overflow:visible;max-height:none;height:auto;border:0;}thead th{position:static;}section,tr,#diagram{break-inside:avoid;}#diagram{border:0;overflow:visible;}#diagram svg{min-width:0;filter:none;print-color-adjust:exact;}
+.swatch,.track svg{filter:none;print-color-adjust:exact;}}
 </style>
 </head>
 <body>
-<header><h1>Road inventory</h1></header>
-<main><div class="column">
-<section aria-labelledby="routes-title"><h2 id="routes-title">Routes</h2>
-<form id="filtering"><label class="wide">Part of a name <input id="filter" type="search" autocomplete="off"></label></form>
-<ul id="routes"></ul>
-<p id="routes-said" class="note" role="status"></p>
-</section>
-<section aria-labelledby="find-title"><h2 id="find-title">Find an asset</h2>
-<form id="finding"><label>Number of the asset <input id="asset" class="short" inputmode="numeric" autocomplete="off" required></label><button>Find</button></form>
+<button id="skip" type="button">To the content</button>
+<header>
+<h1><a href="#">Road inventory</a></h1>
+<form id="finding" role="search">
+<label>Find by <select id="kind"><option value="asset">number of an asset</option><option value="value">value</option><option value="class">class</option>
+<option value="key">key of an edit</option><option value="ref">referent</option><option value="route">route</option></select></label>
+<label>What is sought <input id="wanted" autocomplete="off" required></label> <button>Find</button></form>
+<p><span id="health" role="status"></span> <button id="refresh" type="button">Ask again</button></p>
+</header>
+<main id="main" tabindex="-1">
+<section id="found" aria-labelledby="found-title" hidden><h2 id="found-title">Found</h2>
 <p id="find-said" class="note" role="status"></p>
-<ul id="rows"></ul>
+<ul id="results"></ul>
+<button id="close" type="button">Close</button>
 </section>
-<section aria-labelledby="sheet-title"><h2 id="sheet-title">Send a sheet</h2>
-<div id="drop"><p>Drop an edit sheet or a survey on this page. It is sent at once.</p>
-<label class="wide">Or choose a file <input id="file" type="file" accept=".csv,text/csv,text/plain" multiple></label></div>
+<div id="network">
+<section aria-labelledby="network-title"><h2 id="network-title" tabindex="-1">The network</h2>
+<p id="address-said" class="note" role="status"></p>
+<form id="filtering"><label>Part of a route's name <input id="filter" type="search" autocomplete="off"></label></form>
+<p id="routes-said" class="note" role="status"></p>
+<div id="routes" class="long" role="region" aria-label="Routes"></div>
 </section>
-</div><div class="column">
-<section id="replies" aria-labelledby="replies-title" hidden><h2 id="replies-title">Replies to the sheet</h2>
-<p id="sheet-said" class="note" role="status"></p>
-<p id="counts" class="note" role="status"></p>
-<p><button id="resume" type="button" hidden>Go on with the sheet</button> <a id="save" download="replies.csv" hidden>Save all reply lines</a></p>
-<div id="lines" class="table" tabindex="0" aria-label="Reply lines"></div>
+<section aria-labelledby="totals-title"><h2 id="totals-title">Totals by class</h2>
+<p id="totals-said" class="note" role="status"></p>
+<div id="totals" class="table" tabindex="0" role="region" aria-labelledby="totals-title"></div>
 </section>
-<section aria-labelledby="route-title"><h2 id="route-title">No route is chosen</h2>
-<p id="route-said" class="note" role="status">Choose a route from the list.</p>
+<section aria-labelledby="edits-title"><h2 id="edits-title">The last edits</h2>
+<p id="edits-said" class="note" role="status"></p>
+<div id="edits" class="table" tabindex="0" role="region" aria-labelledby="edits-title"></div>
+</section>
+</div>
+<div id="route" hidden>
+<section aria-labelledby="route-title"><p class="note"><a href="#">&#8592; The network</a></p>
+<h2 id="route-title" tabindex="-1">Route</h2>
+<p id="route-said" class="note" role="status"></p>
 <div id="view" hidden><form id="range">
-<label>From, in metres <input id="from" class="short" inputmode="decimal" autocomplete="off"></label>
-<label>To, in metres <input id="to" class="short" inputmode="decimal" autocomplete="off"></label>
-<button>Show</button> <button type="button" id="in">Zoom in</button> <button type="button" id="out">Zoom out</button>
+<label>Said by <select id="by"><option value="abs">measure, as 3000</option><option value="rel">referent and mm, as KM2+500</option>
+<option value="int">proportion, as 1/3</option><option value="chainage">chainage in metres</option></select></label>
+<label>From <input id="from" class="short" autocomplete="off"></label>
+<label>To <input id="to" class="short" autocomplete="off"></label>
+<button>Show</button></form>
+<p class="buttons"><button type="button" id="in">Zoom in</button> <button type="button" id="out">Zoom out</button>
 <button type="button" id="back">&#8592; Back</button> <button type="button" id="on">On &#8594;</button>
-<button type="button" id="whole">Whole route</button></form>
-<div id="diagram" tabindex="0" role="group" aria-label="Diagram. The arrow keys move along the route, plus and minus zoom."></div>
-<p class="note">Above the axis is the left side, below it the right side. Click in the diagram to ask what lies there. <a id="plain">Plain SVG of this diagram</a></p>
-<fieldset><legend>Classes</legend><button type="button" id="all">All</button><button type="button" id="none">None</button><span id="classes"></span></fieldset>
+<button type="button" id="whole">Whole route</button> <a id="plain">Plain SVG of this diagram</a></p>
+<div id="diagram" tabindex="0" role="group" aria-label="Diagram. The arrow keys move along the route, plus and minus zoom, Enter asks what lies in the middle."></div>
+<p id="under" aria-live="off"></p>
+<p class="note">Above the axis is the left side, below it the right side. A wheel or two fingers zoom, a mouse drags, a click asks what lies there.</p>
+<fieldset><legend>Classes and values</legend><button type="button" id="all">All</button><button type="button" id="none">None</button><div id="classes"></div></fieldset>
 <p id="classes-said" class="note" role="status"></p></div>
 </section>
 <section id="asked" aria-labelledby="at-title" hidden><h2 id="at-title">What lies at a position</h2>
-<form id="asking"><label>Method <select id="method"><option value="abs">abs: a measure, as 3000</option><option value="rel">rel: from a referent, as KM2+500</option>
-<option value="int">int: a proportion, as 1/3</option></select></label>
-<label>Position <input id="pos" class="short" autocomplete="off" required></label> <button>Ask</button></form>
+<form id="asking"><label>Said by <select id="method"><option value="abs">measure, as 3000</option><option value="rel">referent and mm, as KM2+500</option>
+<option value="int">proportion, as 1/3</option><option value="chainage">chainage in metres</option></select></label>
+<label>Position <input id="pos" class="short" autocomplete="off"></label> <button>Ask</button></form>
 <p id="at-said" class="note" role="status"></p>
 <div id="hits" class="table"></div>
+<div id="ways"></div>
 </section>
-</div></main>
+<section id="listed" aria-labelledby="rows-title" hidden><h2 id="rows-title">Rows of this stretch</h2>
+<form id="row-filtering"><label>Words in a row <input id="row-filter" type="search" autocomplete="off"></label> <a id="csv" href="#">Save as CSV</a></form>
+<p id="rows-said" class="note" role="status"></p>
+<div id="rows" class="long" role="region" aria-labelledby="rows-title"></div>
+</section>
+</div>
+<details id="sheets"><summary>Send a sheet</summary>
+<div id="drop"><p>Drop an edit sheet or a survey on this page. You see what it has before it is sent.</p>
+<label>Or choose a file <input id="file" type="file" accept=".csv,text/csv,text/plain" multiple></label></div>
+<div id="preview" hidden><div id="looked"></div>
+<p><button id="send" type="button">Send</button> <button id="forget" type="button">Do not send</button></p></div>
+<p id="sheet-said" class="note" role="status"></p>
+<div id="replies" hidden>
+<p id="counts" class="note" role="status"></p>
+<p><button id="resume" type="button" hidden>Go on with the sheet</button> <a id="save" download="replies.csv" hidden>Save all reply lines</a></p>
+<div id="lines" class="table" tabindex="0" role="region" aria-label="Reply lines"></div></div>
+</details>
+</main>
 <script>
 "use strict";
-const $ = id => document.getElementById(id);
-const SVG = "http://www.w3.org/2000/svg";
-const SIDES = { L: "left", R: "right", B: "both" };
-const MOST_ROUTES = 100, MOST_LINES = 500, MOST_BYTES = 1000000, GREATEST_DENOMINATOR = 1000000n, LEAST_SPAN = 10;
-
-// ---- what the program and the web server say, in plain words
-const CAUSES = {
-  AssetKnown: "the number of the asset was used before", BadCsv: "a record has not as many fields as the header",
-  BadHeader: "the first line is not the header of this kind of sheet",
-  BadMarks: "the marks must rise from the start of the route to its end, and mark % (the first is 0) does not fit",
-  BadPiece: "piece % (the first is 0) does not lie within its link", ClassKnown: "there is a class of this name",
-  Empty: "nothing lies there, or the stretch has no length", KeyUsed: "edit % has this key, and is another command",
-  LinkKnown: "there is a link of this number", Malformed: "% cannot be read, or a number in it is too large or too fine",
-  MeasureRange: "the measures would grow too large", NoAsset: "there is no asset of this number", NoClass: "there is no class of this name",
-  NoLink: "there is no link of this number", NoMark: "the route has no mark at this place", NoRef: "the referent is not on this route",
-  NoRoute: "there is no route of this name", NotExclusive: "the class is not exclusive", NothingLeft: "nothing would be left of the route",
-  OffRoute: "the position is not on the route", Overlap: "asset % of this class lies there", RefKnown: "there is a referent of this name",
-  RepeatedKey: "two records have one key, and nothing was done", RouteKnown: "there is a route of this name",
-  SameRoute: "the two routes are one", SideB: "a single side is wanted", Taken: "ground of piece % (the first is 0) is on a route, or twice on this one",
-  TooFine: "the position is too fine: its denominator is too large", TooLong: "the route would be too long",
-  TooMany: "the inventory has as many % as it can have", WrongKind: "the class is of another kind",
-};
-const STATUSES = {
-  400: "The request could not be read.", 401: "You are not logged in.", 403: "You may not do this.",
-  404: "There is nothing at this path: perhaps the program is older than this page.",
-  413: "The sheet is too long, or has a part that cannot be cut. Nothing of this part was done.",
-  415: "The web server takes no sheet of this type.", 422: "The sheet could not be read to its end.", 502: "The program does not run.",
-  503: "The program has too little memory, or could not write to its disk. If this comes again and again, the disk must be mended and the program started again.",
-  504: "The program took too long to reply.",
-};
-const LOST = "No reply came: the connection broke, or the web server does not run.";
-const GO_ON = " It is not known how far the sheet was done. Go on with it once the program runs: what was done is passed over, and nothing is done twice.";
-
-function sentence(cause) {
-  const [name, argument] = cause.split(":"), known = CAUSES[name];
-  return known ? `${cause}: ${known.replace("%", () => argument)}` : cause;
+const SVG = "http://www.w3.org/2000/svg";const SIDES = { L: "left", R: "right", B: "both" };const $ = id => document.getElementById(id);function make(tag, text = "", settings = {}) {
+return Object.assign(document.createElement(tag), { textContent: text }, settings);}
+function drawn(tag, settings, text = "") {const made = document.createElementNS(SVG, tag);for (const [name, value] of Object.entries(settings)) made.setAttribute(name, value);made.textContent = text;return made;}
+function linkTo(address, text) {return make("a", text, { href: `#${address}` });}
+function rowOf(cells) {const row = make("tr");for (const cell of cells) Object.assign(row.insertCell(), { className: typeof cell === "number" ? "number" : "" }).append(cell);return row;}
+function tableOf(heads, rows) {const table = make("table"), top = table.createTHead().insertRow();for (const head of heads) top.append(make("th", head, { scope: "col" }));table.createTBody().append(...rows);return table;}
+function say(id, text, isBad = false) {$(id).textContent = isBad ? `Error: ${text}` : text;$(id).classList.toggle("bad", isBad);}
+const attempt = (id, work) => work().catch(error => say(id, error.message, true));function offer(link, parts, type) {URL.revokeObjectURL(link.href);
+Object.assign(link, { hidden: false, href: URL.createObjectURL(new Blob(parts, { type })) });}
+const CAUSES = {AssetKnown: "the number of the asset was used before", BadCsv: "a record has not as many fields as the header",BadHeader: "the first line is not the header of this kind of sheet",
+BadMarks: "the marks must rise from the start of the route to its end, and mark % (the first is 0) does not fit",BadPiece: "piece % (the first is 0) does not lie within its link", ClassKnown: "there is a class of this name",
+Empty: "nothing lies there, or the stretch has no length", KeyUsed: "edit % has this key, and is another command",LinkKnown: "there is a link of this number", Malformed: "% cannot be read, or a number in it is too large or too fine",
+MeasureRange: "the measures would grow too large", NoAsset: "there is no asset of this number", NoClass: "there is no class of this name",
+NoEdit: "there is no edit of this number", NoLink: "there is no link of this number", NoMark: "the route has no mark at this place",
+NoRef: "the referent is not on this route", NoRoute: "there is no route of this name", NotExclusive: "the class is not exclusive",
+NothingLeft: "nothing would be left of the route", OffRoute: "the position is not on the route", Overlap: "asset % of this class lies there",
+RefKnown: "there is a referent of this name", RepeatedKey: "two records have one key, and nothing was done",RouteKnown: "there is a route of this name", SameRoute: "the two routes are one", SideB: "a single side is wanted",
+Taken: "ground of piece % (the first is 0) is on a route, or twice on this one", TooFine: "the position is too fine: its denominator is too large",
+TooLong: "the route would be too long", TooMany: "the inventory has as many % as it can have", WrongKind: "the class is of another kind",};const STATUSES = {
+400: "The request could not be read.", 401: "You are not logged in.", 403: "You may not do this.",404: "There is nothing at this path: perhaps the program is older than this page.",
+413: "The sheet is too long, or has a part that cannot be cut. Nothing of this part was done.",415: "The web server takes no sheet of this type.", 422: "The sheet could not be read to its end.", 502: "The program does not run.",
+503: "The program has too little memory, or could not write to its disk. If this comes again and again, the disk must be mended and the program started again.",504: "The program took too long to reply.",};
+const LOST = "No reply came: the connection broke, or the web server does not run.";const GO_ON = " It is not known how far the sheet was done. Go on with it once the program runs: what was done is passed over, and nothing is done twice.";
+function sentence(cause) {const [name, argument] = cause.split(":"), known = CAUSES[name];return known ? `${cause}: ${known.replace("%", () => argument)}` : cause;}
+function causeOf(text) {try {return JSON.parse(text).error;} catch {return undefined;}
 }
-
-function reason(status, text) {
-  try {
-    return sentence(JSON.parse(text).error) + ".";
-  } catch {
-    return `${STATUSES[status] || "The request failed."} (Status ${status}.)`;
-  }
+function reason(status, text) {const cause = causeOf(text);return cause ? `${sentence(cause)}.` : `${STATUSES[status] || "The request failed."} (Status ${status}.)`;}
+const MOST_KEPT = 30;const kept = new Map();let edits;const query = pairs => "?" + new URLSearchParams(pairs);async function send(path, settings) {try {const reply = await fetch(path, { cache: "no-store", ...settings });
+return { status: reply.status, text: await reply.text() };} catch {throw new Error(LOST);}
 }
-
-function say(id, text, bad) {
-  $(id).textContent = bad ? `Error: ${text}` : text;
-  $(id).classList.toggle("bad", Boolean(bad));
+async function get(path, pairs = []) {const { status, text } = await send(pairs.length ? path + query(pairs) : path);if (status !== 200) throw new Error(reason(status, text), { cause: causeOf(text) });return text;}
+const answer = async (path, pairs) => JSON.parse(await get(path, pairs));function known(path, pairs = [], asking = answer) {const name = path + query(pairs), found = kept.get(name) || asking(path, pairs);kept.delete(name);
+kept.set(name, found);if (kept.size > MOST_KEPT) kept.delete(kept.keys().next().value);found.catch(() => kept.get(name) === found && kept.delete(name));return found;}
+async function renew() {const health = await answer("health").catch(error => ({ error }));if (health.error || health.edits !== edits) kept.clear();edits = health.edits;if (health.error) throw health.error;return edits;}
+const metres = mm => `${Math.floor(mm / 1000)}.${String(mm % 1000).padStart(3, "0")}`;function millimetres(text) {const parts = /^(\d{1,9})(?:\.(\d{0,3}))?$/.exec(text.trim());
+return parts && Number(parts[1]) * 1000 + Number((parts[2] || "").padEnd(3, "0"));}
+function chainageOf(proportion, length) {const [n, d] = proportion.split("/").map(BigInt);return Number((2n * n * BigInt(length) + d) / (2n * d));}
+function measureAt(marks, chainage) {const behind = Math.max(marks.findIndex(([at]) => at >= chainage), 1);const [[start, low], [end, high]] = [marks[behind - 1], marks[behind]];
+return [BigInt(low) * BigInt(end - start) + BigInt(chainage - start) * BigInt(high - low), BigInt(end - start)];}
+function decimal([n, d]) {const thousandths = (n * 1000n) / d, rest = String(thousandths % 1000n).padStart(3, "0");return n % d ? `${thousandths / 1000n}.${rest}` : String(n / d);}
+function proportionOf(mm, length) {let [a, b] = [mm, length];while (b) [a, b] = [b, a % b];return `${mm / a}/${length / a}`;}
+function short(measure) {const [n, d] = measure.split("/");return d ? `\u2248 ${(Number(n) / Number(d)).toFixed(3)}` : n;}
+const counted = (count, one, more = `${one}s`) => `${count} ${count === 1 ? one : more}`;
+async function askHealth() {try {const edits = await renew();say("health", `${counted(edits, "edit")}. The program answers.`);return edits;} catch (error) {return void say("health", error.message, true);}
 }
-
-const attempt = (id, work) => work().catch(error => say(id, error.message, true));
-
-// ---- requests
-const query = pairs => "?" + new URLSearchParams(pairs);
-async function send(path, settings) {
-  try {
-    const reply = await fetch(path, { cache: "no-store", ...settings });
-    return { status: reply.status, text: await reply.text() };
-  } catch {
-    throw new Error(LOST);
-  }
+const SPARE = 10, MOST_PRINTED = 2000;const tables = [];let isPrinting = false;class LongTable {constructor(box, heads, makeRow) {Object.assign(this, { box, makeRow, items: [], rows: new Map(), height: 30 });this.table = make("table");
+this.head = this.table.createTHead().insertRow();this.head.append(...heads);this.above = this.table.createTBody();this.body = this.table.createTBody();this.below = this.table.createTBody();box.replaceChildren(this.table);box.tabIndex = -1;
+box.onscroll = () => this.draw();box.addEventListener("keydown", event => this.step(event));new ResizeObserver(() => this.draw()).observe(box);tables.push(this);}
+show(items) {const at = this.body.contains(document.activeElement) && document.activeElement.textContent;this.items = items;this.rows.clear();this.body.replaceChildren();this.box.scrollTop = 0;
+this.table.setAttribute("aria-rowcount", items.length + 1);this.draw();if (at) ([...this.body.querySelectorAll("a")].find(link => link.textContent === at) || this.box).focus();}
+draw() {const first = isPrinting ? 0 : Math.max(Math.floor(this.box.scrollTop / this.height) - SPARE, 0);
+const last = Math.min(isPrinting ? MOST_PRINTED : first + Math.ceil(this.box.clientHeight / this.height) + 2 * SPARE, this.items.length);
+for (const [at, row] of this.rows) if ((at < first || at >= last) && !row.contains(document.activeElement)) this.rows.delete(at), row.remove();let behind = null;for (let at = last - 1; at >= first; at--) {
+const row = this.rows.get(at) || this.makeAt(at);if (row.nextSibling !== behind || !row.isConnected) this.body.insertBefore(row, behind);behind = row;}
+this.measure();this.spread(this.above, first);this.spread(this.below, isPrinting ? 0 : this.items.length - last);}
+makeAt(at) {const row = this.makeRow(this.items[at]);row.setAttribute("aria-rowindex", at + 2);this.rows.set(at, row);return row;}
+measure() {const row = this.body.rows[0];if (row && row.offsetHeight) this.height = row.offsetHeight;}
+spread(part, count) {if (!count) return part.replaceChildren();const row = part.rows[0] || part.appendChild(rowOf([""]));row.setAttribute("aria-hidden", "true");row.cells[0].colSpan = this.head.cells.length;
+row.cells[0].style.cssText = `height: ${count * this.height}px; padding: 0; border: 0`;}
+step(event) {const by = { ArrowDown: 1, ArrowUp: -1 }[event.key], row = event.target.closest("tr");if (!by || event.target.matches("input, select") || row?.parentNode !== this.body) return;
+const next = by > 0 ? row.nextSibling : row.previousSibling, target = next && next.querySelector("a, button");event.preventDefault();if (target) target.focus();}
 }
-
-async function get(path, pairs = []) {
-  const { status, text } = await send(path + query(pairs));
-  if (status !== 200) throw new Error(reason(status, text));
-  return text;
+function prints(now) {isPrinting = now;for (const table of tables) table.draw();}
+window.onbeforeprint = () => prints(true);window.onafterprint = () => prints(false);
+const LAST_EDITS = 10, LEAST_GAP = 8, LETTER = 7;const ROUTE_FIELDS = { route: 0, ref: 1, enter: 2, supersede: 2, retire: 1, split: 0, renumber: 1, recalibrate: 0, join: 0, turn: 0, realign: 0 };
+const network = { routes: [], names: new Set(), longest: 1, posts: new Map(), edits: undefined };let bars, drawnFor = {};const headOf = (name, width) => make("th", name, { scope: "col", className: width });async function loadNetwork() {
+bars ||= new LongTable($("routes"), [headOf("Route", "name"), headOf("Length, m", "length"), headOf("Posts, to one scale", "bar")], routeRow);network.edits = await askHealth();
+await Promise.all([attempt("routes-said", loadRoutes), attempt("totals-said", loadTotals), attempt("edits-said", loadEdits)]);}
+function isNew(name, value) {const before = drawnFor[name];drawnFor[name] = value;return before !== value;}
+async function loadRoutes() {const lists = await Promise.all(["routes", "marks", "refs"].map(name => known(`v1/${name}`)));if (!isNew("routes", lists[0]) && !isNew("refs", lists[2])) return;network.routes = lists[0].routes;
+network.names = new Set(network.routes.map(route => route.name));network.longest = network.routes.reduce((most, route) => Math.max(most, route.length), 1);network.posts = postsOf(lists[1].marks, lists[2].refs);listRoutes();}
+function postsOf(marks, refs) {const posts = new Map();for (const { route, chainage, ref } of refs) (posts.get(route) || posts.set(route, []).get(route)).push([chainage, ref]);const named = new Set(posts.keys());
+for (const { route, chainage, measure } of marks)
+if (!named.has(route)) (posts.get(route) || posts.set(route, []).get(route)).push([chainage, String(measure)]);for (const list of posts.values()) list.sort(([a], [b]) => a - b);return posts;}
+function listRoutes() {const part = $("filter").value.trim().toUpperCase(), found = network.routes.filter(route => route.name.includes(part));bars.show(found);
+const scale = found.length ? ` The longest has ${metres(network.longest)} m.` : "";say("routes-said", `${found.length} of ${counted(network.routes.length, "route")}.${scale}`);}
+function routeRow({ name, length }) {const row = rowOf(["", metres(length), barOf(name, length)]), head = make("th", "", { scope: "row" });head.append(linkTo(name, name));row.cells[0].replaceWith(head);row.cells[1].className = "number";
+row.cells[2].className = "bar";row.onclick = event => event.target.closest("a") || !getSelection().isCollapsed || (location.hash = name);return row;}
+function barOf(name, length) {const track = make("div", "", { className: "track" }), posts = network.posts.get(name) || [];const share = length / network.longest, whole = $("routes").clientWidth * 0.65, wide = whole * share;
+const bar = drawn("svg", { viewBox: `0 0 ${length} 1`, preserveAspectRatio: "none", "aria-hidden": "true" });bar.append(drawn("path", { d: posts.map(([at]) => `M${at} 0v1`).join("") || "M0 0v1", "vector-effect": "non-scaling-stroke" }));
+bar.style.width = `${share * 100}%`;track.append(bar);let free = 0;for (const [at, text] of posts) {const place = (at / length) * share, long = text.length * LETTER, left = Math.min((at / length) * wide, whole - long);
+if (left < free) continue;const label = make("span", text);label.style.left = `min(${place * 100}%, 100% - ${long}px)`;track.append(label);free = left + long + LEAST_GAP;}
+return track;}
+async function loadTotals() {const [{ classes }, { totals }] = await Promise.all([known("v1/classes"), known("v1/totals")]);if (!isNew("totals", totals)) return;const kinds = new Map(classes.map(({ class: name, kind }) => [name, kind]));
+const amount = (kind, mm) => (kind === "point" ? String(mm) : `${metres(mm)} m`);const rows = totals.map(total => {const kind = kinds.get(total.class);
+return [total.class, kind, ...["present", "entered", "retired", "abandoned"].map(word => amount(kind, total[word]))];});
+$("totals").replaceChildren(tableOf(["Class", "Kind", "Present", "Entered", "Retired", "Abandoned"], rows.map(numbersBehind(2))));
+say("totals-said", totals.length ? "Both sides are added; of points they are counted." : "There is no class yet.");}
+const numbersBehind = count => cells => {const row = rowOf(cells);for (const cell of [...row.cells].slice(count)) cell.className = "number";return row;};async function loadEdits() {
+if (!network.edits) return say("edits-said", "There is no edit yet."), $("edits").replaceChildren();const first = Math.max(network.edits - LAST_EDITS + 1, 1), log = await known("v1/log", [["from", first]], get);
+if (!isNew("edits", log)) return;const records = recordsOf(log).map((record, at) => [first + at, record]).reverse();
+$("edits").replaceChildren(tableOf(["Edit", "Key", "Verb", "Fields"], records.map(([edit, record]) => rowOf([edit, record.key, record.verb, fieldsOf(record)]))));say("edits-said", "");}
+function recordsOf(log) {const rows = log.split("\n").slice(1).filter(Boolean);return rows.map(row => row.split(",")).map(([key, verb, ...fields]) => ({ key, verb, fields }));}
+function fieldsOf({ verb, fields }) {const part = make("span");fields.forEach((field, at) => {if (!field) return;part.append(ROUTE_FIELDS[verb] === at && network.names.has(field) ? linkTo(field, field) : field, " ");});return part;}
+const firstRoute = () => $("routes").querySelector("tbody a");
+const METHODS = { abs: "measure", rel: "from a referent", int: "proportion", chainage: "chainage, in metres" };const ROUTE = /^[A-Z0-9][A-Z0-9-]{0,11}$/;function readAddress(text) {
+if (text.startsWith("route=")) return readOlder(new URLSearchParams(text));const [route, ...parts] = decoded(text).split(/\/(?=(?:abs|rel|int|chainage|asset):)/);const address = { route: ROUTE.test(route) ? route : undefined };
+for (const part of parts) Object.assign(address, readPart(part));return route ? address : null;}
+function readPart(part) {const [, method, said] = /^(\w+):(.*)$/s.exec(part), [from, to] = said.split("..");if (method === "asset") return { asset: said };
+return to === undefined ? { place: { method, pos: said } } : { stretch: { method, from, to } };}
+function decoded(text) {try {return decodeURIComponent(text);} catch {return text;}
 }
-const getJson = async (path, pairs) => JSON.parse(await get(path, pairs));
-
-// ---- parts of the page
-function make(tag, text, settings) {
-  return Object.assign(document.createElement(tag), { textContent: text }, settings);
+function readOlder(pairs) {const [from, to] = ["from", "to"].map(name => (/^\d+$/.test(pairs.get(name)) ? metres(Number(pairs.get(name))) : ""));
+return { route: pairs.get("route"), ...((from || to) && { stretch: { method: "chainage", from, to } }) };}
+function writeAddress({ route, stretch, place, asset }) {let text = route;if (stretch) text += `/${stretch.method}:${stretch.from}..${stretch.to}`;if (place) text += `/${place.method}:${place.pos}`;
+return asset ? `${text}/asset:${asset}` : text;}
+const chainages = (from, to) => ({ method: "chainage", from: metres(from), to: metres(to) });
+async function locate(route, method, pos, end) {try {if (method === "chainage") return typedChainage(pos, route.length);const found = await known("v1/translate", [["route", route.name], ["method", method], ["pos", pos], ["to", "int"]]);
+return chainageOf(found.pos, route.length);} catch (error) {throw new Error(`${end}: ${error.message}${error.cause === "OffRoute" ? ` ${extentOf(route)}` : ""}`);}
 }
-
-function drawn(tag, settings, text = "") {
-  const made = document.createElementNS(SVG, tag);
-  for (const [name, value] of Object.entries(settings)) made.setAttribute(name, value);
-  made.textContent = text;
-  return made;
+function typedChainage(text, length) {const mm = millimetres(text);if (mm === null) throw new Error("A chainage is metres with at most three decimals, as 12.5.");if (mm > length) throw new Error(`The route ends at ${metres(length)} m.`);
+return mm;}
+function extentOf({ name, length, marks }) {return `${name} has measures from ${marks[0][1]} to ${marks.at(-1)[1]}, and ${metres(length)} m.`;}
+async function whatLies(route, method, pos) {const asked = [["route", route.name], ["method", method], ["pos", pos]];const mm = method === "chainage" ? typedChainage(pos, route.length) : (await known("v1/at", asked)).at;
+return known("v1/where", [["route", route.name], ["chainage", mm]]);}
+function textOf({ length, marks, refs }, method, chainage) {if (method === "abs") return decimal(measureAt(marks, chainage));if (method === "int") return proportionOf(chainage, length);if (method === "chainage") return metres(chainage);
+const near = refs.reduce((best, ref) => (best && Math.abs(best.at - chainage) <= Math.abs(ref.at - chainage) ? best : ref), undefined);return near ? `${near.name}${near.at <= chainage ? "+" : "-"}${Math.abs(chainage - near.at)}` : "";}
+function fill(field, route, method, chainage) {field.value = textOf(route, method, chainage);field.dataset.chainage = chainage;}
+function said(field, method) {const text = field.value.trim(), { chainage } = field.dataset;const asked = chainage === undefined || (method === "rel" && text) || (method === "abs" && !text.includes("."));
+return asked ? { method, pos: text } : { method: "chainage", pos: metres(Number(chainage)) };}
+const SHAPES = /^(svg|title|style|g|path|rect|text)$/, LOOKS = /^(class|d|fill|height|role|text-anchor|transform|viewBox|width|x|y|data-[a-z]+)$/;const HARMLESS_STYLE = /^(?!.*url)[-\s\w#.,:;{}()]*$/i;const LOOK = / ([\w-]+)='([^']*)'/g;
+function pictureOf(text) {const part = /<(\/?)([a-z]+)((?: [\w-]+='[^'<>&]*')*)(\/?)>|([^<>&]+)/y;let root = null, inside = null;while (part.lastIndex < text.length) {
+const [found, closes, name, looks, isEmpty, words] = part.exec(text) || [];if (words) addWords(inside, words);else if (closes) inside = inside?.localName === name ? inside.parentNode : refusePicture();else {
+if (!found || !SHAPES.test(name) || (root && !inside)) refusePicture();const made = withLooks(document.createElementNS(SVG, name), looks);root ? inside.append(made) : (root = made);if (!isEmpty) inside = made;}
 }
-
-function tableOf(heads, rows) {
-  const table = document.createElement("table");
-  const top = table.createTHead().insertRow();
-  for (const head of heads) top.append(make("th", head, { scope: "col" }));
-  table.createTBody().append(...rows);
-  return table;
+return root?.localName === "svg" && !inside ? root : refusePicture();}
+function addWords(inside, words) {if (!words.trim()) return;if (!inside || (inside.localName === "style" && !HARMLESS_STYLE.test(words))) refusePicture();inside.append(words);}
+function withLooks(made, looks) {for (const [, name, value] of looks.matchAll(LOOK)) {if (name === "xmlns" && value === SVG) continue;if (!LOOKS.test(name)) refusePicture();made.setAttribute(name, value);}
+return made;}
+function refusePicture() {throw new Error("The diagram cannot be read.");}
+const SHADES = 24;const classShades = new Map();const shade = at => `hsl(${Math.round(210 + at * 137.5) % 360} ${60 - (at % 3) * 10}% ${[74, 82, 66][at % 3]}%)`;function shadeOf(name, value) {
+const values = classShades.get(name) || classShades.set(name, new Map()).get(name);if (!values.has(value)) values.set(value, values.size % SHADES);return `shade-${values.get(value)}`;}
+function makeShades() {const sheet = new CSSStyleSheet();for (let at = 0; at < SHADES; at++) sheet.insertRule(`#route .shade-${at} { stroke: ${shade(at)}; stroke-opacity: 1; background: ${shade(at)}; }`);
+document.adoptedStyleSheets = [sheet];}
+const NEAR = 60, MOST_UNDER = 12;const seen = { from: 0, to: 0, things: [] };const shownDiagram = () => $("diagram").querySelector("svg");const across = chainage => 1000 + ((chainage - seen.from) * 10000) / (seen.to - seen.from);
+const chainageAt = x => seen.from + ((x - 1000) * (seen.to - seen.from)) / 10000;function putDiagram(text) {const svg = pictureOf(text);
+Object.assign(seen, { from: Number(svg.dataset.from), to: Number(svg.dataset.to), things: thingsOf(svg) });for (const { kind, path, class: name, value } of seen.things) if (kind !== "point") path.setAttribute("class", shadeOf(name, value));
+countPoints(seen.things);$("diagram").replaceChildren(svg);}
+function thingsOf(svg) {const things = [];for (const group of svg.querySelectorAll("g[data-class]")) {const { class: name, kind } = group.dataset;let side = "";for (const part of group.children) {
+if (part.localName === "text") side = part.textContent.slice(name.length + 1);else if (part.localName === "g") for (const path of part.querySelectorAll("path")) things.push({ ...placeOf(path), path, class: name, kind, side });}
 }
-
-function rowOf(cells) {
-  const row = document.createElement("tr");
-  for (const cell of cells) Object.assign(row.insertCell(), { className: typeof cell === "number" ? "number" : "" }).append(cell);
-  return row;
+return things;}
+function placeOf(path) {const [, x, wide] = /^M(\d+) -?\d+(?:h(\d+)|v\d+)$/.exec(path.getAttribute("d")) || [], [asset, value] = path.textContent.split(": ");return { x: Number(x), end: Number(x) + Number(wide || 0), asset, value };}
+function countPoints(things) {const lines = new Map();for (const { kind, path, x } of things) {if (kind !== "point") continue;const counts = lines.get(path.parentNode) || lines.set(path.parentNode, new Map()).get(path.parentNode);
+counts.set(x, (counts.get(x) || 0) + 1);}
+for (const [line, counts] of lines)
+for (const [x, count] of counts)
+if (count > 1) line.append(drawn("text", { "data-count": count, x: x - 20, y: -25, "text-anchor": "end" }, `${count}\u00d7`));}
+function drawMarks(marks) {const svg = shownDiagram();if (!svg) return;for (const old of svg.querySelectorAll("[data-mark]")) old.remove();const tall = svg.viewBox.baseVal.height;for (const { from, to, text } of marks) {
+if (to <= seen.from || from >= seen.to) continue;const left = across(Math.max(from, seen.from)), wide = Math.max(across(Math.min(to, seen.to)) - left, 30);const group = drawn("g", { "data-mark": text, "pointer-events": "none" });
+group.append(drawn("rect", { x: left - 20, y: 20, width: wide + 40, height: tall - 40, fill: "none", stroke: "#9b1c1c", "stroke-width": 30, "stroke-dasharray": "90 45" }),
+drawn("text", { x: Math.min(left + 40, 9800), y: 170, "font-size": 150, fill: "#7a1414", stroke: "#fff", "stroke-width": 40, "paint-order": "stroke" }, text),);svg.append(group);}
 }
-
-const metres = mm => `${Math.floor(mm / 1000)}.${String(mm % 1000).padStart(3, "0")}`;
-
-function millimetres(text) {
-  const parts = /^(\d{1,9})(?:\.(\d{0,3}))?$/.exec(text.trim());
-  return parts && Number(parts[1]) * 1000 + Number((parts[2] || "").padEnd(3, "0"));
+function unitsAt(event) {return new DOMPoint(event.clientX, event.clientY).matrixTransform(shownDiagram().getScreenCTM().inverse()).x;}
+function thingsAt(x, off) {const found = seen.things.filter(thing => !off.has(thing.class) && (thing.kind === "point" ? Math.abs(thing.x - x) <= NEAR : thing.x <= x && x < thing.end));
+const names = found.slice(0, MOST_UNDER).map(({ class: name, side, asset, value }) => `${name} ${side} ${value} (asset ${asset})`);return found.length > names.length ? [...names, `and ${found.length - names.length} more`] : names;}
+const ONE_GESTURE = 1500, LEAST_SPAN = 10;const view = { route: null, address: {}, from: 0, to: 0, asset: [], place: [] };let shows = () => {}, lastGesture = 0;function start(showing) {shows = showing;
+window.onhashchange = () => shows(readAddress(location.hash.slice(1)));return shows(readAddress(location.hash.slice(1)));}
+function showAgain() {view.address = {};return shows(readAddress(location.hash.slice(1)));}
+function go(address, isGesture = false) {const now = Date.now(), target = `#${writeAddress(address)}`;if (isGesture && now - lastGesture < ONE_GESTURE) history.replaceState(null, "", target);
+else if (target !== location.hash) history.pushState(null, "", target);lastGesture = isGesture ? now : 0;return shows(address);}
+function within(from, to, length) {const span = Math.min(Math.max(Math.round(to - from), LEAST_SPAN), length), start = Math.min(Math.max(Math.round(from), 0), length - span);return [start, start + span];}
+function showRange(from, to, isGesture) {const { length } = view.route, [start, end] = within(from, to, length), { route, place, asset } = view.address;
+return go({ route, stretch: end - start === length ? undefined : chainages(start, end), place, asset }, isGesture);}
+function aroundAsset(route, from, to, asset, length = Infinity) {const around = Math.max(Math.round((to - from) / 4), 5000), start = Math.max(from - around, 0), end = Math.min(to + around, length);
+return { route, stretch: start === 0 && end === length ? undefined : chainages(start, end), asset };}
+const MOST_VALUES = 40;const off = new Set();const whenSwitched = [];let classes = [], legendOf;async function loadClasses(route) {
+const [lists, { lengths }] = await Promise.all([known("v1/classes"), known("v1/lengths", [["route", route]])]);if (legendOf === lengths) return;legendOf = lengths;classes = lists.classes.map(entry => entry.class);
+$("classes").replaceChildren(...lists.classes.map(({ class: name, kind }) => classItem(name, kind, lengths.filter(entry => entry.class === name))));hideClasses();}
+function classItem(name, kind, values) {const item = make("div", "", { className: "class" }), label = make("label"), list = make("ul", "", { className: "values" });
+const box = make("input", "", { type: "checkbox", checked: !off.has(name), value: name });box.onchange = () => switchClasses([name], box.checked);label.append(box, name);
+list.append(...values.slice(0, MOST_VALUES).map(entry => valueItem(name, kind, entry)));if (values.length > MOST_VALUES) list.append(make("li", `and ${values.length - MOST_VALUES} more`));item.append(label, list);return item;}
+function valueItem(name, kind, { value, length }) {const item = make("li");if (kind !== "point") item.append(make("span", "", { className: `swatch ${shadeOf(name, value)}` }));
+item.append(`${value}: `, kind === "point" ? counted(length, "place") : `${metres(length)} m`);return item;}
+function switchClasses(names, on) {for (const name of names) on ? off.delete(name) : off.add(name);for (const box of $("classes").querySelectorAll("input")) box.checked = !off.has(box.value);hideClasses();
+for (const listener of whenSwitched) listener();}
+const switchAll = on => switchClasses(classes, on);function hideClasses() {for (const group of $("diagram").querySelectorAll("g[data-class]")) group.style.display = off.has(group.dataset.class) ? "none" : "";if (!view.route) return;
+const on = classes.filter(name => !off.has(name)), chosen = on.length < classes.length ? on.map(name => ["class", name]) : [];$("plain").href = "v1/diagram" + query([["route", view.route.name], ...rangeOf(view), ...chosen]);}
+function rangeOf({ route, from, to }) {return from === 0 && to === route.length ? [] : [["from", from], ["to", to]];}
+const COLUMNS = { class: "Class", value: "Value", side: "Side", from: "From, m", to: "To, m", from_measure: "From measure", to_measure: "To measure", asset: "Asset", offset: "Offset, mm", entered_by: "Edit" };
+const SAVED = ["route", "from", "to", "from_measure", "to_measure", "side", "asset", "class", "value", "offset", "entered_by"];const sorted = { by: "from", down: false };let table, rows = [], chosen = [];const sorterOf = name => {
+const head = make("th", "", { scope: "col" }), button = make("button", COLUMNS[name], { type: "button", className: "plain", value: name });button.onclick = () => sortBy(name);head.append(button);return head;};async function loadRows() {
+const { route, from, to } = view;table ||= new LongTable($("rows"), Object.keys(COLUMNS).map(sorterOf), assetRow);const all = await rowsOf(view);if (view.route !== route || view.from !== from || view.to !== to) return;
+rows = all.filter(row => row.from < to && row.to > from);listRows();}
+function rowsOf({ route, from, to }) {return known("v1/rows", [["route", route.name]])
+.catch(error => (rangeOf({ route, from, to }).length ? known("v1/rows", [["route", route.name], ["from", from], ["to", to]]) : Promise.reject(error)))
+.then(found => found.rows);}
+function keyOf(row, name) {const key = row[name];if (!name.endsWith("measure")) return key;const [n, d = 1] = key.split("/").map(Number);return n / d;}
+function compared(a, b) {if (typeof a === "number") return a - b;const [x, y] = [Number(a), Number(b)];return Number.isNaN(x) || Number.isNaN(y) ? (a < b ? -1 : Number(a > b)) : x - y;}
+function sortBy(name) {Object.assign(sorted, { down: sorted.by === name && !sorted.down, by: name });listRows();}
+function matches(row, words) {const text = `${row.class} ${row.value} ${row.asset} ${SIDES[row.side]}`.toLowerCase();return words.every(word => text.includes(word));}
+function listRows() {const words = $("row-filter").value.toLowerCase().split(/\s+/).filter(Boolean), sign = sorted.down ? -1 : 1;chosen = rows.filter(row => !off.has(row.class) && matches(row, words));
+chosen.sort((a, b) => sign * compared(keyOf(a, sorted.by), keyOf(b, sorted.by)) || a.from - b.from);for (const button of table.head.querySelectorAll("button")) {
+const way = button.value === sorted.by ? (sorted.down ? "descending" : "ascending") : "none";button.parentNode.setAttribute("aria-sort", way);}
+table.show(chosen);say("rows-said", `${chosen.length} of ${counted(rows.length, "row")} of this stretch.`);}
+function assetRow(row) {const { route, address } = view, link = linkTo(writeAddress(aroundAsset(route.name, row.from, row.to, row.asset, route.length)), row.asset);
+if (address.asset === String(row.asset)) link.setAttribute("aria-current", "true");
+const made = rowOf([row.class, row.value, SIDES[row.side], metres(row.from), metres(row.to), short(row.from_measure), short(row.to_measure), link, row.offset, row.entered_by]);
+for (const at of [3, 4, 5, 6, 7]) made.cells[at].className = "number";return made;}
+function saveRows() {const lines = chosen.map(row => SAVED.map(name => row[name]).join(","));$("csv").download = `${view.route.name}.csv`;offer($("csv"), [[SAVED.join(","), ...lines, ""].join("\n")], "text/csv");}
+whenSwitched.push(() => table && listRows());
+const MOST_WAYS = 12;let asks = 0;const markAll = () => drawMarks([...view.asset, ...view.place]);const clearPlace = () => (asks++, (view.place = []), $("hits").replaceChildren(), $("ways").replaceChildren(), say("at-said", ""));
+function askPlace({ method, pos }) {return attempt("at-said", async () => {clearPlace();const mine = asks, { route } = view;say("at-said", "The position is being asked.");const found = await whatLies(route, method, pos);
+if (mine === asks) showPlace(found, method, pos);});}
+function showPlace(found, method, pos) {const { route } = view, way = found.dir === "+" ? "along the link" : "against the link", few = found.hits.length ? "" : " No asset lies there.";
+say("at-said", `${found.route}, ${method} ${pos}: chainage ${metres(found.at)} m. Link ${found.link}, mm ${found.mm}; the route runs ${way}.${few}`);
+if (found.hits.length) $("hits").append(tableOf(["Asset", "Class", "Value", "Side", "Offset, mm", "Edit", "Link", "mm"], found.hits.map(hit => hitRow(hit, found))));
+$("ways").append(make("h3", "The same millimetre begins at"), waysOf(found, route));if (method === "chainage") fill($("pos"), route, $("method").value, found.at);
+else Object.assign($("method"), { value: method }), ($("pos").value = pos), delete $("pos").dataset.chainage;view.place = [{ from: found.at, to: found.at + 1, text: "asked" }];markAll();}
+function hitRow(hit, found) {const link = linkTo(writeAddress({ ...view.address, asset: hit.asset }), hit.asset);link.title = "Mark this asset";
+return rowOf([link, hit.class, hit.value, SIDES[hit.side] || hit.side, hit.offset, hit.entry, found.link, found.mm]);}
+function waysOf({ at, link, mm, positions }, { name }) {const list = make("ul", "", { className: "ways" }), distance = ({ method, pos }) => (method === "rel" ? Number(/\d+$/.exec(pos)[0]) : -1);
+const ways = [...positions].sort((a, b) => distance(a) - distance(b)).slice(0, MOST_WAYS);for (const { method, pos } of [{ method: "chainage", pos: metres(at) }, ...ways]) {
+const item = make("li", `${METHODS[method]}: `), canBeAsked = method !== "abs" || !pos.includes("/");item.append(canBeAsked ? linkTo(writeAddress({ route: name, place: { method, pos } }), pos) : `${pos} (${short(pos)})`);list.append(item);}
+list.append(make("li", `on link ${link}: ${mm} mm`));return list;}
+function askTyped() {const place = said($("pos"), $("method").value);return place.pos ? go({ ...view.address, place }) : say("at-said", "Type a position.", true);}
+const askChainage = mm => go({ ...view.address, place: { method: "chainage", pos: metres(mm) } });async function askClick(event) {const x = shownDiagram() ? unitsAt(event) : 0;if (x < 950 || x > 11050) return;
+const clicked = Math.floor(chainageAt(x));return askChainage((await pointAt(event.target, clicked)) ?? Math.min(Math.max(clicked, seen.from), seen.to - 1));}
+async function pointAt(target, clicked) {const tick = target.closest("g[data-kind=point] path"), title = tick && tick.querySelector("title");if (!title) return null;
+const { rows } = await known("v1/find", [["asset", title.textContent.split(":")[0]]]);const near = rows.filter(row => row.route === view.route.name).map(row => row.from);
+return near.sort((a, b) => Math.abs(a - clicked) - Math.abs(b - clicked))[0] ?? null;}
+const PARTS = ["view", "asked", "listed"];let shown = 0;async function showRoute(address) {const isNew = !view.route || view.route.name !== address.route;$("route-title").textContent = document.title = `Route ${address.route}`;
+say("route-said", "The diagram is being drawn.");if (isNew) leaveRoute();const mine = ++shown;try {const drawn = await drawingOf(address, isNew);if (mine === shown) putRoute(address, drawn, isNew);} catch (error) {
+if (mine !== shown) return;leaveRoute();say("route-said", error.message, true);}
 }
-
-// ---- routes
-let routes = [];
-function listRoutes() {
-  const part = $("filter").value.trim().toUpperCase();
-  const found = routes.filter(route => route.name.includes(part));
-  const shown = found.slice(0, MOST_ROUTES);
-  $("routes").replaceChildren(...shown.map(routeItem));
-  const more = found.length > shown.length ? ` The first ${shown.length} are shown: type more of a name.` : "";
-  say("routes-said", `${found.length} of ${routes.length} routes.${more}`);
-  pointOut();
+function leaveRoute() {shown++;Object.assign(view, { route: null, address: {}, asset: [] });clearPlace();$("pos").value = "";for (const id of PARTS) $(id).hidden = true;}
+async function drawingOf({ route: name, stretch }, isNew) {if (isNew) await askHealth();const route = await known(`v1/route/${name}`), drawing = { route, from: 0, to: route.length };
+if (stretch) await endsOf(route, stretch, stretch).then(([from, to]) => Object.assign(drawing, { from, to }), refusal => Object.assign(drawing, { refusal }));
+return { ...drawing, text: await get("v1/diagram", [["route", name], ...rangeOf(drawing)]) };}
+async function endsOf(route, { from, to }, { method, fromMethod = method, toMethod = method }) {
+const [start, end] = await Promise.all([from ? locate(route, fromMethod, from, "From") : 0, to ? locate(route, toMethod, to, "To") : route.length]);
+if (start >= end) throw new Error(`From must be before To: they are at ${metres(start)} m and ${metres(end)} m.`);return [start, end];}
+function putRoute(address, { route, from, to, text, refusal }, isNew) {const before = view.address;Object.assign(view, { route, address, from, to });for (const id of PARTS) $(id).hidden = false;putDiagram(text);fillEnds();
+tellStretch(refusal);hideClasses();markAll();attempt("classes-said", () => loadClasses(route.name));attempt("rows-said", loadRows);attempt("route-said", () => markAsset(address.asset));if (!address.place) clearPlace(), markAll();
+else if (isNew || JSON.stringify(before.place) !== JSON.stringify(address.place)) askPlace(address.place);}
+function tellStretch(refusal) {const { route, from, to, address: { stretch } } = view;const measures = ["from", "to"].map(end => (stretch?.method === "abs" && stretch[end]) || textOf(route, "abs", view[end]));
+if (refusal) say("route-said", `${refusal.message} The whole route is shown.`, true);else say("route-said", `From ${metres(from)} m to ${metres(to)} m of ${metres(route.length)} m: measures ${measures[0]} to ${measures[1]}.`);}
+function fillEnds() {const { stretch } = view.address;if (stretch && stretch.method !== "chainage") $("by").value = stretch.method;for (const end of ["from", "to"]) {fill($(end), view.route, $("by").value, view[end]);
+if (stretch?.method !== $("by").value || !stretch[end]) continue;$(end).value = stretch[end];delete $(end).dataset.chainage;}
 }
-
-function pointOut() {
-  for (const button of $("routes").querySelectorAll("button")) button.setAttribute("aria-current", button.value === view.route);
+function changeMethod(select, fields) {for (const field of fields) {const { chainage } = field.dataset, at = chainage === undefined ? view[field.id] ?? view.place[0]?.from : Number(chainage);
+if (at !== undefined) fill(field, view.route, select.value, at);}
 }
-
-function routeItem({ name, length }) {
-  const item = document.createElement("li"), button = make("button", "", { type: "button" });
-  button.append(make("span", name), make("span", `${metres(length)} m`));
-  button.value = name;
-  button.onclick = () => choose(name);
-  item.append(button);
-  return item;
+async function showTyped() {const { route, address } = view, method = $("by").value, [from, to] = ["from", "to"].map(end => said($(end), method));
+const [start, end] = await endsOf(route, { from: from.pos, to: to.pos }, { fromMethod: from.method, toMethod: to.method });
+const isOne = from.method === to.method, stretch = isOne ? { method: from.method, from: from.pos, to: to.pos } : chainages(start, end);return go({ ...address, stretch: start === 0 && end === route.length ? undefined : stretch });}
+async function markAsset(asset) {view.asset = [];if (asset) {const { route } = view, { rows } = await known("v1/find", [["asset", asset]]);if (view.route !== route) return;
+view.asset = rows.filter(row => row.route === route.name).map(({ from, to }) => ({ from, to, text: `asset ${asset}` }));}
+markAll();}
+const MOST_FOUND = 200, MOST_SEARCHED = 100000;const upper = text => text.toUpperCase();const KINDS = { asset: findAsset, value: findValue, class: findClass, key: findKey, ref: findRef, route: findRoute };function search() {
+const kind = $("kind").value, text = $("wanted").value.trim();$("found").hidden = false;$("results").replaceChildren();say("find-said", "It is being sought.");return attempt("find-said", async () => {
+const edits = await askHealth(), { told, items } = await KINDS[kind](text, edits);$("results").replaceChildren(...items.slice(0, MOST_FOUND));say("find-said", items.length > MOST_FOUND ? `${told} The first ${MOST_FOUND} are shown.` : told);
+});}
+function item(...parts) {const made = make("li");made.append(...parts);return made;}
+function stretchItem({ route, from, to, side, asset, class: name, value }, length) {const link = linkTo(writeAddress(aroundAsset(route, from, to, asset, length)), `${route}: ${metres(from)} to ${metres(to)} m, ${SIDES[side] || side}`);
+return item(link, name ? ` ${name} ${value}, asset ${asset}` : "");}
+async function stretchItems(rows) {const { routes } = await known("v1/routes"), lengths = new Map(routes.map(route => [route.name, route.length]));return rows.map(row => stretchItem(row, lengths.get(row.route)));}
+async function findAsset(text) {const { rows } = await known("v1/find", [["asset", text]]);
+const told = rows.length ? `Asset ${text} holds ${rows.length === 1 ? "one stretch" : `${rows.length} stretches`}.` : `Asset ${text} is known, and lies on no route now.`;
+return { told, items: await stretchItems(rows.map(row => ({ ...row, asset: text }))) };}
+async function findClass(text) {const { rows } = await known("v1/rows", [["class", upper(text)]]);return { told: `${upper(text)} has ${counted(rows.length, "row")}.`, items: await stretchItems(rows) };}
+async function findValue(text) {const { lengths } = await known("v1/lengths"), names = lengths.filter(entry => entry.value === text).map(entry => entry.class);
+const lists = await Promise.all(names.map(name => known("v1/rows", [["class", name]])));const rows = lists.flatMap(list => list.rows).filter(row => row.value === text);
+return { told: rows.length ? `${counted(rows.length, "row")} ${rows.length === 1 ? "has" : "have"} the value ${text}.` : `No row has the value ${text}.`, items: await stretchItems(rows) };}
+async function findKey(text, edits = 0) {const first = Math.max(edits - MOST_SEARCHED + 1, 1);const records = edits ? recordsOf(await known("v1/log", [["from", first]], get)) : [], at = records.findIndex(record => record.key === text);
+if (at < 0) return { told: `No edit has the key ${text}${first > 1 ? `, of the last ${MOST_SEARCHED}` : ""}.`, items: [] };return { told: `Key ${text} is edit ${first + at}.`, items: [item(`${records[at].verb} `, fieldsOf(records[at]))] };}
+async function findRef(text) {const { refs } = await known("v1/refs"), found = refs.filter(entry => entry.ref.includes(upper(text)));
+const link = ({ ref, route }) => linkTo(writeAddress({ route, place: { method: "rel", pos: `${ref}+0` } }), ref);const items = found.map(entry => item(link(entry), ` on ${entry.route}, at ${metres(entry.chainage)} m`));
+return { told: `${counted(found.length, "referent")} of this name or part of a name.`, items };}
+async function findRoute(text) {const { routes } = await known("v1/routes"), found = routes.filter(route => route.name.includes(upper(text)));
+return { told: `${counted(found.length, "route")} of this name or part of a name.`, items: found.map(({ name, length }) => item(linkTo(name, name), ` ${metres(length)} m`)) };}
+const MOST_LINES = 500, MOST_BYTES = 1000000, FIRST_RECORDS = 6, MOST_SHOWN = 2000;const PATHS = {"key,verb,a,b,c,d,e,f,g,h,i": ["v1/edits", "an edit sheet"],
+"key,asset,class,route,side,method,from,to,value,offset": ["v1/surveys", "a survey"],};function* recordEnds(bytes) {let quoted = false, fresh = true;for (let at = 0; at < bytes.length; at++) {
+const byte = bytes[at], ends = !quoted && (byte === 10 || (byte === 13 && bytes[at + 1] !== 10));if (byte === 34 && (quoted || fresh)) quoted = !quoted, fresh = !quoted;else fresh = !quoted && (byte === 44 || byte === 13 || byte === 10);
+if (ends) yield at + 1;}
+yield bytes.length;}
+function bodiesOf(bytes) {if (bytes.length <= MOST_BYTES) return [bytes];let start = null, last = null, head = null;const bodies = [], body = () => bodies.push(new Blob([head, bytes.subarray(start, last)]));
+for (const end of recordEnds(bytes)) {if (head === null) head = bytes.subarray(0, end), start = end;else if (end - start + head.length > MOST_BYTES && last > start) body(), start = last;last = end;}
+if (last > start) body();return bodies;}
+function recordsIn(bytes) {let count = -1, start = 0, shown = 0;for (const end of recordEnds(bytes)) {if (bytes.subarray(start, end).some(byte => byte !== 10 && byte !== 13)) count++;if (count < FIRST_RECORDS) shown = end;start = end;}
+return { count: Math.max(count, 0), first: new TextDecoder().decode(bytes.subarray(0, Math.min(shown, MOST_SHOWN))) };}
+function kindOf(bytes, name) {const first = new TextDecoder().decode(bytes.subarray(0, 200)).split(/[\r\n]/)[0].replace(/["\s]/g, "");if (PATHS[first]) return PATHS[first];
+throw new Error(`${name} is no edit sheet and no survey: its first line is not the header of either. Nothing was sent.`);}
+let ready = [], stopped;async function lookAt(files) {ready = [];$("preview").hidden = true;$("looked").replaceChildren();say("sheet-said", "");for (const file of files) {
+const bytes = new Uint8Array(await file.arrayBuffer()), [path, kind] = kindOf(bytes, file.name), { count, first } = recordsIn(bytes);const bodies = bodiesOf(bytes), parts = bodies.length > 1 ? `, in ${bodies.length} parts` : "";
+ready.push({ name: file.name, path, bodies, at: 0, resumes: false });$("looked").append(make("p", `${file.name}: ${kind} of ${counted(count, "record")}, ${bytes.length} bytes${parts}. It begins:`), make("pre", first, { tabIndex: 0 }));}
+$("preview").hidden = !ready.length;$("send").focus();}
+function forget() {ready = [];$("preview").hidden = true;say("sheet-said", "Nothing was sent.");}
+const counts = {};let replied = [], notShown = 0;function startReplies() {for (const word of ["done", "again", "refused", "fault"]) counts[word] = 0;(replied = []), (notShown = 0), (stopped = undefined);
+$("lines").replaceChildren(tableOf(["Key", "Reply", "Edit, or cause"], []));$("replies").hidden = false;$("lines").hidden = $("save").hidden = $("resume").hidden = true;say("counts", "");}
+function showReplies(text) {replied.push(text);const body = $("lines").querySelector("tbody"), rows = [];for (const line of text.split("\n")) {const [key, word, more] = line.split(",");if (!word) continue;counts[word]++;
+if (body.rows.length + rows.length < MOST_LINES * (word === "done" || word === "again" ? 1 : 2)) rows.push(replyRow(key, word, more));else notShown++;}
+body.append(...rows);$("lines").hidden = !body.rows.length;const faults = counts.fault ? ", 1 fault" : "", rest = notShown ? ` ${notShown} lines more are not shown here: save them to see all.` : "";
+say("counts", `${counts.done} done, ${counts.again} again, ${counts.refused} refused${faults}.${rest}`);offer($("save"), replied, "text/csv");}
+function replyRow(key, word, more) {const row = rowOf([key, word, word === "done" || word === "again" ? `edit ${more}` : sentence(more)]);row.className = word;row.cells[1].className = "word";return row;}
+async function sendParts(sheet, refresh) {const { name, path, bodies } = sheet;(stopped = undefined), ($("resume").hidden = true);try {for (; sheet.at < bodies.length; sheet.at++, sheet.resumes = false) {
+say("sheet-said", `${name}: part ${sheet.at + 1} of ${bodies.length} is being sent.`);await sendPart(path + (sheet.resumes ? "?resume=1" : ""), bodies[sheet.at]);}
+say("sheet-said", `${name} was sent to its end, in ${bodies.length === 1 ? "one part" : `${bodies.length} parts`}. Look at the lines: a record that is refused changes nothing.`);} catch (error) {
+if (error.message.endsWith(GO_ON)) (stopped = { ...sheet, resumes: true }), ($("resume").hidden = false);throw error;} finally {await refresh();}
 }
-
-async function loadRoutes() {
-  ({ routes } = await getJson("v1/routes"));
-  listRoutes();
-}
-
-// ---- the diagram of a route
-// What is asked for, all of the route where there is no `to`; and the stretch that is drawn.
-const view = { route: null, from: undefined, to: undefined, mark: null };
-const seen = { from: 0, to: 0 };
-const lengthOf = name => (routes.find(route => route.name === name) || {}).length;
-let draws = 0;
-
-function open(route, from, to, mark = null) {
-  if (route !== view.route) $("hits").replaceChildren(), say("at-said", "");
-  Object.assign(view, { route, from, to, mark });
-  pointOut();
-  return attempt("route-said", draw);
-}
-
-// What a button elsewhere on the page shows, in sight also where the page is narrow.
-async function choose(...asked) {
-  await open(...asked);
-  $("route-title").scrollIntoView({ block: innerWidth > 800 ? "nearest" : "start" });
-}
-
-const range = () => ["from", "to"].filter(name => view[name] !== undefined).map(name => [name, view[name]]);
-
-async function draw() {
-  const mine = ++draws, asked = [["route", view.route], ...range()];
-  location.hash = query(asked).slice(1);
-  $("route-title").textContent = document.title = `Route ${view.route}`;
-  say("route-said", "The diagram is being drawn.");
-  const { text, error } = await get("v1/diagram", asked).then(text => ({ text }), error => ({ error }));
-  if (mine !== draws) return;
-  $("view").hidden = $("asked").hidden = Boolean(error);
-  if (error) throw error;
-  putDiagram(text);
-}
-
-function putDiagram(text) {
-  const root = new DOMParser().parseFromString(text, "image/svg+xml").documentElement;
-  if (root.localName !== "svg" || root.querySelector("parsererror")) throw new Error("The diagram cannot be read.");
-  $("diagram").replaceChildren(document.importNode(harmless(root), true));
-  Object.assign(seen, { from: Number(root.dataset.from), to: Number(root.dataset.to) });
-  $("from").value = metres(seen.from);
-  $("to").value = metres(seen.to);
-  say("route-said", `From ${metres(seen.from)} m to ${metres(seen.to)} m.`);
-  hideClasses();
-  drawMark();
-}
-
-// What the program's diagrams are made of. Whatever else a diagram has might act or load something, and is left out.
-const SHAPES = /^(svg|title|style|g|path|rect|text)$/, LOOKS = /^(class|d|fill|height|role|text-anchor|transform|viewBox|width|x|y|data-[a-z]+)$/;
-const isShape = ({ namespaceURI, localName, textContent }) =>
-  namespaceURI === SVG && SHAPES.test(localName) && !(localName === "style" && /[^-\s\w#.,:;{}()]|url/i.test(textContent));
-function harmless(svg) {
-  for (const part of svg.querySelectorAll("*")) if (!isShape(part)) part.remove();
-  for (const part of [svg, ...svg.querySelectorAll("*")])
-    for (const look of [...part.attributes]) if (look.namespaceURI || !LOOKS.test(look.name)) part.removeAttributeNode(look);
-  return svg;
-}
-
-const shownDiagram = () => $("diagram").querySelector("svg");
-const across = chainage => 1000 + ((chainage - seen.from) * 10000) / (seen.to - seen.from);
-
-function drawMark() {
-  const svg = shownDiagram(), mark = view.mark;
-  const old = svg && svg.querySelector("[data-mark]");
-  if (old) old.remove();
-  if (!svg || !mark || mark.to <= seen.from || mark.from >= seen.to) return;
-  const left = across(Math.max(mark.from, seen.from)), wide = Math.max(across(Math.min(mark.to, seen.to)) - left, 30);
-  const tall = svg.viewBox.baseVal.height;
-  const group = drawn("g", { "data-mark": mark.text, "pointer-events": "none" });
-  group.append(
-    drawn("rect", { x: left - 20, y: 20, width: wide + 40, height: tall - 40, fill: "none", stroke: "#9b1c1c", "stroke-width": 30, "stroke-dasharray": "90 45" }),
-    drawn("text", { x: Math.min(left + 40, 9800), y: 170, "font-size": 150, fill: "#7a1414", stroke: "#fff", "stroke-width": 40, "paint-order": "stroke" }, mark.text),
-  );
-  svg.append(group);
-}
-
-function showRange(from, to) {
-  const length = lengthOf(view.route) || seen.to;
-  const span = Math.min(Math.max(Math.round(to - from), LEAST_SPAN), length);
-  const start = Math.min(Math.max(Math.round(from), 0), length - span);
-  return span === length ? open(view.route, undefined, undefined, view.mark) : open(view.route, start, start + span, view.mark);
-}
-
-function zoom(times) {
-  const middle = (seen.from + seen.to) / 2, half = ((seen.to - seen.from) * times) / 2;
-  showRange(middle - half, middle + half);
-}
-
-const move = times => showRange(seen.from + (seen.to - seen.from) * times, seen.to + (seen.to - seen.from) * times);
-
-function showTyped() {
-  const from = millimetres($("from").value), to = millimetres($("to").value);
-  if (from === null || to === null) return say("route-said", "From and to are metres with at most three decimals, as 12.5.", true);
-  if (from >= to) return say("route-said", "From must be less than to.", true);
-  const length = lengthOf(view.route) || to;
-  if (from >= length) return say("route-said", `The route ends at ${metres(length)} m.`, true);
-  open(view.route, from, Math.min(to, length), view.mark);
-}
-
-function openHash() {
-  const asked = new URLSearchParams(location.hash.slice(1)), route = asked.get("route");
-  const [from, to] = ["from", "to"].map(name => (/^\d+$/.test(asked.get(name)) ? Number(asked.get(name)) : undefined));
-  if (route && (route !== view.route || from !== view.from || to !== view.to)) open(route, from, to);
-}
-
-// ---- classes on and off
-const off = new Set();
-let classes = [];
-
-async function loadClasses() {
-  const { totals } = await getJson("v1/totals");
-  classes = totals.map(total => total.class);
-  $("classes").replaceChildren(...classes.map(name => {
-    const label = make("label", ""), box = make("input", "", { type: "checkbox", checked: !off.has(name), value: name });
-    box.onchange = () => switchClasses([name], box.checked);
-    label.append(box, name);
-    return label;
-  }));
-  hideClasses();
-}
-
-function switchClasses(names, on) {
-  for (const name of names) on ? off.delete(name) : off.add(name);
-  for (const box of $("classes").querySelectorAll("input")) box.checked = !off.has(box.value);
-  hideClasses();
-}
-
-function hideClasses() {
-  for (const group of $("diagram").querySelectorAll("g[data-class]")) group.style.display = off.has(group.dataset.class) ? "none" : "";
-  const on = classes.filter(name => !off.has(name)), chosen = on.length < classes.length ? on.map(name => ["class", name]) : [];
-  $("plain").href = "v1/diagram" + query([["route", view.route], ...range(), ...chosen]);
-}
-
-// ---- who holds a position
-// The fraction with the least denominator from a/b to c/d.
-function simplest(a, b, c, d) {
-  const whole = a / b;
-  if (whole * b === a) return [whole, 1n];
-  if ((whole + 1n) * d <= c) return [whole + 1n, 1n];
-  const [n, m] = simplest(d, c - whole * d, b, a - whole * b);
-  return [whole * n + m, n];
-}
-
-// A proportion of the route that stands in this millimetre, or, if that is too fine to be asked, in as many from there on.
-function proportion(chainage, length, width) {
-  const halves = mm => BigInt(Math.round(mm * 2));
-  for (const wide of [0.5, Math.min(width, length - chainage)]) {
-    const [n, d] = simplest(halves(chainage), halves(length), halves(chainage + wide), halves(length));
-    if (d <= GREATEST_DENOMINATOR) return `${n}/${d}`;
-  }
-  throw new Error(`Chainage ${metres(chainage)} m is too fine to be asked here: as a proportion of the route it needs a denominator above 1,000,000. Zoom out, or type its measure.`);
-}
-
-let asks = 0;
-async function askAt(method, pos) {
-  const mine = ++asks;
-  say("at-said", "The position is being asked.");
-  $("hits").replaceChildren();
-  const found = await getJson("v1/at", [["route", view.route], ["method", method], ["pos", pos]]);
-  if (mine !== asks || found.route !== view.route) return;
-  const way = found.dir === "+" ? "along the link" : "against the link";
-  const few = found.hits.length ? "" : " No asset lies there.";
-  say("at-said", `${found.route}, ${method} ${pos}: chainage ${metres(found.at)} m. Link ${found.link}, mm ${found.mm}; the route runs ${way}.${few}`);
-  if (found.hits.length) $("hits").append(tableOf(["Asset", "Class", "Value", "Side", "Offset, mm", "Entry", "Link", "mm"], found.hits.map(hit => hitRow(hit, found))));
-  view.mark = { from: found.at, to: found.at + 1, text: "asked" };
-  drawMark();
-}
-
-function hitRow(hit, found) {
-  const button = make("button", hit.asset, { type: "button", title: "Find all stretches of this asset" });
-  button.onclick = () => findAsset(hit.asset);
-  return rowOf([button, hit.class, hit.value, SIDES[hit.side] || hit.side, hit.offset, hit.entry, found.link, found.mm]);
-}
-
-async function askClick(event) {
-  const svg = shownDiagram(), wide = seen.to - seen.from;
-  const x = new DOMPoint(event.clientX, event.clientY).matrixTransform(svg.getScreenCTM().inverse()).x;
-  if (x < 950 || x > 11050) return;
-  const clicked = Math.floor(seen.from + ((x - 1000) * wide) / 10000);
-  const chainage = await pointAt(event.target, clicked) ?? Math.min(Math.max(clicked, seen.from), seen.to - 1);
-  const length = lengthOf(view.route);
-  if (!length) throw new Error("The length of the route is not known.");
-  const pos = proportion(chainage, length, (wide * 12000) / 10000 / svg.getBoundingClientRect().width);
-  $("method").value = "int";
-  $("pos").value = pos;
-  return askAt("int", pos);
-}
-
-// A point is one millimetre and hard to hit: a click on its tick means the millimetre of the asset, nearest to the click.
-async function pointAt(target, clicked) {
-  const tick = target.closest("g[data-kind=point] path"), title = tick && tick.querySelector("title");
-  if (!title) return null;
-  const { rows } = await getJson("v1/find", [["asset", title.textContent.split(":")[0]]]);
-  const near = rows.filter(row => row.route === view.route).map(row => row.from);
-  return near.sort((a, b) => Math.abs(a - clicked) - Math.abs(b - clicked))[0] ?? null;
-}
-
-// ---- the stretches of an asset
-function findAsset(asset) {
-  $("asset").value = asset;
-  return attempt("find-said", async () => {
-    $("rows").replaceChildren();
-    say("find-said", "The asset is being sought.");
-    const { rows } = await getJson("v1/find", [["asset", asset]]);
-    $("rows").replaceChildren(...rows.map(row => stretchItem(asset, row)));
-    say("find-said", rows.length ? `Asset ${asset} holds ${rows.length === 1 ? "one stretch" : `${rows.length} stretches`}. A button shows it on its route.` : `Asset ${asset} is known, and lies on no route now.`);
-  });
-}
-
-function stretchItem(asset, { route, from, to, side }) {
-  const item = document.createElement("li"), button = make("button", `${route}: ${metres(from)} to ${metres(to)} m, ${SIDES[side] || side}`, { type: "button" });
-  button.onclick = () => {
-    const around = Math.max(Math.round((to - from) / 4), 5000), end = Math.min(to + around, lengthOf(route) || to);
-    const start = Math.max(from - around, 0), mark = { from, to, text: `asset ${asset}` };
-    return end - start === lengthOf(route) ? choose(route, undefined, undefined, mark) : choose(route, start, end, mark);
-  };
-  item.append(button);
-  return item;
-}
-
-// ---- sheets
-// The places behind the records of a sheet: behind its line ends, but for those inside quotes.
-function* recordEnds(bytes) {
-  let quoted = false, fresh = true;
-  for (let at = 0; at < bytes.length; at++) {
-    const byte = bytes[at], ends = !quoted && (byte === 10 || (byte === 13 && bytes[at + 1] !== 10));
-    if (byte === 34 && (quoted || fresh)) quoted = !quoted, fresh = !quoted;
-    else fresh = !quoted && (byte === 44 || byte === 13 || byte === 10);
-    if (ends) yield at + 1;
-  }
-  yield bytes.length;
-}
-
-// The bodies in which a sheet is sent, each with the header.
-function bodiesOf(bytes) {
-  if (bytes.length <= MOST_BYTES) return [bytes];
-  let start = null, last = null, head = null;
-  const bodies = [], body = () => bodies.push(new Blob([head, bytes.subarray(start, last)]));
-  for (const end of recordEnds(bytes)) {
-    if (head === null) head = bytes.subarray(0, end), start = end;
-    else if (end - start + head.length > MOST_BYTES && last > start) body(), start = last;
-    last = end;
-  }
-  if (last > start) body();
-  return bodies;
-}
-
-function pathOf(bytes) {
-  const first = new TextDecoder().decode(bytes.subarray(0, 200)).split(/[\r\n]/)[0].replace(/["\s]/g, "");
-  if (first === "key,verb,a,b,c,d,e,f,g,h,i") return "v1/edits";
-  if (first === "key,asset,class,route,side,method,from,to,value,offset") return "v1/surveys";
-  throw new Error("This is no edit sheet and no survey: its first line is not the header of either. Nothing was sent.");
-}
-
-const counts = {};
-let replied = [], notShown = 0;
-
-function startReplies() {
-  for (const word of ["done", "again", "refused", "fault"]) counts[word] = 0;
-  replied = [], notShown = 0;
-  $("lines").replaceChildren(tableOf(["Key", "Reply", "Edit, or cause"], []));
-  $("replies").hidden = false;
-  $("lines").hidden = $("save").hidden = $("resume").hidden = true;
-  stopped = undefined;
-  say("counts", "");
-}
-
-function showReplies(text) {
-  replied.push(text);
-  const body = $("lines").querySelector("tbody"), rows = [];
-  for (const line of text.split("\n")) {
-    const [key, word, more] = line.split(",");
-    if (!word) continue;
-    counts[word]++;
-    if (body.rows.length + rows.length < MOST_LINES * (word === "done" || word === "again" ? 1 : 2)) rows.push(replyRow(key, word, more));
-    else notShown++;
-  }
-  body.append(...rows);
-  $("lines").hidden = !body.rows.length;
-  const faults = counts.fault ? ", 1 fault" : "", rest = notShown ? ` ${notShown} lines more are not shown here: save them to see all.` : "";
-  say("counts", `${counts.done} done, ${counts.again} again, ${counts.refused} refused${faults}.${rest}`);
-  URL.revokeObjectURL($("save").href);
-  Object.assign($("save"), { hidden: false, href: URL.createObjectURL(new Blob(replied, { type: "text/csv" })) });
-}
-
-function replyRow(key, word, more) {
-  const row = rowOf([key, word, word === "done" || word === "again" ? `edit ${more}` : sentence(more)]);
-  row.className = word;
-  row.cells[1].className = "word";
-  return row;
-}
-
-async function sendSheet(file) {
-  startReplies();
-  say("sheet-said", `${file.name} is being read.`);
-  $("replies").scrollIntoView({ block: "nearest" });
-  const bytes = new Uint8Array(await file.arrayBuffer());
-  await sendParts({ name: file.name, path: pathOf(bytes), bodies: bodiesOf(bytes), at: 0, resumes: false });
-}
-
-// Sends the parts of a sheet from one on. The program goes on by itself with a part whose reply was lost.
-async function sendParts(sheet) {
-  const { name, path, bodies } = sheet;
-  (stopped = undefined), ($("resume").hidden = true);
-  try {
-    for (; sheet.at < bodies.length; sheet.at++, sheet.resumes = false) {
-      say("sheet-said", `${name}: part ${sheet.at + 1} of ${bodies.length} is being sent.`);
-      await sendPart(path + (sheet.resumes ? "?resume=1" : ""), bodies[sheet.at]);
-    }
-    say("sheet-said", `${name} was sent to its end, in ${bodies.length === 1 ? "one part" : `${bodies.length} parts`}. Look at the lines: a record that is refused changes nothing.`);
-  } catch (error) {
-    if (error.message.endsWith(GO_ON)) (stopped = { ...sheet, resumes: true }), ($("resume").hidden = false);
-    throw error;
-  } finally {
-    await refresh();
-  }
-}
-
-async function sendPart(path, body) {
-  const settings = { method: "POST", headers: { "Content-Type": "text/csv" }, body };
-  const { status, text } = await send(path, settings).catch(error => { throw new Error(error.message + GO_ON); });
-  if (status === 200 || status === 422) showReplies(text);
-  if (status === 422) throw new Error(`${STATUSES[422]} The last line says why. The records before it are done. Mend the sheet, and send the header and the records behind the last one that was done.`);
-  if (status !== 200) throw new Error(reason(status, text) + ([500, 502, 503, 504].includes(status) ? GO_ON : " The sheet was not sent on."));
-}
-
-async function refresh() {
-  await Promise.all([attempt("routes-said", loadRoutes), attempt("classes-said", loadClasses)]);
-  if (!view.route) return;
-  if (view.to > lengthOf(view.route)) view.from = view.to = undefined;
-  await attempt("route-said", draw);
-}
-
-// One sheet after the other. Who leaves the page before they are sent is asked.
-let sheets = Promise.resolve(), waiting = 0, stopped;
-function enqueue(work) {
-  waiting++;
-  sheets = sheets.then(() => attempt("sheet-said", work)).then(() => waiting--);
-}
-function sendSheets(files) {
-  for (const file of [...files]) enqueue(() => sendSheet(file));
-}
-
-// ---- what the hand does
-const submits = (id, work) => ($(id).onsubmit = event => (event.preventDefault(), work()));
-submits("filtering", () => $("routes").querySelector("button")?.click());
-submits("finding", () => findAsset($("asset").value.trim()));
-submits("range", showTyped);
-submits("asking", () => attempt("at-said", () => askAt($("method").value, $("pos").value.trim())));
-$("filter").oninput = listRoutes;
-$("diagram").onclick = event => shownDiagram()?.contains(event.target) && attempt("at-said", () => askClick(event));
-$("in").onclick = () => zoom(0.5);
-$("out").onclick = () => zoom(2);
-$("back").onclick = () => move(-0.5);
-$("on").onclick = () => move(0.5);
-$("whole").onclick = () => open(view.route, undefined, undefined, view.mark);
-$("all").onclick = () => switchClasses(classes, true);
-$("none").onclick = () => switchClasses(classes, false);
-$("diagram").onkeydown = event => {
-  const button = { ArrowLeft: "back", ArrowRight: "on", "+": "in", "-": "out" }[event.key];
-  if (button && !event.ctrlKey && !event.altKey && !event.metaKey) event.preventDefault(), $(button).click();
-};
-$("resume").onclick = () => enqueue(async () => stopped && sendParts(stopped));
-$("file").onchange = () => (sendSheets($("file").files), ($("file").value = ""));
-document.ondragover = event => {
-  if (!event.dataTransfer.types.includes("Files")) return;
-  event.preventDefault();
-  document.body.classList.add("over");
-};
-document.ondragleave = event => event.relatedTarget || document.body.classList.remove("over");
-document.ondrop = event => {
-  if (!event.dataTransfer.files.length) return;
-  event.preventDefault();
-  document.body.classList.remove("over");
-  sendSheets(event.dataTransfer.files);
-};
-window.onbeforeunload = event => void (waiting && event.preventDefault());
-window.onhashchange = openHash;
-refresh().then(openHash);
+async function sendPart(path, body) {const settings = { method: "POST", headers: { "Content-Type": "text/csv" }, body };const { status, text } = await send(path, settings).catch(error => { throw new Error(error.message + GO_ON); });
+if (status === 200 || status === 422) showReplies(text);
+if (status === 422) throw new Error(`${STATUSES[422]} The last line says why. The records before it are done. Mend the sheet, and send the header and the records behind the last one that was done.`);
+if (status !== 200) throw new Error(reason(status, text) + ([500, 502, 503, 504].includes(status) ? GO_ON : " The sheet was not sent on."));}
+let sheets = Promise.resolve(), waiting = 0;function enqueue(work) {waiting++;sheets = sheets.then(() => attempt("sheet-said", work)).then(() => waiting--);}
+function sendReady(refresh) {for (const sheet of ready) enqueue(() => (startReplies(), sendParts(sheet, refresh)));ready = [];$("preview").hidden = true;$("sheet-said").scrollIntoView({ block: "nearest" });}
+const goOn = refresh => enqueue(async () => stopped && sendParts(stopped, refresh));const isSending = () => waiting > 0;
+const PAUSE = 120, LEAST_DRAG = 4;let wanted = null, timer, drag = null, wasDragged = false, pinch = null;function zoom(times) {const middle = (seen.from + seen.to) / 2, half = ((seen.to - seen.from) * times) / 2;
+return showRange(middle - half, middle + half);}
+const move = times => showRange(seen.from + (seen.to - seen.from) * times, seen.to + (seen.to - seen.from) * times);function preview(from, to) {const svg = shownDiagram(), [start, end] = within(from, to, view.route.length);
+wanted = [start, end];const times = (seen.to - seen.from) / (end - start), left = 1000 + ((seen.from - start) * 10000) / (end - start) - times * 1000;svg.style.transformOrigin = "0 0";
+svg.style.transform = `translateX(${(left * svg.clientWidth) / 12000}px) scaleX(${times})`;$("diagram").classList.add("moving");}
+async function settle() {const [from, to] = wanted || [seen.from, seen.to];wanted = null;$("diagram").classList.remove("moving");if (from === seen.from && to === seen.to) return void (shownDiagram().style.transform = "");
+await showRange(from, to, true);}
+function settleSoon() {clearTimeout(timer);timer = setTimeout(settle, PAUSE);}
+const share = event => {const box = $("diagram").getBoundingClientRect(), wide = shownDiagram().clientWidth;return (((event.clientX - box.left + $("diagram").scrollLeft) / wide) * 12000 - 1000) / 10000;};function wheel(event) {
+if (!shownDiagram()) return;const [from, to] = wanted || [seen.from, seen.to], span = to - from, sideways = event.shiftKey || Math.abs(event.deltaX) > Math.abs(event.deltaY);
+const by = (sideways ? event.deltaX || event.deltaY : event.deltaY) * (event.deltaMode ? 16 : 1);if (!sideways && by > 0 && span === view.route.length) return;event.preventDefault();
+const at = from + span * Math.min(Math.max(share(event), 0), 1), times = Math.min(Math.max((event.ctrlKey ? 1.01 : 1.0015) ** by, 0.2), 5);
+sideways ? preview(from + (span * by) / 1000, to + (span * by) / 1000) : preview(at - (at - from) * times, at + (to - at) * times);settleSoon();}
+function startDrag(event) {wasDragged = false;if (event.pointerType === "touch" || event.button || !shownDiagram()?.contains(event.target)) return;drag = { x: event.clientX, moved: false, from: seen.from, to: seen.to };}
+function dragOn(event) {if (!drag) return look(event);const by = event.clientX - drag.x;if (!drag.moved && Math.abs(by) < LEAST_DRAG) return;if (!drag.moved) $("diagram").setPointerCapture(event.pointerId);drag.moved = true;
+const mm = (by * 12000 * (drag.to - drag.from)) / (shownDiagram().clientWidth * 10000);preview(drag.from - mm, drag.to - mm);}
+function endDrag() {wasDragged = Boolean(drag?.moved);drag = null;if (wasDragged) settle();}
+const click = event => wasDragged || !shownDiagram()?.contains(event.target) || attempt("at-said", () => askClick(event));function touch(event) {if (event.touches.length !== 2 || !shownDiagram()) return;event.preventDefault();
+const shares = [...event.touches].map(share), [from, to] = [seen.from, seen.to];pinch ||= shares.map(at => from + at * (to - from));const span = (pinch[1] - pinch[0]) / (shares[1] - shares[0] || 0.01);
+if (span > 0) preview(pinch[0] - shares[0] * span, pinch[0] + (1 - shares[0]) * span);}
+function endTouch(event) {if (!pinch || event.touches.length === 2) return;pinch = null;settle();}
+function look(event) {if (!shownDiagram()?.contains(event.target)) return;const x = unitsAt(event), chainage = Math.floor(chainageAt(x));if (chainage < 0 || x < 1000 || x > 11000 || chainage > view.route.length) return say("under", "");
+say("under", [`${metres(chainage)} m, measure ${textOf(view.route, "abs", chainage)}`, ...thingsAt(x, off)].join(" \u00b7 "));}
+function press(event) {const button = { ArrowLeft: "back", ArrowRight: "on", "+": "in", "-": "out", Home: "whole" }[event.key];if (event.ctrlKey || event.altKey || event.metaKey) return;if (button) event.preventDefault(), $(button).click();
+if (event.key === "Enter") askChainage(Math.floor((seen.from + seen.to) / 2));}
+function watch() {const box = $("diagram");box.addEventListener("wheel", wheel, { passive: false });for (const name of ["touchstart", "touchmove"]) box.addEventListener(name, touch, { passive: false });
+for (const name of ["touchend", "touchcancel"]) box.addEventListener(name, endTouch);Object.assign(box, { onpointerdown: startDrag, onpointermove: dragOn, onpointerup: endDrag, onpointercancel: endDrag, onclick: click, onkeydown: press });
+$("in").onclick = () => zoom(0.5);$("out").onclick = () => zoom(2);$("back").onclick = () => move(-0.5);$("on").onclick = () => move(0.5);$("whole").onclick = () => showRange(0, view.route.length);}
+let isFirst = true;function show(address) {const isRoute = Boolean(address && address.route), changes = $("route").hidden === isRoute && !isFirst;isFirst = false;$("route").hidden = !isRoute;$("network").hidden = isRoute;
+if (changes) $(isRoute ? "route-title" : "network-title").focus({ preventScroll: true }), scrollTo(0, 0);if (isRoute) return showRoute(address);leaveRoute();document.title = "Road inventory";
+say("address-said", address ? "The address names no route." : "", Boolean(address));return loadNetwork();}
+async function refresh() {await askHealth();await showAgain();}
+const submits = (id, work) => ($(id).onsubmit = event => (event.preventDefault(), work()));submits("filtering", () => firstRoute()?.click());submits("finding", search);submits("range", () => attempt("route-said", showTyped));
+submits("asking", askTyped);submits("row-filtering", () => {});$("filter").oninput = listRoutes;$("row-filter").oninput = listRows;$("csv").onclick = saveRows;$("by").onchange = () => changeMethod($("by"), [$("from"), $("to")]);
+$("method").onchange = () => changeMethod($("method"), [$("pos")]);for (const id of ["from", "to", "pos"]) $(id).oninput = () => delete $(id).dataset.chainage;$("all").onclick = () => switchAll(true);
+$("none").onclick = () => switchAll(false);$("close").onclick = () => ($("found").hidden = true);$("refresh").onclick = refresh;$("skip").onclick = () => $("main").focus();$("send").onclick = () => sendReady(refresh);
+$("forget").onclick = forget;$("resume").onclick = () => goOn(refresh);$("file").onchange = () => {const files = [...$("file").files];$("file").value = "";attempt("sheet-said", () => lookAt(files));};document.ondragover = event => {
+if (!event.dataTransfer.types.includes("Files")) return;event.preventDefault();document.body.classList.add("over");};document.ondragleave = event => event.relatedTarget || document.body.classList.remove("over");document.ondrop = event => {
+const files = [...event.dataTransfer.files];if (!files.length) return;event.preventDefault();document.body.classList.remove("over");$("sheets").open = true;attempt("sheet-said", () => lookAt(files));};
+window.onbeforeunload = event => void (isSending() && event.preventDefault());makeShades();watch();start(show);
 </script>
 </body>
 </html>

@@ -1,0 +1,79 @@
+// What the hand does, and what is shown for an address.
+
+import { $, attempt, say } from "./parts.js";
+import { askHealth } from "./health.js";
+import { listRoutes, loadNetwork, firstRoute } from "./network.js";
+import { changeMethod, leaveRoute, showRoute, showTyped } from "./route.js";
+import { askTyped } from "./place.js";
+import { listRows, saveRows } from "./rows.js";
+import { switchAll } from "./classes.js";
+import { search } from "./search.js";
+import { forget, goOn, isSending, lookAt, sendReady } from "./sheets.js";
+import { makeShades } from "./shades.js";
+import { showAgain, start } from "./view.js";
+import { watch } from "./gestures.js";
+
+let isFirst = true;
+
+// Who came by a link or a key goes on at the head of what is shown.
+function show(address) {
+  const isRoute = Boolean(address && address.route), changes = $("route").hidden === isRoute && !isFirst;
+  isFirst = false;
+  $("route").hidden = !isRoute;
+  $("network").hidden = isRoute;
+  if (changes) $(isRoute ? "route-title" : "network-title").focus({ preventScroll: true }), scrollTo(0, 0);
+  if (isRoute) return showRoute(address);
+  leaveRoute();
+  document.title = "Road inventory";
+  say("address-said", address ? "The address names no route." : "", Boolean(address));
+  return loadNetwork();
+}
+
+async function refresh() {
+  await askHealth();
+  await showAgain();
+}
+
+const submits = (id, work) => ($(id).onsubmit = event => (event.preventDefault(), work()));
+submits("filtering", () => firstRoute()?.click());
+submits("finding", search);
+submits("range", () => attempt("route-said", showTyped));
+submits("asking", askTyped);
+submits("row-filtering", () => {});
+$("filter").oninput = listRoutes;
+$("row-filter").oninput = listRows;
+$("csv").onclick = saveRows;
+$("by").onchange = () => changeMethod($("by"), [$("from"), $("to")]);
+$("method").onchange = () => changeMethod($("method"), [$("pos")]);
+for (const id of ["from", "to", "pos"]) $(id).oninput = () => delete $(id).dataset.chainage;
+$("all").onclick = () => switchAll(true);
+$("none").onclick = () => switchAll(false);
+$("close").onclick = () => ($("found").hidden = true);
+$("refresh").onclick = refresh;
+$("skip").onclick = () => $("main").focus();
+$("send").onclick = () => sendReady(refresh);
+$("forget").onclick = forget;
+$("resume").onclick = () => goOn(refresh);
+$("file").onchange = () => {
+  const files = [...$("file").files];
+  $("file").value = "";
+  attempt("sheet-said", () => lookAt(files));
+};
+document.ondragover = event => {
+  if (!event.dataTransfer.types.includes("Files")) return;
+  event.preventDefault();
+  document.body.classList.add("over");
+};
+document.ondragleave = event => event.relatedTarget || document.body.classList.remove("over");
+document.ondrop = event => {
+  const files = [...event.dataTransfer.files];
+  if (!files.length) return;
+  event.preventDefault();
+  document.body.classList.remove("over");
+  $("sheets").open = true;
+  attempt("sheet-said", () => lookAt(files));
+};
+window.onbeforeunload = event => void (isSending() && event.preventDefault());
+makeShades();
+watch();
+start(show);

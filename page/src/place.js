@@ -1,0 +1,80 @@
+// What lies at a place, and the other ways to say it.
+
+import { $, SIDES, attempt, linkTo, make, rowOf, say, tableOf } from "./parts.js";
+import { known } from "./requests.js";
+import { metres, short } from "./numbers.js";
+import { METHODS, writeAddress } from "./addresses.js";
+import { fill, said, whatLies } from "./positions.js";
+import { drawMarks, seen, shownDiagram, unitsAt, chainageAt } from "./diagram.js";
+import { go, view } from "./view.js";
+
+const MOST_WAYS = 12;
+let asks = 0;
+
+export const markAll = () => drawMarks([...view.asset, ...view.place]);
+
+export const clearPlace = () => (asks++, (view.place = []), $("hits").replaceChildren(), $("ways").replaceChildren(), say("at-said", ""));
+
+// Asks for the place of the address.
+export function askPlace({ method, pos }) {
+  return attempt("at-said", async () => {
+    clearPlace();
+    const mine = asks, { route } = view;
+    say("at-said", "The position is being asked.");
+    const found = await whatLies(route, method, pos);
+    if (mine === asks) showPlace(found, method, pos);
+  });
+}
+
+function showPlace(found, method, pos) {
+  const { route } = view, way = found.dir === "+" ? "along the link" : "against the link", few = found.hits.length ? "" : " No asset lies there.";
+  say("at-said", `${found.route}, ${method} ${pos}: chainage ${metres(found.at)} m. Link ${found.link}, mm ${found.mm}; the route runs ${way}.${few}`);
+  if (found.hits.length) $("hits").append(tableOf(["Asset", "Class", "Value", "Side", "Offset, mm", "Edit", "Link", "mm"], found.hits.map(hit => hitRow(hit, found))));
+  $("ways").append(make("h3", "The same millimetre begins at"), waysOf(found, route));
+  if (method === "chainage") fill($("pos"), route, $("method").value, found.at);
+  else Object.assign($("method"), { value: method }), ($("pos").value = pos), delete $("pos").dataset.chainage;
+  view.place = [{ from: found.at, to: found.at + 1, text: "asked" }];
+  markAll();
+}
+
+function hitRow(hit, found) {
+  const link = linkTo(writeAddress({ ...view.address, asset: hit.asset }), hit.asset);
+  link.title = "Mark this asset";
+  return rowOf([link, hit.class, hit.value, SIDES[hit.side] || hit.side, hit.offset, hit.entry, found.link, found.mm]);
+}
+
+// By the nearest referents first.
+function waysOf({ at, link, mm, positions }, { name }) {
+  const list = make("ul", "", { className: "ways" }), distance = ({ method, pos }) => (method === "rel" ? Number(/\d+$/.exec(pos)[0]) : -1);
+  const ways = [...positions].sort((a, b) => distance(a) - distance(b)).slice(0, MOST_WAYS);
+  for (const { method, pos } of [{ method: "chainage", pos: metres(at) }, ...ways]) {
+    const item = make("li", `${METHODS[method]}: `), canBeAsked = method !== "abs" || !pos.includes("/");
+    item.append(canBeAsked ? linkTo(writeAddress({ route: name, place: { method, pos } }), pos) : `${pos} (${short(pos)})`);
+    list.append(item);
+  }
+  list.append(make("li", `on link ${link}: ${mm} mm`));
+  return list;
+}
+
+export function askTyped() {
+  const place = said($("pos"), $("method").value);
+  return place.pos ? go({ ...view.address, place }) : say("at-said", "Type a position.", true);
+}
+
+export const askChainage = mm => go({ ...view.address, place: { method: "chainage", pos: metres(mm) } });
+
+export async function askClick(event) {
+  const x = shownDiagram() ? unitsAt(event) : 0;
+  if (x < 950 || x > 11050) return;
+  const clicked = Math.floor(chainageAt(x));
+  return askChainage((await pointAt(event.target, clicked)) ?? Math.min(Math.max(clicked, seen.from), seen.to - 1));
+}
+
+// A point is one millimetre and hard to hit: a click on its tick means the millimetre of the asset, nearest to the click.
+async function pointAt(target, clicked) {
+  const tick = target.closest("g[data-kind=point] path"), title = tick && tick.querySelector("title");
+  if (!title) return null;
+  const { rows } = await known("v1/find", [["asset", title.textContent.split(":")[0]]]);
+  const near = rows.filter(row => row.route === view.route.name).map(row => row.from);
+  return near.sort((a, b) => Math.abs(a - clicked) - Math.abs(b - clicked))[0] ?? null;
+}

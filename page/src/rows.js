@@ -1,0 +1,92 @@
+// The rows of the stretch that is drawn: a table to sort and filter, and to save as CSV.
+
+import { $, SIDES, linkTo, make, offer, rowOf, say } from "./parts.js";
+import { known } from "./requests.js";
+import { counted, metres, short } from "./numbers.js";
+import { writeAddress } from "./addresses.js";
+import { off, rangeOf, whenSwitched } from "./classes.js";
+import { LongTable } from "./sight.js";
+import { aroundAsset, view } from "./view.js";
+
+// What a column sorts by, and its head.
+const COLUMNS = { class: "Class", value: "Value", side: "Side", from: "From, m", to: "To, m", from_measure: "From measure", to_measure: "To measure", asset: "Asset", offset: "Offset, mm", entered_by: "Edit" };
+const SAVED = ["route", "from", "to", "from_measure", "to_measure", "side", "asset", "class", "value", "offset", "entered_by"];
+
+const sorted = { by: "from", down: false };
+let table, rows = [], chosen = [];
+
+const sorterOf = name => {
+  const head = make("th", "", { scope: "col" }), button = make("button", COLUMNS[name], { type: "button", className: "plain", value: name });
+  button.onclick = () => sortBy(name);
+  head.append(button);
+  return head;
+};
+
+export async function loadRows() {
+  const { route, from, to } = view;
+  table ||= new LongTable($("rows"), Object.keys(COLUMNS).map(sorterOf), assetRow);
+  const all = await rowsOf(view);
+  if (view.route !== route || view.from !== from || view.to !== to) return;
+  rows = all.filter(row => row.from < to && row.to > from);
+  listRows();
+}
+
+// All rows of a route are asked once; where they are too many for one reply, those of the stretch.
+function rowsOf({ route, from, to }) {
+  return known("v1/rows", [["route", route.name]])
+    .catch(error => (rangeOf({ route, from, to }).length ? known("v1/rows", [["route", route.name], ["from", from], ["to", to]]) : Promise.reject(error)))
+    .then(found => found.rows);
+}
+
+// Numbers by their size, texts by their letters; measures are fractions.
+function keyOf(row, name) {
+  const key = row[name];
+  if (!name.endsWith("measure")) return key;
+  const [n, d = 1] = key.split("/").map(Number);
+  return n / d;
+}
+
+function compared(a, b) {
+  if (typeof a === "number") return a - b;
+  const [x, y] = [Number(a), Number(b)];
+  return Number.isNaN(x) || Number.isNaN(y) ? (a < b ? -1 : Number(a > b)) : x - y;
+}
+
+function sortBy(name) {
+  Object.assign(sorted, { down: sorted.by === name && !sorted.down, by: name });
+  listRows();
+}
+
+// Each word of the filter stands somewhere in the row.
+function matches(row, words) {
+  const text = `${row.class} ${row.value} ${row.asset} ${SIDES[row.side]}`.toLowerCase();
+  return words.every(word => text.includes(word));
+}
+
+export function listRows() {
+  const words = $("row-filter").value.toLowerCase().split(/\s+/).filter(Boolean), sign = sorted.down ? -1 : 1;
+  chosen = rows.filter(row => !off.has(row.class) && matches(row, words));
+  chosen.sort((a, b) => sign * compared(keyOf(a, sorted.by), keyOf(b, sorted.by)) || a.from - b.from);
+  for (const button of table.head.querySelectorAll("button")) {
+    const way = button.value === sorted.by ? (sorted.down ? "descending" : "ascending") : "none";
+    button.parentNode.setAttribute("aria-sort", way);
+  }
+  table.show(chosen);
+  say("rows-said", `${chosen.length} of ${counted(rows.length, "row")} of this stretch.`);
+}
+
+function assetRow(row) {
+  const { route, address } = view, link = linkTo(writeAddress(aroundAsset(route.name, row.from, row.to, row.asset, route.length)), row.asset);
+  if (address.asset === String(row.asset)) link.setAttribute("aria-current", "true");
+  const made = rowOf([row.class, row.value, SIDES[row.side], metres(row.from), metres(row.to), short(row.from_measure), short(row.to_measure), link, row.offset, row.entered_by]);
+  for (const at of [3, 4, 5, 6, 7]) made.cells[at].className = "number";
+  return made;
+}
+
+export function saveRows() {
+  const lines = chosen.map(row => SAVED.map(name => row[name]).join(","));
+  $("csv").download = `${view.route.name}.csv`;
+  offer($("csv"), [[SAVED.join(","), ...lines, ""].join("\n")], "text/csv");
+}
+
+whenSwitched.push(() => table && listRows());

@@ -1,0 +1,81 @@
+// Find by asset, value, class, key, referent or route.
+
+import { $, SIDES, attempt, linkTo, make, say } from "./parts.js";
+import { askHealth } from "./health.js";
+import { get, known } from "./requests.js";
+import { counted, metres } from "./numbers.js";
+import { aroundAsset } from "./view.js";
+import { writeAddress } from "./addresses.js";
+import { fieldsOf, recordsOf } from "./network.js";
+
+const MOST_FOUND = 200, MOST_SEARCHED = 100000;
+const upper = text => text.toUpperCase();
+
+// What each kind of search finds: a sentence and items.
+const KINDS = { asset: findAsset, value: findValue, class: findClass, key: findKey, ref: findRef, route: findRoute };
+
+export function search() {
+  const kind = $("kind").value, text = $("wanted").value.trim();
+  $("found").hidden = false;
+  $("results").replaceChildren();
+  say("find-said", "It is being sought.");
+  return attempt("find-said", async () => {
+    const edits = await askHealth(), { told, items } = await KINDS[kind](text, edits);
+    $("results").replaceChildren(...items.slice(0, MOST_FOUND));
+    say("find-said", items.length > MOST_FOUND ? `${told} The first ${MOST_FOUND} are shown.` : told);
+  });
+}
+
+function item(...parts) {
+  const made = make("li");
+  made.append(...parts);
+  return made;
+}
+
+function stretchItem({ route, from, to, side, asset, class: name, value }, length) {
+  const link = linkTo(writeAddress(aroundAsset(route, from, to, asset, length)), `${route}: ${metres(from)} to ${metres(to)} m, ${SIDES[side] || side}`);
+  return item(link, name ? ` ${name} ${value}, asset ${asset}` : "");
+}
+
+async function stretchItems(rows) {
+  const { routes } = await known("v1/routes"), lengths = new Map(routes.map(route => [route.name, route.length]));
+  return rows.map(row => stretchItem(row, lengths.get(row.route)));
+}
+
+async function findAsset(text) {
+  const { rows } = await known("v1/find", [["asset", text]]);
+  const told = rows.length ? `Asset ${text} holds ${rows.length === 1 ? "one stretch" : `${rows.length} stretches`}.` : `Asset ${text} is known, and lies on no route now.`;
+  return { told, items: await stretchItems(rows.map(row => ({ ...row, asset: text }))) };
+}
+
+async function findClass(text) {
+  const { rows } = await known("v1/rows", [["class", upper(text)]]);
+  return { told: `${upper(text)} has ${counted(rows.length, "row")}.`, items: await stretchItems(rows) };
+}
+
+async function findValue(text) {
+  const { lengths } = await known("v1/lengths"), names = lengths.filter(entry => entry.value === text).map(entry => entry.class);
+  const lists = await Promise.all(names.map(name => known("v1/rows", [["class", name]])));
+  const rows = lists.flatMap(list => list.rows).filter(row => row.value === text);
+  return { told: rows.length ? `${counted(rows.length, "row")} ${rows.length === 1 ? "has" : "have"} the value ${text}.` : `No row has the value ${text}.`, items: await stretchItems(rows) };
+}
+
+// The log is asked from some edit on, and looked through from its end.
+async function findKey(text, edits = 0) {
+  const first = Math.max(edits - MOST_SEARCHED + 1, 1);
+  const records = edits ? recordsOf(await known("v1/log", [["from", first]], get)) : [], at = records.findIndex(record => record.key === text);
+  if (at < 0) return { told: `No edit has the key ${text}${first > 1 ? `, of the last ${MOST_SEARCHED}` : ""}.`, items: [] };
+  return { told: `Key ${text} is edit ${first + at}.`, items: [item(`${records[at].verb} `, fieldsOf(records[at]))] };
+}
+
+async function findRef(text) {
+  const { refs } = await known("v1/refs"), found = refs.filter(entry => entry.ref.includes(upper(text)));
+  const link = ({ ref, route }) => linkTo(writeAddress({ route, place: { method: "rel", pos: `${ref}+0` } }), ref);
+  const items = found.map(entry => item(link(entry), ` on ${entry.route}, at ${metres(entry.chainage)} m`));
+  return { told: `${counted(found.length, "referent")} of this name or part of a name.`, items };
+}
+
+async function findRoute(text) {
+  const { routes } = await known("v1/routes"), found = routes.filter(route => route.name.includes(upper(text)));
+  return { told: `${counted(found.length, "route")} of this name or part of a name.`, items: found.map(({ name, length }) => item(linkTo(name, name), ` ${metres(length)} m`)) };
+}

@@ -1,0 +1,160 @@
+// Sheets: looked at, then sent, in parts where they are long, and the lines of their replies.
+
+import { $, attempt, make, offer, rowOf, say, tableOf } from "./parts.js";
+import { send } from "./requests.js";
+import { GO_ON, STATUSES, reason, sentence } from "./words.js";
+import { counted } from "./numbers.js";
+
+const MOST_LINES = 500, MOST_BYTES = 1000000, FIRST_RECORDS = 6, MOST_SHOWN = 2000;
+const PATHS = {
+  "key,verb,a,b,c,d,e,f,g,h,i": ["v1/edits", "an edit sheet"],
+  "key,asset,class,route,side,method,from,to,value,offset": ["v1/surveys", "a survey"],
+};
+
+// The places behind the records of a sheet: behind its line ends, but for those inside quotes.
+function* recordEnds(bytes) {
+  let quoted = false, fresh = true;
+  for (let at = 0; at < bytes.length; at++) {
+    const byte = bytes[at], ends = !quoted && (byte === 10 || (byte === 13 && bytes[at + 1] !== 10));
+    if (byte === 34 && (quoted || fresh)) quoted = !quoted, fresh = !quoted;
+    else fresh = !quoted && (byte === 44 || byte === 13 || byte === 10);
+    if (ends) yield at + 1;
+  }
+  yield bytes.length;
+}
+
+// The bodies in which a sheet is sent, each with the header.
+function bodiesOf(bytes) {
+  if (bytes.length <= MOST_BYTES) return [bytes];
+  let start = null, last = null, head = null;
+  const bodies = [], body = () => bodies.push(new Blob([head, bytes.subarray(start, last)]));
+  for (const end of recordEnds(bytes)) {
+    if (head === null) head = bytes.subarray(0, end), start = end;
+    else if (end - start + head.length > MOST_BYTES && last > start) body(), start = last;
+    last = end;
+  }
+  if (last > start) body();
+  return bodies;
+}
+
+// How many records a sheet has behind its header, and where the first of them end. Empty lines are none.
+function recordsIn(bytes) {
+  let count = -1, start = 0, shown = 0;
+  for (const end of recordEnds(bytes)) {
+    if (bytes.subarray(start, end).some(byte => byte !== 10 && byte !== 13)) count++;
+    if (count < FIRST_RECORDS) shown = end;
+    start = end;
+  }
+  return { count: Math.max(count, 0), first: new TextDecoder().decode(bytes.subarray(0, Math.min(shown, MOST_SHOWN))) };
+}
+
+function kindOf(bytes, name) {
+  const first = new TextDecoder().decode(bytes.subarray(0, 200)).split(/[\r\n]/)[0].replace(/["\s]/g, "");
+  if (PATHS[first]) return PATHS[first];
+  throw new Error(`${name} is no edit sheet and no survey: its first line is not the header of either. Nothing was sent.`);
+}
+
+// ---- looked at
+let ready = [], stopped;
+
+export async function lookAt(files) {
+  ready = [];
+  $("preview").hidden = true;
+  $("looked").replaceChildren();
+  say("sheet-said", "");
+  for (const file of files) {
+    const bytes = new Uint8Array(await file.arrayBuffer()), [path, kind] = kindOf(bytes, file.name), { count, first } = recordsIn(bytes);
+    const bodies = bodiesOf(bytes), parts = bodies.length > 1 ? `, in ${bodies.length} parts` : "";
+    ready.push({ name: file.name, path, bodies, at: 0, resumes: false });
+    $("looked").append(make("p", `${file.name}: ${kind} of ${counted(count, "record")}, ${bytes.length} bytes${parts}. It begins:`), make("pre", first, { tabIndex: 0 }));
+  }
+  $("preview").hidden = !ready.length;
+  $("send").focus();
+}
+
+export function forget() {
+  ready = [];
+  $("preview").hidden = true;
+  say("sheet-said", "Nothing was sent.");
+}
+
+// ---- replies
+const counts = {};
+let replied = [], notShown = 0;
+
+function startReplies() {
+  for (const word of ["done", "again", "refused", "fault"]) counts[word] = 0;
+  (replied = []), (notShown = 0), (stopped = undefined);
+  $("lines").replaceChildren(tableOf(["Key", "Reply", "Edit, or cause"], []));
+  $("replies").hidden = false;
+  $("lines").hidden = $("save").hidden = $("resume").hidden = true;
+  say("counts", "");
+}
+
+function showReplies(text) {
+  replied.push(text);
+  const body = $("lines").querySelector("tbody"), rows = [];
+  for (const line of text.split("\n")) {
+    const [key, word, more] = line.split(",");
+    if (!word) continue;
+    counts[word]++;
+    if (body.rows.length + rows.length < MOST_LINES * (word === "done" || word === "again" ? 1 : 2)) rows.push(replyRow(key, word, more));
+    else notShown++;
+  }
+  body.append(...rows);
+  $("lines").hidden = !body.rows.length;
+  const faults = counts.fault ? ", 1 fault" : "", rest = notShown ? ` ${notShown} lines more are not shown here: save them to see all.` : "";
+  say("counts", `${counts.done} done, ${counts.again} again, ${counts.refused} refused${faults}.${rest}`);
+  offer($("save"), replied, "text/csv");
+}
+
+function replyRow(key, word, more) {
+  const row = rowOf([key, word, word === "done" || word === "again" ? `edit ${more}` : sentence(more)]);
+  row.className = word;
+  row.cells[1].className = "word";
+  return row;
+}
+
+// ---- sent
+// Sends the parts of a sheet from one on. The program goes on by itself with a part whose reply was lost.
+async function sendParts(sheet, refresh) {
+  const { name, path, bodies } = sheet;
+  (stopped = undefined), ($("resume").hidden = true);
+  try {
+    for (; sheet.at < bodies.length; sheet.at++, sheet.resumes = false) {
+      say("sheet-said", `${name}: part ${sheet.at + 1} of ${bodies.length} is being sent.`);
+      await sendPart(path + (sheet.resumes ? "?resume=1" : ""), bodies[sheet.at]);
+    }
+    say("sheet-said", `${name} was sent to its end, in ${bodies.length === 1 ? "one part" : `${bodies.length} parts`}. Look at the lines: a record that is refused changes nothing.`);
+  } catch (error) {
+    if (error.message.endsWith(GO_ON)) (stopped = { ...sheet, resumes: true }), ($("resume").hidden = false);
+    throw error;
+  } finally {
+    await refresh();
+  }
+}
+
+async function sendPart(path, body) {
+  const settings = { method: "POST", headers: { "Content-Type": "text/csv" }, body };
+  const { status, text } = await send(path, settings).catch(error => { throw new Error(error.message + GO_ON); });
+  if (status === 200 || status === 422) showReplies(text);
+  if (status === 422) throw new Error(`${STATUSES[422]} The last line says why. The records before it are done. Mend the sheet, and send the header and the records behind the last one that was done.`);
+  if (status !== 200) throw new Error(reason(status, text) + ([500, 502, 503, 504].includes(status) ? GO_ON : " The sheet was not sent on."));
+}
+
+// One sheet after the other. Who leaves the page before they are sent is asked.
+let sheets = Promise.resolve(), waiting = 0;
+function enqueue(work) {
+  waiting++;
+  sheets = sheets.then(() => attempt("sheet-said", work)).then(() => waiting--);
+}
+
+export function sendReady(refresh) {
+  for (const sheet of ready) enqueue(() => (startReplies(), sendParts(sheet, refresh)));
+  ready = [];
+  $("preview").hidden = true;
+  $("sheet-said").scrollIntoView({ block: "nearest" });
+}
+
+export const goOn = refresh => enqueue(async () => stopped && sendParts(stopped, refresh));
+export const isSending = () => waiting > 0;

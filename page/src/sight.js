@@ -1,0 +1,91 @@
+// Long tables: only the rows in sight, and some around them, are made.
+
+import { make, rowOf } from "./parts.js";
+
+const SPARE = 10, MOST_PRINTED = 2000;
+const tables = [];
+let isPrinting = false;
+
+export class LongTable {
+  // A box that scrolls, the heads of the columns, and what makes the row of an item.
+  constructor(box, heads, makeRow) {
+    Object.assign(this, { box, makeRow, items: [], rows: new Map(), height: 30 });
+    this.table = make("table");
+    this.head = this.table.createTHead().insertRow();
+    this.head.append(...heads);
+    this.above = this.table.createTBody();
+    this.body = this.table.createTBody();
+    this.below = this.table.createTBody();
+    box.replaceChildren(this.table);
+    box.tabIndex = -1;
+    box.onscroll = () => this.draw();
+    box.addEventListener("keydown", event => this.step(event));
+    new ResizeObserver(() => this.draw()).observe(box);
+    tables.push(this);
+  }
+
+  // Whoever was at a row is at the row of the same name, or at the table.
+  show(items) {
+    const at = this.body.contains(document.activeElement) && document.activeElement.textContent;
+    this.items = items;
+    this.rows.clear();
+    this.body.replaceChildren();
+    this.box.scrollTop = 0;
+    this.table.setAttribute("aria-rowcount", items.length + 1);
+    this.draw();
+    if (at) ([...this.body.querySelectorAll("a")].find(link => link.textContent === at) || this.box).focus();
+  }
+
+  draw() {
+    const first = isPrinting ? 0 : Math.max(Math.floor(this.box.scrollTop / this.height) - SPARE, 0);
+    const last = Math.min(isPrinting ? MOST_PRINTED : first + Math.ceil(this.box.clientHeight / this.height) + 2 * SPARE, this.items.length);
+    for (const [at, row] of this.rows) if ((at < first || at >= last) && !row.contains(document.activeElement)) this.rows.delete(at), row.remove();
+    let behind = null;
+    for (let at = last - 1; at >= first; at--) {
+      const row = this.rows.get(at) || this.makeAt(at);
+      if (row.nextSibling !== behind || !row.isConnected) this.body.insertBefore(row, behind);
+      behind = row;
+    }
+    this.measure();
+    this.spread(this.above, first);
+    this.spread(this.below, isPrinting ? 0 : this.items.length - last);
+  }
+
+  makeAt(at) {
+    const row = this.makeRow(this.items[at]);
+    row.setAttribute("aria-rowindex", at + 2);
+    this.rows.set(at, row);
+    return row;
+  }
+
+  measure() {
+    const row = this.body.rows[0];
+    if (row && row.offsetHeight) this.height = row.offsetHeight;
+  }
+
+  // Room for the rows that are not made.
+  spread(part, count) {
+    if (!count) return part.replaceChildren();
+    const row = part.rows[0] || part.appendChild(rowOf([""]));
+    row.setAttribute("aria-hidden", "true");
+    row.cells[0].colSpan = this.head.cells.length;
+    row.cells[0].style.cssText = `height: ${count * this.height}px; padding: 0; border: 0`;
+  }
+
+  // The arrow keys go from row to row.
+  step(event) {
+    const by = { ArrowDown: 1, ArrowUp: -1 }[event.key], row = event.target.closest("tr");
+    if (!by || event.target.matches("input, select") || row?.parentNode !== this.body) return;
+    const next = by > 0 ? row.nextSibling : row.previousSibling, target = next && next.querySelector("a, button");
+    event.preventDefault();
+    if (target) target.focus();
+  }
+}
+
+function prints(now) {
+  isPrinting = now;
+  for (const table of tables) table.draw();
+}
+
+window.onbeforeprint = () => prints(true);
+window.onafterprint = () => prints(false);

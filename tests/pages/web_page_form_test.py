@@ -1,0 +1,251 @@
+"""The page as such: one file, whose parts are put together; who cannot see or point; dark, narrow, printed; and nginx before it."""
+
+import base64
+import re
+import shutil
+import subprocess
+import sys
+
+import pytest
+
+from browser import PATIENCE
+from program import HEADER, TOP, record, sheet_of
+from proxies import asked, posted
+from web_page import TABULATOR
+
+# ---- what is shown
+
+
+def test_the_page_is_one_file_and_fits_a_telephone(page):
+    browser = page.browser
+    text = (page.folder.parent / "index.html").read_text()
+    assert text == (TOP / "page" / "index.html").read_text()
+    assert not re.search(r"""\b(?:src|href)=["'](?!data:,"|#)|url\(|@import|innerHTML|insertAdjacent|document\.write""", text)
+    try:
+        page.emulates("setDeviceMetricsOverride", width=360, height=740, deviceScaleFactor=1, mobile=False)
+        fits = "return innerWidth === 360 && document.documentElement.scrollWidth <= 360"
+        page.opens()
+        browser.shows("#edits", "e5")
+        assert browser.runs(fits)
+        page.pictured("narrow_network")
+        page.opens_route("A1")
+        browser.types("#pos", "3000\ue007")
+        browser.shows("#hits", "SPEED")
+        assert page.finds("asset", "10") == "Asset 10 holds one stretch."
+        assert browser.runs(fits)
+        page.pictured("narrow")
+    finally:
+        page.emulates("clearDeviceMetricsOverride")
+
+
+PARTS = """[...svg.querySelectorAll('*')].filter(e => !e.dataset.count).map(e => e.localName + [...e.attributes]
+  .filter(a => !/^shade-/.test(a.value)).map(a => ' ' + a.name + '=' + a.value) + (e.children.length ? '' : e.textContent.trim()))"""
+
+
+def test_the_diagrams_of_the_program_are_shown_whole(page):
+    browser = page.browser
+    page.opens_route("A1")
+    shown = browser.runs(f"const svg = document.querySelector('#diagram svg'); return {PARTS}")
+    status, text = asked(page.port, "GET", "/v1/diagram?route=A1")
+    made = browser.runs(f"const svg = new DOMParser().parseFromString(arguments[0], 'image/svg+xml').documentElement; return {PARTS}", text.decode())
+    assert status == 200 and len(made) > 20 and shown == made
+
+
+TOP_OF_PICTURE = "<svg xmlns='http://www.w3.org/2000/svg' viewBox='0 0 12000 900' data-from='0' data-to='8000'>"
+HOSTILE = [
+    "<html></html>",
+    "",
+    "none",
+    TOP_OF_PICTURE,
+    TOP_OF_PICTURE[:-1] + " onload='window.hit = 1'></svg>",
+    *(
+        f"{TOP_OF_PICTURE}{part}</svg>"
+        for part in [
+            "<script>window.hit = 2</script>",
+            "<foreignObject><body xmlns='http://www.w3.org/1999/xhtml'><img src='none' onerror='window.hit = 3'/></body></foreignObject>",
+            "<a href='javascript:window.hit = 4'><text>a</text></a>",
+            "<use href='#a'/>",
+            "<image href='/none'/>",
+            "<iframe src='/none'/>",
+            "<animate attributeName='href' values='javascript:window.hit = 5'/>",
+            "<set attributeName='onclick' to='window.hit = 6'/>",
+            "<meta xmlns='http://www.w3.org/1999/xhtml' http-equiv='refresh' content='0; url=/none'/>",
+            "<style>@import '/none';</style>",
+            "<style>path { fill: url(none) }</style>",
+            "<path d='M0 0h9' style='fill: url(/none)'/>",
+            "<path d='M0 0h9' onclick='window.hit = 7'/>",
+            "<path d='M0 0h9' mask='url(/none#a)'/>",
+            "<path d=M0/>",
+            "<text>&lt;</text>",
+            "<text></g>",
+            "<!-- a -->",
+        ]
+    ),
+]
+
+
+def test_a_diagram_from_elsewhere_with_more_than_shapes_and_texts_is_not_shown(page):
+    browser = page.browser
+    page.opens_route("A1")
+    for text in HOSTILE:
+        assert browser.runs("try { putDiagram(arguments[0]); return '' } catch (error) { return error.message }", text) == "The diagram cannot be read.", text
+    assert browser.runs("return window.hit === undefined && location.pathname === '/' && document.querySelector('#diagram svg').dataset.route === 'A1'")
+    browser.runs("putDiagram(arguments[0])", f"{TOP_OF_PICTURE}<g class='t'><path d='M1000 0h9000'><title>1: b</title></path></g></svg>\n")
+    shown = browser.runs("return [...document.querySelectorAll('#diagram svg, #diagram svg *')].map(e => [e.localName, e.getAttributeNames().sort().join(' ')])")
+    assert shown == [["svg", "data-from data-to viewBox"], ["g", "class"], ["path", "d"], ["title", ""]]
+
+
+UNNAMED = """
+return [...document.querySelectorAll("input, select, button, a, [role=region], [role=group]")].filter(e =>
+  !(e.labels && e.labels.length) && !e.getAttribute("aria-label") && !e.getAttribute("aria-labelledby") && !e.textContent.trim()).map(e => e.outerHTML)
+"""
+REACHED = {"kind", "wanted", "refresh", "by", "from", "to", "in", "out", "back", "on", "whole", "diagram", "plain", "all", "none", "method", "pos", "row-filter", "csv"}
+
+
+def test_each_field_has_a_label_and_is_reached_by_keys(page):
+    browser = page.browser
+    page.opens_route("A1")
+    browser.shows("#rows-said", "3 of 3 rows")
+    assert browser.runs(UNNAMED) == []
+    assert browser.runs("return [document.documentElement.lang, document.querySelectorAll('main').length, document.querySelectorAll('h1').length]") == ["en", 1, 1]
+    reached = set()
+    for _ in range(80):
+        browser.presses(TABULATOR)
+        reached.add(browser.runs("return document.activeElement.id"))
+        assert browser.runs("const e = document.activeElement; return e === document.body || getComputedStyle(e).outlineStyle !== 'none'")
+    assert reached >= REACHED, REACHED - reached
+    # all that can be pressed is large enough
+    small = "return [...document.querySelectorAll('button, input, select, summary')].filter(e => e.offsetHeight && e.offsetHeight < 24).map(e => e.outerHTML)"
+    assert browser.runs(small) == []
+
+
+# The texts in sight whose colour differs too little from the ground below them.
+FAINT = """
+const parts = text => text.match(/[\\d.]+/g).map(Number);
+const light = ([r, g, b]) => { const f = c => (c /= 255) <= 0.03928 ? c / 12.92 : ((c + 0.055) / 1.055) ** 2.4; return 0.2126 * f(r) + 0.7152 * f(g) + 0.0722 * f(b); };
+const ground = e => { for (; e; e = e.parentElement) { const c = parts(getComputedStyle(e).backgroundColor); if (c.length < 4 || c[3] > 0) return c; } return [255, 255, 255]; };
+const ratio = e => { const [a, b] = [light(parts(getComputedStyle(e).color)), light(ground(e))].sort((x, y) => y - x); return (a + 0.05) / (b + 0.05); };
+const written = e => [...e.childNodes].some(n => n.nodeType === 3 && n.data.trim()) && e.getClientRects().length;
+return [...document.querySelectorAll('body *:not(svg *)')].filter(e => written(e) && ratio(e) < 4.5).map(e => [e.outerHTML.slice(0, 200), ratio(e)]);
+"""
+
+
+@pytest.mark.parametrize("scheme", ["light", "dark"])
+def test_texts_stand_out_in_each_scheme(page, scheme):
+    browser = page.browser
+    try:
+        page.emulates("setEmulatedMedia", features=[{"name": "prefers-color-scheme", "value": scheme}, {"name": "prefers-reduced-motion", "value": "reduce"}])
+        page.opens()
+        browser.shows("#edits", "e5")
+        assert browser.runs(FAINT) == []
+        page.pictured(f"{scheme}_network")
+        page.opens_route("A1")
+        browser.types("#pos", "9001\ue007")
+        browser.shows("#at-said", "Error: OffRoute")
+        page.sends(page.file("roads.csv", sheet_of("s1,link,1,5000", "q1,class,WIDTH,exclusive", "q2,enter,10,WIDTH,A1,B,abs,0,9000,7,0")))
+        browser.shows("#sheet-said", "to its end")
+        browser.shows("#classes", "WIDTH")
+        assert browser.runs(FAINT) == [] and browser.runs("return document.getAnimations().length") == 0
+        page.pictured(scheme)
+    finally:
+        page.emulates("setEmulatedMedia", features=[])
+
+
+def test_a_route_is_printed_without_what_is_pressed(page):
+    browser = page.browser
+    page.opens_route("A1")
+    browser.shows("#rows-said", "3 of 3 rows")
+    assert base64.b64decode(browser.send("POST", "/print", {})).startswith(b"%PDF")
+    try:
+        page.emulates("setEmulatedMedia", media="print")
+        left = browser.runs("return [...document.querySelectorAll('button, input, select')].filter(e => e.getClientRects().length && !e.closest('label, th')).map(e => e.outerHTML)")
+        assert left == [] and "SPEED" in browser.text("#rows") and browser.runs("return document.querySelector('#diagram svg').getBoundingClientRect().width > 300")
+    finally:
+        page.emulates("setEmulatedMedia", media="")
+
+
+# ---- how it is put together
+
+PAGE_FILE = "crates/lrs_cli_tasks/src/page_file/text.rt"
+
+
+def embed(folder, *words):
+    return subprocess.run([sys.executable, "-B", "tools/embed.py", *words], cwd=folder, capture_output=True, text=True, timeout=PATIENCE)
+
+
+def test_the_modules_the_page_and_the_text_of_the_program_are_one():
+    done = embed(TOP, "--check")
+    assert (done.returncode, done.stderr) == (0, "")
+
+
+FRAME = '<p title="#">\\ {} \u00e9\n<link rel="stylesheet" href="a.css">\n<link rel="stylesheet" href="b.css">\n<script type="module" src="main.js"></script>\n'
+SOURCES = {
+    "index.html": FRAME,
+    "a.css": "/* a comment */\np { margin: 0; }\n",
+    "b.css": "a,\nb { color: red; }\n",
+    "main.js": '// A comment.\nimport { one, two } from "./one.js";\n\nif (one) {\n  two(one);\n}\n',
+    "one.js": 'export const one = "1";\nexport function two(x) {\n  return `${x}`;\n}\n',
+}
+TOGETHER = (
+    '<p title="#">\\ {} \u00e9\n<style>\np{margin:0;}\na,b{color:red;}\n</style>\n'
+    '<script>\n"use strict";\nconst one = "1";function two(x) {return `${x}`;}\nif (one) {two(one);}\n</script>\n'
+)
+MISTAKES = [
+    ("main.js", 'import { none } from "./one.js";\nnone();\n', "main.js imports none, which one.js does not export"),
+    ("main.js", 'import { one } from "./one.js";\n', "main.js imports one and does not use it"),
+    ("main.js", 'import one from "./one.js";\n', "main.js has an import or export of another form"),
+    ("main.js", 'import { one } from "./one.js";\nlet three, two = one;\n', "main.js and one.js both declare two"),
+    ("main.js", "two();\n", "nothing imports one.js"),
+    ("main.js", 'import { one } from "./one.js";\none();\n', "nothing imports two"),
+    ("main.js", "f(); // a comment\n", "main.js has a comment behind code, or a text over several lines: f(); // a comment"),
+    ("main.js", "f(`\n`);\n", "main.js has a comment behind code, or a text over several lines: f(`"),
+    ("one.js", SOURCES["one.js"] + 'one("</script>");\n', "a module has an end of a tag"),
+    ("one.js", 'import { three } from "./main.js";\nexport const one = three, two = one;\n', "main.js imports itself, by one.js"),
+    ("index.html", FRAME + '"##\n', "line 11 of the page has the end of a raw text"),
+    ("index.html", FRAME + "\t\n", "a tabulator"),
+    ("index.html", FRAME + "a \n", "a blank at the end of a line"),
+]
+
+
+def test_the_parts_are_put_together_or_refused(tmp_path):
+    source, module = tmp_path / "page" / "src", tmp_path / PAGE_FILE
+    for folder in [source, tmp_path / "tools", module.parent]:
+        folder.mkdir(parents=True)
+    shutil.copy(TOP / "tools" / "embed.py", tmp_path / "tools")
+    for name, text in SOURCES.items():
+        (source / name).write_text(text)
+    assert embed(tmp_path, "--check").returncode == 1
+    assert embed(tmp_path).returncode == 0 and embed(tmp_path, "--check").returncode == 0
+    assert (tmp_path / "page" / "index.html").read_text() == TOGETHER
+    assert module.read_text().endswith(f'= r##"{TOGETHER}"##;\n')
+    for name, text, told in MISTAKES:
+        (source / name).write_text(text)
+        ended = embed(tmp_path)
+        assert ended.returncode == 1 and told in ended.stderr, (told, ended)
+        (source / name).write_text(SOURCES[name])
+    for path in [tmp_path / "page" / "index.html", module]:
+        path.write_text(path.read_text().replace("red", "blue"))
+        assert embed(tmp_path, "--check").returncode == 1
+        assert embed(tmp_path).returncode == 0
+
+
+def test_only_the_script_of_the_page_may_run(page):
+    page.opens()
+    page.browser.runs("const s = document.createElement('script'); s.textContent = 'window.hit = 1'; document.body.append(s)")
+    assert page.browser.runs("return window.hit === undefined")
+    assert any("Content Security Policy" in text for text in page.browser.complaints())
+
+
+# ---- nginx
+
+
+def test_nginx_passes_on_what_the_document_says(page):
+    assert asked(page.port, "GET", "/")[0] == 200
+    for path in ["/index.html", "/roads.db", "/nginx.conf", "/v2/totals", "/v1"]:
+        assert asked(page.port, "GET", path)[0] in [301, 404], path
+    assert posted(page.port, "edits", sheet_of("z1,link,9,5"), kind="text/plain")[0] == 415
+    assert posted(page.port, "edits", b"")[0] == 200
+    assert posted(page.port, "edits", HEADER + b"\n" * 1_048_576)[0] == 413
+    last = record("z2,link,10,5")
+    assert posted(page.port, "edits", HEADER + b"\n" * (1_048_576 - len(HEADER) - len(last)) + last) == (200, b"z2,done,167\n")
+    assert asked(page.port, "GET", "/v1/at?route=A1&method=rel&pos=KM2%2B500")[0] == 200
