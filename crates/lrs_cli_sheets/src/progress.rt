@@ -219,7 +219,7 @@ pub(crate) struct Progress<'a, W: Write + Drop, R: Eprint + Clock> {
 impl<'a, W: Write + Drop, R: Eprint + Clock> Progress<'a, W, R> {
     /// The writer behind.
     pub(crate) fn into_writer(self) -> W
-        ensures { result ≡ self.to }
+        ensures { result ≡ self.entry.to }
     {
         let Self { to, line: _ } = self;
         to
