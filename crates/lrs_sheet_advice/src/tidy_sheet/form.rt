@@ -107,7 +107,9 @@ fn form_behind(record: &SheetRecord<'_>, place: usize) -> CellForm
     requires behind { 2 ≤ place }
     ensures { result ≡ spec.form_at (edit_fields record.now) place }
 {
-    let slot = slot_of(verb_of(record), field_of(place));
+    let verb = verb_of(record);
+    let field = field_of(place);
+    let slot = slot_of(verb, field);
     form_of(record, slot)
 }
 

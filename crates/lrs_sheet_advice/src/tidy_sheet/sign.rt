@@ -88,10 +88,10 @@ pub(crate) fn mend_text(text: &[u8], mended: &mut Vec<u8>) -> Result<(), AllocEr
 /// thousands.
 pub(crate) fn without_noughts(text: &[u8]) -> &[u8] {
     match text.iter().position(|byte| *byte == b'.' || *byte == b',') {
-        Some(place) => match &text[place..] {
+        Some(place) if place > 0 => match &text[place..] {
             [_, b'0'] | [_, b'0', b'0'] => &text[..place],
             _ => text,
         },
-        None => text,
+        _ => text,
     }
 }
