@@ -12,7 +12,7 @@ use Rattle.lrs_sheet_records.specs.Verbs.{shapes_of}
 use Rattle.lrs_sheet_records.specs.declared.sheet.Sheet.{Sheet}
 use Rattle.lrs_sheet_advice.specs.AdviceLines.{is_printable}
 use Rattle.lrs_sheet_advice.specs.declared.tidy_sheet.cell.CellForm.{CellForm}
-use Rattle.lrs_sheet_advice.specs.declared.tidy_sheet.cell.CellForm.TheVariants as form
+use Rattle.lrs_sheet_advice.specs.declared.tidy_sheet.cell.CellForm.TheVariants as cell
 
 -- ---- one field
 
@@ -56,10 +56,10 @@ is_ratio text = list_all is_ratio_byte text && (slashes text == 1)
 
 -- The text of a field is what spreadsheets make of it: a whole number with a comma, or with a group of three digits or noughts behind a point; where a proportion is wanted, whatever else has a digit, as a date; a list or a distance with a comma or a point.
 abbrev pub is_doubtful : CellForm → Text → Bool
-is_doubtful form.Digits text = list_any is_comma text || has_group text || has_noughts text
-is_doubtful form.Ratio text = list_any is_digit text && not (is_ratio text)
-is_doubtful form.Listed text = list_any is_point text
-is_doubtful form.Words text = false
+is_doubtful cell.Digits text = list_any is_comma text || has_group text || has_noughts text
+is_doubtful cell.Ratio text = list_any is_digit text && not (is_ratio text)
+is_doubtful cell.Listed text = list_any is_point text
+is_doubtful cell.Words text = false
 
 -- The text of a field is as sheets have it, and can be read in one way.
 abbrev pub is_tidy : CellForm → Text → Bool
@@ -69,24 +69,24 @@ is_tidy form text = is_plain text && not (is_doubtful form text)
 
 -- the form of a position by the method of this name
 abbrev pub form_by : Text → CellForm
-form_by name = if bytes_eq name (codes "abs") then form.Digits else (if bytes_eq name (codes "int") then form.Ratio else (if bytes_eq name (codes "rel") then form.Listed else form.Words))
+form_by name = if bytes_eq name (codes "abs") then cell.Digits else (if bytes_eq name (codes "int") then cell.Ratio else (if bytes_eq name (codes "rel") then cell.Listed else cell.Words))
 
 -- the form of a field that says something of this shape
 abbrev pub form_of_shape : List Text → Shape → CellForm
-form_of_shape fields (Whole low high) = form.Digits
+form_of_shape fields (Whole low high) = cell.Digits
 form_of_shape fields (PositionBy field) = form_by (texts_of fields field)
-form_of_shape fields Pieces = form.Listed
-form_of_shape fields Marks = form.Listed
+form_of_shape fields Pieces = cell.Listed
+form_of_shape fields Marks = cell.Listed
 form_of_shape fields (OrNothing shape) = form_of_shape fields shape
-form_of_shape fields other = form.Words
+form_of_shape fields other = cell.Words
 
 -- the same, where a shape is wanted at all
 abbrev pub form_of : List Text → Option Shape → CellForm
-form_of fields wanted = option_map_or (form_of_shape fields) wanted form.Words
+form_of fields wanted = option_map_or (form_of_shape fields) wanted cell.Words
 
 -- the form of the field at a place of a record of an edit sheet, by its verb
 abbrev pub form_at : List Text → ℕ → CellForm
-form_at fields place = if nat_lt place 2 then form.Words else form_of fields (slice_get (shapes_of (text_at fields 1)) (place - 2))
+form_at fields place = if nat_lt place 2 then cell.Words else form_of fields (slice_get (shapes_of (text_at fields 1)) (place - 2))
 
 -- each field of a record of an edit sheet is tidy
 abbrev pub AreTidyFields : List Text → Type 0
