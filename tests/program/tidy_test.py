@@ -183,7 +183,10 @@ def test_a_right_sheet_is_left_byte_for_byte(text):
     ends(tidied(text.encode()), text.encode(), 0)
 
 
-@pytest.mark.parametrize("path", sorted((TOP / "examples").glob("*.csv")), ids=lambda path: path.name)
+EXAMPLES = sorted((TOP / "examples").glob("*.csv"))
+
+
+@pytest.mark.parametrize("path", EXAMPLES, ids=lambda path: path.name)
 def test_each_sheet_of_the_examples_is_left_byte_for_byte(path):
     options = ["--survey"] if path.name.startswith("survey") else []
     ends(run("tidy", str(path), *options), path.read_bytes(), 0)
@@ -198,7 +201,7 @@ def test_the_log_is_left_byte_for_byte(tmp_path):
 
 def test_what_was_taken_from_a_spreadsheet_makes_the_same_inventory(tmp_path):
     """The sheets of the examples, as a German spreadsheet saves them, are the examples again."""
-    for path in sorted((TOP / "examples").glob("*.csv")):
+    for path in EXAMPLES:
         options = ["--survey"] if path.name.startswith("survey") else []
         saved = tmp_path / path.name
         saved.write_bytes(path.read_text().replace(",", ";").replace("\n", "\r\n").encode())
@@ -221,18 +224,19 @@ DATE = "may be a date that was made of a proportion; "
 LINES = {"edits": [], "survey": ["--survey"]}
 
 
-@pytest.mark.parametrize("text", ["1.234", "1,5", "1.5", "1,234", "5000.000", "1.234,0", "1,234.0"])
+@pytest.mark.parametrize("text", ["1.234", "1,5", "1,234", "5000.000", "1.234.567", "1.234,0", "1,234.0"])
 def test_a_number_that_could_be_read_in_two_ways(text):
     given = semicolons(text_of(LINK)) + f"s2;link;2;{text}" + ";" * 7 + "\n"
     said = named("line 3, column D (b)", text, TWO + LENGTH) + "\nnothing is written\n"
     ends(tidied(given.encode()), b"", 1, said.encode())
 
 
-@pytest.mark.parametrize("text", ["1 234", "5000 mm", "1E+05", "-5", "1'234", "x"])
-def test_a_number_that_is_none(text):
-    given = text_of(padded(f"s2,link,2,{text}"))
-    said = named("line 2, column D (b)", text, "is not read as one whole number; " + LENGTH) + "\nnothing is written\n"
-    ends(tidied(given.encode()), b"", 1, said.encode())
+@pytest.mark.parametrize("text", ["1.5", "12.25", "1 234", "5000 mm", "1E+05", "-5", "1'234", ".5", "x"])
+def test_what_is_no_whole_number_and_can_be_read_in_one_way_is_left(text):
+    """An edit refuses the record, and says why."""
+    sheet = text_of(LINK, padded(f"s2,link,2,{text}"))
+    ends(tidied(sheet.encode()), sheet.encode(), 0)
+    is_tidied(tidied(semicolons(sheet).encode()), sheet, [SEMICOLONS])
 
 
 @pytest.mark.parametrize("text", ["1/3/2025", "03.01.2026", "Jan 3", "01. Mrz", "2026-01-03", "45660", "3", "0.333"])
@@ -250,12 +254,12 @@ def test_a_distance_with_a_point():
 
 def test_each_doubt_is_named_and_no_change():
     """With the line and the column of the text that was given."""
-    given = text_of("1500,1/3,,int,1.5,SIGN,A1,R,M\u00fcller,q1", "1.5,03.01.2026,,int, 2,SIGN,A1,R,STOP,q2", header="offset,from,to,method,asset,class,route,side,value,key")
+    given = text_of("1500,1/3,,int,1.500,SIGN,A1,R,M\u00fcller,q1", "1.500,03.01.2026,,int, 2,SIGN,A1,R,STOP,q2", header="offset,from,to,method,asset,class,route,side,value,key")
     said = [
-        'line 2, column E (asset): "1.5" can be read in two ways; a whole number from 1 to 1000000000000 is wanted',
+        'line 2, column E (asset): "1.500" can be read in two ways; a whole number from 1 to 1000000000000 is wanted',
         'line 2, column I (value): "M\\xc3\\xbcller" has a character that no sheet takes; 1 to 12 of A-Z, a-z, 0-9, ., _ and - are wanted, and not - alone',
         f'line 3, column B (from): "03.01.2026" {DATE}{PART}',
-        'line 3, column A (offset): "1.5" can be read in two ways; a whole number of millimetres from 0 to 100000 is wanted',
+        'line 3, column A (offset): "1.500" can be read in two ways; a whole number of millimetres from 0 to 100000 is wanted',
         "nothing is written",
     ]
     ends(tidied(given.encode(), "--survey"), b"", 1, "".join(line + "\n" for line in said).encode())
@@ -291,8 +295,8 @@ def test_texts_in_another_code():
 
 
 def test_lines_are_counted_over_cells_of_several_lines():
-    given = text_of(padded('s2,route,A1,1:0:5000:+,"0:0\n5000:5000"'), padded("s3,link,3,1.5"))
-    is_refused(given.encode(), f'line 4, column D (b): "1.5" {TWO}{LENGTH}')
+    given = text_of(padded('s2,route,A1,1:0:5000:+,"0:0\n5000:5000"'), padded("s3,link,3,1.500"))
+    is_refused(given.encode(), f'line 4, column D (b): "1.500" {TWO}{LENGTH}')
 
 
 @pytest.mark.parametrize("given", [b"\x00" * 1000, b"PK\x03\x04\x14\x00\xff", b'"' * 999, b"," * 5000, b"\xfe\xff"])

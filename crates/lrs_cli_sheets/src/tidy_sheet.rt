@@ -47,14 +47,18 @@ fn tidy_bytes<R: Runtime<A = Global>, W: Write + Drop>(
 {
     let mut tidied = Vec::new(rt.alloc());
     let mut said = Vec::new(rt.alloc());
-    let outcome = tidy(rt.alloc(), kind, bytes, &mut tidied, &mut said);
-    tell(rt, said.as_slice());
-    match outcome {
-        Ok(true) => match write_tidied(tidied.as_slice(), to) {
-            Ok(to) => Ok((to, Ending::Done)),
-            Err(fault) => Err(fault),
-        },
-        Ok(false) => Ok((to, Ending::RecordsRefused)),
+    match tidy(rt.alloc(), kind, bytes, &mut tidied, &mut said) {
+        Ok(true) => {
+            tell(rt, said.as_slice());
+            match write_tidied(tidied.as_slice(), to) {
+                Ok(to) => Ok((to, Ending::Done)),
+                Err(fault) => Err(fault),
+            }
+        }
+        Ok(false) => {
+            tell(rt, said.as_slice());
+            Ok((to, Ending::RecordsRefused))
+        }
         Err(TidyFault::Memory) => Ok((to, Ending::Stopped(ProgramFault::Memory))),
         Err(TidyFault::Read) => Ok((to, Ending::Stopped(ProgramFault::Read))),
     }

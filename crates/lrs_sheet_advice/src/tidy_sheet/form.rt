@@ -43,10 +43,10 @@ fn verb_named(name: &[u8]) -> Option<Verb>
 }
 
 /// The verb of a record.
-pub(crate) fn verb_of(record: &SheetRecord<'_>) -> Option<Verb>
-    ensures { shapes_behind result ≡ shapes_of (records.text_at (edit_fields record.now) 1) }
+pub(crate) fn verb_of(row: &SheetRecord<'_>) -> Option<Verb>
+    ensures { shapes_behind result ≡ shapes_of (records.text_at (edit_fields row.now) 1) }
 {
-    verb_named(text_at(record, 1))
+    verb_named(text_at(row, 1))
 }
 
 fn is_text(text: &[u8], word: &[u8]) -> bool
@@ -71,8 +71,8 @@ fn form_by(name: &[u8]) -> CellForm
 }
 
 /// The form of a field of a record that is for this.
-fn form_of(record: &SheetRecord<'_>, slot: Slot) -> CellForm
-    ensures { result ≡ spec.form_of (edit_fields record.now) (shape_of slot) }
+fn form_of(row: &SheetRecord<'_>, slot: Slot) -> CellForm
+    ensures { result ≡ spec.form_of (edit_fields row.now) (shape_of slot) }
 {
     match slot {
         Slot::LinkNumber
@@ -84,7 +84,7 @@ fn form_of(record: &SheetRecord<'_>, slot: Slot) -> CellForm
         | Slot::ChainageEnd => CellForm::Digits,
         Slot::Pieces | Slot::SomePieces | Slot::Marks => CellForm::Listed,
         Slot::At(field) | Slot::From(field) | Slot::To(field) => {
-            form_by(text_at(record, place_of(field)))
+            form_by(text_at(row, place_of(field)))
         }
         Slot::Key
         | Slot::VerbName
@@ -102,33 +102,35 @@ fn form_of(record: &SheetRecord<'_>, slot: Slot) -> CellForm
 }
 
 /// The form of the field at a place behind the verb.
-fn form_behind(record: &SheetRecord<'_>, place: usize) -> CellForm
+fn form_behind(row: &SheetRecord<'_>, place: usize) -> CellForm
     requires within { place < 11 }
     requires behind { 2 ≤ place }
-    ensures { result ≡ spec.form_at (edit_fields record.now) place }
+    ensures { result ≡ spec.form_at (edit_fields row.now) place }
 {
-    let slot = slot_of(verb_of(record), field_of(place));
-    form_of(record, slot)
+    let verb = verb_of(row);
+    let field = field_of(place);
+    let slot = slot_of(verb, field);
+    form_of(row, slot)
 }
 
 /// The form of the field at a place of a record, as an edit sheet has it.
-pub(crate) fn form_at(record: &SheetRecord<'_>, place: usize) -> CellForm
+pub(crate) fn form_at(row: &SheetRecord<'_>, place: usize) -> CellForm
     requires { place < 11 }
-    ensures { result ≡ spec.form_at (edit_fields record.now) place }
+    ensures { result ≡ spec.form_at (edit_fields row.now) place }
 {
     if place < 2 {
         CellForm::Words
     } else {
-        form_behind(record, place)
+        form_behind(row, place)
     }
 }
 
 /// Whether each field of a record is tidy.
-fn are_tidy_fields(record: &SheetRecord<'_>) -> bool
-    ensures { IsTrue result ↔ spec.AreTidyFields (edit_fields record.now) }
+fn are_tidy_fields(row: &SheetRecord<'_>) -> bool
+    ensures { IsTrue result ↔ spec.AreTidyFields (edit_fields row.now) }
 {
     for place in 0..11 {
-        if !is_tidy(form_at(record, place), text_at(record, place)) {
+        if !is_tidy(form_at(row, place), text_at(row, place)) {
             return false;
         }
     }
@@ -139,11 +141,11 @@ fn are_tidy_fields(record: &SheetRecord<'_>) -> bool
 pub(crate) fn row_text(row: &ByteRecord, place: usize) -> &[u8]
     ensures { result.now ≡ records.text_at (fields_of row.now) place }
 {
-    let record = SheetRecord {
+    let whole = SheetRecord {
         fields: row,
         sheet: Sheet::Edits,
     };
-    text_at(&record, place)
+    text_at(&whole, place)
 }
 
 /// Whether all fields of a row are empty.
@@ -159,11 +161,11 @@ pub(crate) fn is_blank(row: &ByteRecord) -> bool
 }
 
 /// Whether a record has something in it, and each of its fields is tidy.
-pub(crate) fn is_tidy_record(record: &SheetRecord<'_>) -> bool
-    ensures { IsTrue result ↔ spec.IsTidyRecord record.now.sheet (fields_of record.now.fields.now) }
+pub(crate) fn is_tidy_record(row: &SheetRecord<'_>) -> bool
+    ensures { IsTrue result ↔ spec.IsTidyRecord row.now.sheet (fields_of row.now.fields.now) }
 {
-    if is_blank(record.fields) {
+    if is_blank(row.fields) {
         return false;
     }
-    are_tidy_fields(record)
+    are_tidy_fields(row)
 }

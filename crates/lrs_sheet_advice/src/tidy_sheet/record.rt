@@ -5,7 +5,7 @@ ghost use Rattle.std.specs.Prelude.{◌<◌};
 use crate::column::column_of;
 use crate::line::AdviceLine;
 use crate::slot::{Slot, slot_of};
-use crate::tidy_sheet::cell::{CellForm, is_tidy};
+use crate::tidy_sheet::cell::{CellForm, is_plain, is_tidy};
 use crate::tidy_sheet::columns::{Columns, say_letter, say_line};
 use crate::tidy_sheet::form::{field_of, form_at, is_blank, row_text, verb_of};
 use crate::tidy_sheet::notes::Notes;
@@ -104,18 +104,12 @@ fn method_of(record: &SheetRecord<'_>, slot: Slot) -> Option<Method> {
     }
 }
 
-fn has_point(text: &[u8]) -> bool {
-    text.contains(&b'.') || text.contains(&b',')
-}
-
 /// Why a text is left as it is.
 fn doubt_words(form: CellForm, text: &[u8]) -> &'static str {
     match form {
-        CellForm::Digits if has_point(text) => " can be read in two ways; ",
-        CellForm::Digits => " is not read as one whole number; ",
+        _ if !is_plain(text) => " has a character that no sheet takes; ",
         CellForm::Ratio => " may be a date that was made of a proportion; ",
-        CellForm::Listed if has_point(text) => " can be read in two ways; ",
-        CellForm::Listed | CellForm::Words => " has a character that no sheet takes; ",
+        CellForm::Digits | CellForm::Listed | CellForm::Words => " can be read in two ways; ",
     }
 }
 

@@ -1,5 +1,6 @@
 //! The signs that spreadsheets put into a field, and the text of the field without them.
 
+use crate::tidy_sheet::cell::are_digits;
 use std::alloc::AllocError;
 
 /// What stands at the front of a text.
@@ -88,10 +89,10 @@ pub(crate) fn mend_text(text: &[u8], mended: &mut Vec<u8>) -> Result<(), AllocEr
 /// thousands.
 pub(crate) fn without_noughts(text: &[u8]) -> &[u8] {
     match text.iter().position(|byte| *byte == b'.' || *byte == b',') {
-        Some(place) => match &text[place..] {
+        Some(place) if place > 0 && are_digits(&text[..place]) => match &text[place..] {
             [_, b'0'] | [_, b'0', b'0'] => &text[..place],
             _ => text,
         },
-        None => text,
+        _ => text,
     }
 }
