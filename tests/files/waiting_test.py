@@ -148,21 +148,6 @@ def test_who_serves_the_file_is_named_with_its_port():
         assert f"process {server.child.pid}" in said and f"http://127.0.0.1:{server.port}/v1/totals" in said, said
 
 
-def test_a_question_that_has_read_the_file_holds_nobody_up():
-    with folder() as path:
-        make(path)
-        asking = subprocess.Popen([PROGRAM, "check", path, "stdin"], stdin=subprocess.PIPE, stdout=subprocess.PIPE, stderr=subprocess.DEVNULL)
-        try:
-            asking.stdin.write(HEADER + record("n1,link,9,5"))
-            asking.stdin.flush()
-            assert asking.stdout.readline() == b"n1,done,8\n"
-            ends(run("edit", str(path), "stdin", "--wait", "0", given=sheet_of("z1,link,8,5")), b"z1,done,8\n", 0)
-            assert asking.communicate(record("n2,link,8,5"), timeout=PATIENCE)[0] == b"n2,done,9\n"
-        finally:
-            asking.kill()
-            asking.wait()
-
-
 # ---- many readers and a writer
 
 BURST = 10

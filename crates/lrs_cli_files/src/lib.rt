@@ -2,12 +2,10 @@
 #![tactic(auto)]
 
 mod keeper;
-mod looked;
 mod place;
 mod stored;
 mod system;
 
 pub use keeper::FileKeeper;
-pub use looked::FileQuestions;
 pub use stored::StoredFiles;
 pub use system::SystemFiles;

@@ -51,7 +51,7 @@ fn has_word(option: &str, words: &[&str]) -> bool
 pub fn options_of(words: &[&str], wait: u64) -> Options
     ensures existing { result.existing ≡ list_any (λ w. is_option existing w.now) words.now }
     ensures explain { result.explain ≡ list_any (λ w. is_option explain w.now) words.now }
-    ensures wait { result.wait ≡ wait }
+    ensures waits { result.wait ≡ wait }
 {
     Options {
         existing: has_word("--existing", words),
@@ -110,7 +110,7 @@ pub fn read_words<'a>(alloc: Global, given: &[&'a str]) -> Result<GivenWords<'a>
 
 /// How many seconds a job waits, by what `--wait` is given; none where that is no such number.
 pub fn wait_of(given: Option<&[u8]>) -> Option<u64>
-    ensures { spec.IsWait (option_map (λ text. text.now) given) result }
+    ensures { spec.IsWait (option_map (λ text. text.now) given.entry) result }
 {
     match given {
         Some(text) => read_digits(text, LONGEST_WAIT),

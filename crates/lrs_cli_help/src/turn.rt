@@ -21,7 +21,8 @@ const GATE: LockedBytes = (FIRST_LOCKED + COUNT_LOCKED, 1);
 
 const OF_DATABASE: LockedBytes = (FIRST_LOCKED, COUNT_LOCKED);
 
-// On the index of a log, as SQLite has it: to copy the log into the database, and the last one of its readers.
+// On the index of a log, as SQLite has it: to copy the log into the database, and the last of those by which readers keep
+// a log from being begun anew. Who has them shared lets others append to the log, and read.
 const OF_COPYING: LockedBytes = (121, 1);
 
 const OF_READERS: LockedBytes = (127, 1);
@@ -78,10 +79,12 @@ impl Patience {
     }
 }
 
-/// A turn at a file. It has the gate until it ends.
+/// A turn at a file. Until it ends it has the gate, and, of a file that is only read, the locks on the index of a log of
+/// SQLite's, if there is one.
 #[derive(Drop)]
 pub struct Turn {
     gate: Option<fs::File>,
+    index: Option<fs::File>,
 }
 
 impl Turn {
@@ -134,21 +137,25 @@ fn open_to_lock(rt: &HostRuntime, path: &str, purpose: Purpose) -> Option<fs::Fi
     Some(file)
 }
 
-// Whether somebody copies the log of a database into it, or begins it anew, as SQLite does.
-fn is_copied(rt: &HostRuntime, path: &str) -> Option<bool> {
+// The index of a log beside a database that is only read, where there is one.
+fn open_index(rt: &HostRuntime, path: &str, purpose: Purpose) -> Option<fs::File> {
+    if purpose == Purpose::Change {
+        return None;
+    }
     let real = fs::canonicalize(rt, path).ok()?;
     let index_path = format!(in rt.alloc(); "{}-shm", real.as_str()).ok()?;
-    let index = open_to_lock(rt, index_path.as_str(), Purpose::Look)?;
-    Some(
-        is_kept_out(&index, RangeLock::Shared, OF_COPYING)
-            || is_kept_out(&index, RangeLock::Shared, OF_READERS),
-    )
+    open_to_lock(rt, index_path.as_str(), Purpose::Look)
 }
 
-// Whether a lock of another is in the way of an opening.
-fn is_taken(rt: &HostRuntime, path: &str, file: &fs::File, purpose: Purpose) -> bool {
-    would_be_kept_out(file, kind_for(purpose), OF_DATABASE)
-        || purpose == Purpose::Look && is_copied(rt, path) == Some(true)
+// Whether somebody copies a log into its database, or begins it anew; where nobody does, nobody can from now on.
+fn is_copied(index: &Option<fs::File>) -> bool {
+    match index {
+        Some(index) => {
+            is_kept_out(index, RangeLock::Shared, OF_COPYING)
+                || is_kept_out(index, RangeLock::Shared, OF_READERS)
+        }
+        None => false,
+    }
 }
 
 // Says on a terminal what is waited for.
@@ -168,15 +175,17 @@ fn wait_at(
     rt: &HostRuntime,
     path: &str,
     file: &fs::File,
+    index: &Option<fs::File>,
     purpose: Purpose,
     patience: Patience,
 ) -> bool {
+    let kind = kind_for(purpose);
     let (mut is_at_gate, mut is_told) = (false, false);
     let mut pause = SHORTEST_PAUSE;
     for _turn in 0..u64::MAX {
-        is_at_gate = is_at_gate || !is_kept_out(file, kind_for(purpose), GATE);
-        let is_over = is_at_gate && !is_taken(rt, path, file, purpose);
-        if is_over || patience.is_over(rt) {
+        is_at_gate = is_at_gate || !is_kept_out(file, kind, GATE);
+        let is_free = is_at_gate && !would_be_kept_out(file, kind, OF_DATABASE);
+        if is_free && !is_copied(index) || patience.is_over(rt) {
             return is_told;
         }
         if patience.tells
@@ -192,6 +201,14 @@ fn wait_at(
     is_told
 }
 
+// A turn where there is no file.
+fn no_turn() -> Turn {
+    Turn {
+        gate: None,
+        index: None,
+    }
+}
+
 // Whether a path still names a file.
 fn is_named(rt: &HostRuntime, path: &str, file: &fs::File) -> bool {
     match (fs::metadata(rt, path), file.metadata()) {
@@ -205,15 +222,19 @@ fn is_named(rt: &HostRuntime, path: &str, file: &fs::File) -> bool {
 pub fn take_turn(rt: &HostRuntime, path: &str, purpose: Purpose, patience: Patience) -> Turn {
     for _turn in 0..u64::MAX {
         let Some(file) = open_to_lock(rt, path, purpose) else {
-            return Turn { gate: None };
+            return no_turn();
         };
-        if wait_at(rt, path, &file, purpose, patience) {
+        let index = open_index(rt, path, purpose);
+        if wait_at(rt, path, &file, &index, purpose, patience) {
             let _ = eprint!(rt; "\r\x1b[K");
         }
         // who had the file may have taken it away
         if is_named(rt, path, &file) || patience.is_over(rt) {
-            return Turn { gate: Some(file) };
+            return Turn {
+                gate: Some(file),
+                index,
+            };
         }
     }
-    Turn { gate: None }
+    no_turn()
 }
