@@ -46,9 +46,9 @@ either_row row others name false e other below = below
 
 -- under a name that no row has stands nothing
 unnamed : (rows : List Row) (name : Text) → (Contains (map (λ (r : Row). r.name) rows) name → ⊥) → [] ≡ shapes_in rows name
-unnamed [] name no = refl
-unnamed (row ∷ others) name no =
-    either_row row others name (bytes_eq row.name name) refl (λ same. no (first_name row others name same)) (unnamed others name (λ there. no (later_name row others name there)))
+unnamed [] name none = refl
+unnamed (row ∷ others) name none =
+    either_row row others name (bytes_eq row.name name) refl (λ same. none (first_name row others name same)) (unnamed others name (λ there. none (later_name row others name there)))
 
 -- what the fields behind a verb say is what stands under its name
 pub shapes_under : (name : Text) (found : Option Verb) → IfSome found (λ v. name ≡ (row_of v).name) → IfNone found (IsVerb name → ⊥) → shapes_behind found ≡ shapes_of name

@@ -165,10 +165,10 @@ told_other kind rem rows next (Some input) fields start gave other = (λ e. cc e
 -- ---- what a text becomes
 
 pub tidied_same : (kind : Sheet) (text tidied : Text) (is : Bool) → is ≡ true → (IsTrue is ↔ IsTidySheet kind text) → tidied ≡ text → IsTidied kind text tidied
-tidied_same kind text tidied is yes tells same = record { tidy = subst (IsTidySheet kind) (sym same) (tells.0 yes); same = λ sheet. same }
+tidied_same kind text tidied is holds tells same = record { tidy = subst (IsTidySheet kind) (sym same) (tells.0 holds); same = λ sheet. same }
 
 pub untidy : (kind : Sheet) (text : Text) (was : Bool) → was ≡ false → (IsTrue was ↔ IsTidySheet kind text) → IsUntidy kind text
-untidy kind text was no tells sheet = let both : false ≡ true = sym no ∙ tells.1 sheet in cc both
+untidy kind text was fails tells sheet = let both : false ≡ true = sym fails ∙ tells.1 sheet in cc both
 
 pub tidied_other : (kind : Sheet) (text tidied : Text) (was is : Bool) → was ≡ false → (IsTrue was ↔ IsTidySheet kind text) → is ≡ true → (IsTrue is ↔ IsTidySheet kind tidied) → IsTidied kind text tidied
-tidied_other kind text tidied was is no tells yes tells_now = record { tidy = tells_now.0 yes; same = λ sheet. absurd (untidy kind text was no tells sheet) }
+tidied_other kind text tidied was is fails tells holds tells_now = record { tidy = tells_now.0 holds; same = λ sheet. absurd (untidy kind text was fails tells sheet) }
