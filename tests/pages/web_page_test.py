@@ -9,7 +9,7 @@ from program import ends, run, sheet_of
 from proxies import asked, posted
 from serving import HOST
 from stores import edit
-from web_page import DOWN, ENTER, RIGHT, TABULATOR, service
+from web_page import DOWN, ENTER, RIGHT, TABULATOR, browser, page, service
 
 # ---- one: the network
 
@@ -486,9 +486,12 @@ def test_the_rows_are_those_of_the_stretch(page):
     browser.shows("#rows-said", "1 of 1 row of this stretch.")
     browser.clicks("#whole")
     browser.shows("#rows-said", "3 of 3 rows of this stretch.")
-    # the number of an asset marks it
-    browser.clicks("#rows a")
+    # the number of an asset marks it, and whoever pressed it is still there
+    browser.runs("document.querySelector('#rows a').focus()")
+    browser.presses(ENTER)
     browser.waits_for("a mark", lambda browser: browser.runs("return document.querySelectorAll('[data-mark=\"asset 11\"] rect').length") == 1)
+    browser.shows("#rows-said", "3 of 3 rows")
+    assert browser.runs("return [document.activeElement.textContent, document.activeElement.getAttribute('aria-current')]") == ["11", "true"]
 
 
 def test_twenty_thousand_rows_of_a_route(browser, tmp_path):
