@@ -7,7 +7,7 @@ pub static PAGE: &str = r##"<!doctype html>
 <meta charset="utf-8">
 <meta name="viewport" content="width=device-width, initial-scale=1">
 <meta name="color-scheme" content="light dark">
-<meta http-equiv="Content-Security-Policy" content="default-src 'none'; style-src 'unsafe-inline'; script-src 'sha256-eI5LAuOC9BnS+Gu2Y4hdeGdN6ExNZf6QZ1lZlKbfc6U='; img-src data:; connect-src 'self'; form-action 'none'; base-uri 'none'">
+<meta http-equiv="Content-Security-Policy" content="default-src 'none'; style-src 'unsafe-inline'; script-src 'sha256-/YZ4K/Lni/CDEl5ro5kzflZvXN+z6FvqwO7NdxKRX24='; img-src data:; connect-src 'self'; form-action 'none'; base-uri 'none'">
 <title>Road inventory</title>
 <link rel="icon" href="data:,">
 <style>
@@ -171,7 +171,7 @@ const SPARE = 10, MOST_PRINTED = 2000;const tables = [];let isPrinting = false;c
 this.head = this.table.createTHead().insertRow();this.head.append(...heads);this.above = this.table.createTBody();this.body = this.table.createTBody();this.below = this.table.createTBody();box.replaceChildren(this.table);box.tabIndex = -1;
 box.onscroll = () => this.draw();box.addEventListener("keydown", event => this.step(event));new ResizeObserver(() => this.draw()).observe(box);tables.push(this);}
 show(items) {const at = this.body.contains(document.activeElement) && document.activeElement.textContent;this.items = items;this.rows.clear();this.body.replaceChildren();this.box.scrollTop = 0;
-this.table.setAttribute("aria-rowcount", items.length + 1);this.draw();if (at) ([...this.body.querySelectorAll("a")].find(link => link.textContent === at) || this.box).focus();}
+this.table.setAttribute("aria-rowcount", items.length + 1);this.draw();if (at) ([...this.body.querySelectorAll("a")].find(link => link.textContent === at) || this.box).focus({ preventScroll: true });}
 draw() {const first = isPrinting ? 0 : Math.max(Math.floor(this.box.scrollTop / this.height) - SPARE, 0);
 const last = Math.min(isPrinting ? MOST_PRINTED : first + Math.ceil(this.box.clientHeight / this.height) + 2 * SPARE, this.items.length);
 for (const [at, row] of this.rows) if ((at < first || at >= last) && !row.contains(document.activeElement)) this.rows.delete(at), row.remove();let behind = null;for (let at = last - 1; at >= first; at--) {
@@ -355,7 +355,8 @@ async function endsOf(route, { from, to }, { method, fromMethod = method, toMeth
 const [start, end] = await Promise.all([from ? locate(route, fromMethod, from, "From") : 0, to ? locate(route, toMethod, to, "To") : route.length]);
 if (start >= end) throw new Error(`From must be before To: they are at ${metres(start)} m and ${metres(end)} m.`);return [start, end];}
 function putRoute(address, { route, from, to, text, refusal }, isNew) {const before = view.address;Object.assign(view, { route, address, from, to });for (const id of PARTS) $(id).hidden = false;putDiagram(text);fillEnds();
-tellStretch(refusal);hideClasses();markAll();attempt("classes-said", () => loadClasses(route.name));attempt("rows-said", loadRows);attempt("route-said", () => markAsset(address.asset));if (!address.place) clearPlace(), markAll();
+tellStretch(refusal);hideClasses();markAll();attempt("classes-said", () => loadClasses(route.name));attempt("rows-said", loadRows);attempt("route-said", () => markAsset(address.asset));
+if (address.asset && address.asset !== before.asset) $("diagram").scrollIntoView({ block: "nearest" });if (!address.place) clearPlace(), markAll();
 else if (isNew || JSON.stringify(before.place) !== JSON.stringify(address.place)) askPlace(address.place);}
 function tellStretch(refusal) {const { route, from, to, address: { stretch } } = view;const measures = ["from", "to"].map(end => (stretch?.method === "abs" && stretch[end]) || textOf(route, "abs", view[end]));
 if (refusal) say("route-said", `${refusal.message} The whole route is shown.`, true);else say("route-said", `From ${metres(from)} m to ${metres(to)} m of ${metres(route.length)} m: measures ${measures[0]} to ${measures[1]}.`);}
