@@ -29,6 +29,7 @@ function preview(from, to) {
 }
 
 async function settle() {
+  if (!view.route) return;
   const [from, to] = wanted || [seen.from, seen.to];
   wanted = null;
   $("diagram").classList.remove("moving");
@@ -103,7 +104,7 @@ function look(event) {
   if (!shownDiagram()?.contains(event.target)) return;
   const x = unitsAt(event), chainage = Math.floor(chainageAt(x));
   if (chainage < 0 || x < 1000 || x > 11000 || chainage > view.route.length) return say("under", "");
-  say("under", [`${metres(chainage)} m, measure ${textOf(view.route, "abs", chainage)}`, ...thingsAt(x, off)].join(" \u00b7 "));
+  say("under", [`measure ${textOf(view.route, "abs", chainage)}, ${metres(chainage)} m`, ...thingsAt(x, off)].join(" \u00b7 "));
 }
 
 function press(event) {

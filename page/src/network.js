@@ -6,7 +6,7 @@ import { get, known } from "./requests.js";
 import { counted, metres } from "./numbers.js";
 import { LongTable } from "./sight.js";
 
-const LAST_EDITS = 10, LEAST_GAP = 8, LETTER = 7;
+const LAST_EDITS = 10, LEAST_GAP = 8, LETTER = 8;
 // In which field a verb names its route.
 const ROUTE_FIELDS = { route: 0, ref: 1, enter: 2, supersede: 2, retire: 1, split: 0, renumber: 1, recalibrate: 0, join: 0, turn: 0, realign: 0 };
 

@@ -66,6 +66,7 @@ function putRoute(address, { route, from, to, text, refusal }, isNew) {
   attempt("classes-said", () => loadClasses(route.name));
   attempt("rows-said", loadRows);
   attempt("route-said", () => markAsset(address.asset));
+  if (address.asset && address.asset !== before.asset) $("diagram").scrollIntoView({ block: "nearest" });
   if (!address.place) clearPlace(), markAll();
   else if (isNew || JSON.stringify(before.place) !== JSON.stringify(address.place)) askPlace(address.place);
 }

@@ -3,7 +3,7 @@
 import { $, SIDES, attempt, linkTo, make, say } from "./parts.js";
 import { askHealth } from "./health.js";
 import { get, known } from "./requests.js";
-import { counted, metres } from "./numbers.js";
+import { counted, metres, short } from "./numbers.js";
 import { aroundAsset } from "./view.js";
 import { writeAddress } from "./addresses.js";
 import { fieldsOf, recordsOf } from "./network.js";
@@ -32,9 +32,9 @@ function item(...parts) {
   return made;
 }
 
-function stretchItem({ route, from, to, side, asset, class: name, value }, length) {
-  const link = linkTo(writeAddress(aroundAsset(route, from, to, asset, length)), `${route}: ${metres(from)} to ${metres(to)} m, ${SIDES[side] || side}`);
-  return item(link, name ? ` ${name} ${value}, asset ${asset}` : "");
+function stretchItem({ route, from, to, from_measure: start, to_measure: end, side, asset, class: name, value }, length) {
+  const link = linkTo(writeAddress(aroundAsset(route, from, to, asset, length)), `${route}: measures ${short(start)} to ${short(end)}`);
+  return item(link, ` (${metres(from)} to ${metres(to)} m), ${SIDES[side]}: ${name} ${value}, asset ${asset}`);
 }
 
 async function stretchItems(rows) {
@@ -43,9 +43,9 @@ async function stretchItems(rows) {
 }
 
 async function findAsset(text) {
-  const { rows } = await known("v1/find", [["asset", text]]);
+  const { rows } = await known("v1/rows", [["asset", text]]);
   const told = rows.length ? `Asset ${text} holds ${rows.length === 1 ? "one stretch" : `${rows.length} stretches`}.` : `Asset ${text} is known, and lies on no route now.`;
-  return { told, items: await stretchItems(rows.map(row => ({ ...row, asset: text }))) };
+  return { told, items: await stretchItems(rows) };
 }
 
 async function findClass(text) {

@@ -33,7 +33,7 @@ export class LongTable {
     this.box.scrollTop = 0;
     this.table.setAttribute("aria-rowcount", items.length + 1);
     this.draw();
-    if (at) ([...this.body.querySelectorAll("a")].find(link => link.textContent === at) || this.box).focus();
+    if (at) ([...this.body.querySelectorAll("a")].find(link => link.textContent === at) || this.box).focus({ preventScroll: true });
   }
 
   draw() {

@@ -6,6 +6,9 @@ Route A1 has 8,000 mm. Asset 10 (SPEED) lies on both sides from chainage 2,500 t
 
 import contextlib
 
+import pytest
+
+from browser import browsing
 from program import FIRST, ends, run, sheet_of
 from proxies import posted, web_server
 from serving import HOST, SURVEY_HEADER, started
@@ -24,7 +27,7 @@ SURVEY = SURVEY_HEADER + (
     b"e4,13,SPEED,LONG,B,abs,1000000,1000001,50,0\n"
     b"e5,14,SIGN,LONG,L,abs,4333333,,YIELD,0\n"
 )
-TABULATOR, ENTER, LEFT, RIGHT, DOWN = "\ue004", "\ue007", "\ue012", "\ue014", "\ue015"
+TABULATOR, ENTER, RIGHT, DOWN = "\ue004", "\ue007", "\ue014", "\ue015"
 
 
 class Page:
@@ -144,6 +147,24 @@ def service(browser, folder, **settings):
     ends(run("page", str(folder)), b"", 0)
     with started(db=folder / "roads.db", **settings) as server, web_server(folder, server.port) as port:
         yield Page(browser, server, port, pictures)
+
+
+@pytest.fixture(scope="module")
+def browser(tmp_path_factory):
+    """A browser for the tests of a file."""
+    with browsing(tmp_path_factory.mktemp("browser")) as opened:
+        opened.resizes(1280, 1000)
+        yield opened
+
+
+@pytest.fixture
+def page(browser, tmp_path):
+    """A page with the routes and assets of above, for each test that wants one."""
+    with service(browser, tmp_path) as opened:
+        browser.goes_to("about:blank")
+        fill(opened)
+        yield opened
+        opened.is_as_it_should_be()
 
 
 def fill(page):

@@ -11,7 +11,7 @@ import pytest
 from browser import PATIENCE
 from program import HEADER, TOP, record, sheet_of
 from proxies import asked, posted
-from web_page import TABULATOR
+from web_page import ENTER, TABULATOR, browser, page
 
 # ---- what is shown
 
@@ -29,7 +29,7 @@ def test_the_page_is_one_file_and_fits_a_telephone(page):
         assert browser.runs(fits)
         page.pictured("narrow_network")
         page.opens_route("A1")
-        browser.types("#pos", "3000\ue007")
+        browser.types("#pos", "3000" + ENTER)
         browser.shows("#hits", "SPEED")
         assert page.finds("asset", "10") == "Asset 10 holds one stretch."
         assert browser.runs(fits)
@@ -140,7 +140,7 @@ def test_texts_stand_out_in_each_scheme(page, scheme):
         assert browser.runs(FAINT) == []
         page.pictured(f"{scheme}_network")
         page.opens_route("A1")
-        browser.types("#pos", "9001\ue007")
+        browser.types("#pos", "9001" + ENTER)
         browser.shows("#at-said", "Error: OffRoute")
         page.sends(page.file("roads.csv", sheet_of("s1,link,1,5000", "q1,class,WIDTH,exclusive", "q2,enter,10,WIDTH,A1,B,abs,0,9000,7,0")))
         browser.shows("#sheet-said", "to its end")

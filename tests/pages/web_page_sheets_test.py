@@ -6,7 +6,7 @@ from program import FIRST, FIRST_REPLIES, HEADER, ends, long_sheet, sheet_of, wi
 from proxies import posted
 from serving import SURVEY_HEADER, started
 from stores import edit
-from web_page import service
+from web_page import browser, page, service
 
 # What a person does who drops a file on the page.
 DROP = """

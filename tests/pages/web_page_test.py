@@ -1,5 +1,6 @@
 """The page in a browser: the network, a route and its stretches, places, classes, rows, and what is found."""
 
+import re
 import time
 
 import pytest
@@ -8,7 +9,7 @@ from program import ends, run, sheet_of
 from proxies import asked, posted
 from serving import HOST
 from stores import edit
-from web_page import DOWN, ENTER, RIGHT, TABULATOR, service
+from web_page import DOWN, ENTER, RIGHT, TABULATOR, browser, page, service
 
 # ---- one: the network
 
@@ -189,7 +190,7 @@ def test_what_lies_under_the_pointer_is_shown(page):
     x, y = page.point_of(3000)
     browser.send("POST", "/actions", {"actions": [{"type": "pointer", "id": "mouse", "actions": [{"type": "pointerMove", "x": round(x), "y": round(y), "origin": "viewport"}]}]})
     browser.shows("#under", "RAIL L STEEL (asset 11) · SPEED L 80 (asset 10) · SPEED R 80 (asset 10)")
-    assert browser.text("#under").startswith("2.99") or browser.text("#under").startswith("3.00")
+    assert re.match(r"measure 3(59\d|60\d)\.?\d*, (2\.99|3\.00)\d m · ", browser.text("#under"))
 
 
 def test_points_in_one_place_show_how_many_they_are(page):
@@ -459,7 +460,7 @@ def test_the_rows_are_sorted_filtered_and_saved(page):
     page.opens_route("A1")
     browser.shows("#rows-said", "3 of 3 rows of this stretch.")
     firsts = lambda: [row[:5] for row in page.rows("#rows")]
-    rail, speed, sign = ["RAIL", "STEEL", "left", "0.000", "5.000"], ["SPEED", "80", "both", "2.500", "8.000"], ["SIGN", "STOP", "right", "4.999", "5.000"]
+    rail, speed, sign = ["RAIL", "STEEL", "left", "0", "6000"], ["SPEED", "80", "both", "3000", "9000"], ["SIGN", "STOP", "right", "≈ 5998.800", "6000"]
     assert firsts() == [rail, speed, sign]
     browser.clicks("#rows button[value=to]")
     assert firsts() == [rail, sign, speed]
@@ -485,9 +486,12 @@ def test_the_rows_are_those_of_the_stretch(page):
     browser.shows("#rows-said", "1 of 1 row of this stretch.")
     browser.clicks("#whole")
     browser.shows("#rows-said", "3 of 3 rows of this stretch.")
-    # the number of an asset marks it
-    browser.clicks("#rows a")
+    # the number of an asset marks it, and whoever pressed it is still there
+    browser.runs("document.querySelector('#rows a').focus()")
+    browser.presses(ENTER)
     browser.waits_for("a mark", lambda browser: browser.runs("return document.querySelectorAll('[data-mark=\"asset 11\"] rect').length") == 1)
+    browser.shows("#rows-said", "3 of 3 rows")
+    assert browser.runs("return [document.activeElement.textContent, document.activeElement.getAttribute('aria-current')]") == ["11", "true"]
 
 
 def test_twenty_thousand_rows_of_a_route(browser, tmp_path):
@@ -513,7 +517,7 @@ def test_an_asset_is_found_and_shown(page):
     browser = page.browser
     page.opens()
     assert page.finds("asset", "10") == "Asset 10 holds one stretch."
-    assert browser.text("#results") == "A1: 2.500 to 8.000 m, both"
+    assert browser.text("#results") == "A1: measures 3000 to 9000 (2.500 to 8.000 m), both: SPEED 80, asset 10"
     browser.clicks("#results a")
     page.draws("A1", 0, 8000)
     browser.waits_for("mark", lambda browser: browser.runs("return document.querySelectorAll('[data-mark=\"asset 10\"] rect').length") == 1)
@@ -521,7 +525,7 @@ def test_an_asset_is_found_and_shown(page):
     left, wide = browser.runs("const r = document.querySelector('[data-mark] rect'); return [Number(r.getAttribute('x')), Number(r.getAttribute('width'))]")
     assert (left + 20, wide - 40) == (4125, 6875)
     page.finds("asset", "13")
-    browser.shows("#results", "LONG: 1000.000 to 1000.001 m, both")
+    browser.shows("#results", "LONG: measures 1000000 to 1000001 (1000.000 to 1000.001 m), both")
     browser.clicks("#results a")
     page.draws("LONG", 995_000, 1_005_001)
     assert page.fragment() == "#LONG/chainage:995.000..1005.001/asset:13"
@@ -531,9 +535,9 @@ def test_an_asset_is_found_and_shown(page):
 
 
 FOUND = [
-    ("value", "80", "1 row has the value 80.", "A1: 2.500 to 8.000 m, both SPEED 80, asset 10"),
+    ("value", "80", "1 row has the value 80.", "A1: measures 3000 to 9000 (2.500 to 8.000 m), both: SPEED 80, asset 10"),
     ("value", "none", "No row has the value none.", ""),
-    ("class", "sign", "SIGN has 2 rows.", "A1: 4.999 to 5.000 m, right SIGN STOP, asset 12"),
+    ("class", "sign", "SIGN has 2 rows.", "A1: measures ≈ 5998.800 to 6000 (4.999 to 5.000 m), right: SIGN STOP, asset 12"),
     ("class", "NONE", "Error: NoClass: there is no class of this name.", ""),
     ("key", "e3", "Key e3 is edit 164.", "enter 12 SIGN A1 R int 4999/8000 STOP 1500"),
     ("key", "e9", "No edit has the key e9.", ""),

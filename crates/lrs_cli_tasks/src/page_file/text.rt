@@ -7,12 +7,12 @@ pub static PAGE: &str = r##"<!doctype html>
 <meta charset="utf-8">
 <meta name="viewport" content="width=device-width, initial-scale=1">
 <meta name="color-scheme" content="light dark">
-<meta http-equiv="Content-Security-Policy" content="default-src 'none'; style-src 'unsafe-inline'; script-src 'sha256-8+cznk7olS97IChXWRU5z07MGxRv6qtLGD8VZG1sOrI='; img-src data:; connect-src 'self'; form-action 'none'; base-uri 'none'">
+<meta http-equiv="Content-Security-Policy" content="default-src 'none'; style-src 'unsafe-inline'; script-src 'sha256-/YZ4K/Lni/CDEl5ro5kzflZvXN+z6FvqwO7NdxKRX24='; img-src data:; connect-src 'self'; form-action 'none'; base-uri 'none'">
 <title>Road inventory</title>
 <link rel="icon" href="data:,">
 <style>
 :root{--text:#1a1a1a;--paper:#fff;--ground:#f3f4f6;--line:#8a93a0;--field:#59626f;--press:#e8ecf2;--over:#d5dce6;--head:#1d3557;--link:#1d4f91;--focus:#b35900;--bar:#5b83b8;--post:#12263f;
---bad:#7a1414;--bad-ground:#fdeaea;--good:#0b4d1a;--good-ground:#e3f4e6;--known:#173f85;--known-ground:#e6eefb;}@media (prefers-color-scheme:dark){:root{
+--bad:#7a1414;--bad-ground:#fdeaea;--good:#0b4d1a;--good-ground:#e3f4e6;--known:#173f85;--known-ground:#e6eefb;}@media screen and (prefers-color-scheme:dark){:root{
 --text:#e8e8e8;--paper:#1b1f26;--ground:#101318;--line:#6d7685;--field:#9aa4b2;--press:#2c333e;--over:#3a4350;--head:#16283f;--link:#9cc4ff;--focus:#ffb04d;--bar:#5b83b8;--post:#fff;
 --bad:#ffb3b3;--bad-ground:#401a1a;--good:#a8e6b4;--good-ground:#12331a;--known:#b3ccff;--known-ground:#16284a;}#diagram svg,.swatch{filter:invert(1) hue-rotate(180deg);}}*{box-sizing:border-box;}[hidden]{display:none !important;}
 body{margin:0;font:16px/1.4 system-ui,"DejaVu Sans",sans-serif;color:var(--text);background:var(--ground);}header{display:flex;flex-wrap:wrap;gap:.4rem 1.5rem;align-items:end;padding:.6rem 1rem;background:var(--head);color:#fff;}
@@ -29,14 +29,15 @@ thead th{position:sticky;top:0;z-index:1;background:var(--press);font-weight:bol
 .long tbody tr:hover{background:var(--press);}#routes tbody tr{cursor:pointer;}.name{width:9rem;}.length{width:8rem;}td.bar{padding:0 .6rem 0 0;width:70%;}.track{position:relative;height:2rem;overflow:hidden;}
 .track svg{display:block;height:45%;min-width:2px;background:var(--bar);}.track path{stroke:var(--post);stroke-width:1.5px;}.track span{position:absolute;bottom:0;font-size:.75rem;line-height:1.1rem;padding-left:1px;}
 button.plain{border:0;padding:0;background:none;font-weight:bold;min-height:1.5rem;}th[aria-sort=ascending] button::after{content:" \25b2";}th[aria-sort=descending] button::after{content:" \25bc";}
-#diagram{overflow-x:auto;border:1px solid var(--line);touch-action:pan-x pan-y;}#diagram.moving{overflow:hidden;}#diagram svg{display:block;width:100%;min-width:900px;height:auto;cursor:crosshair;}.moving svg{cursor:grabbing;}
-#under{min-height:1.4em;font-size:.9rem;}fieldset{margin:.5rem 0;padding:.3rem .6rem .5rem;border:1px solid var(--line);max-height:14rem;overflow-y:auto;}fieldset label{flex-direction:row;gap:.3rem;align-items:center;font-size:1rem;}
-input[type=checkbox]{min-height:0;width:1.5rem;height:1.5rem;}.class{display:flex;flex-wrap:wrap;gap:.2rem 1rem;align-items:center;}.class label{min-width:8rem;}.values{display:flex;flex-wrap:wrap;gap:.1rem 1rem;font-size:.9rem;}
-.swatch{display:inline-block;width:1.6rem;height:.9rem;margin-right:.3rem;vertical-align:middle;border:1px solid #59626f;}[aria-current=true]{font-weight:bold;}pre{overflow:auto;max-height:10rem;padding:.4rem;border:1px solid var(--line);}
-tr.done td.word{background:var(--good-ground);color:var(--good);border-left:6px solid currentColor;}tr.again td.word{background:var(--known-ground);color:var(--known);border-left:6px dashed currentColor;}
-tr.refused td.word,tr.fault td.word{background:var(--bad-ground);color:var(--bad);border-left:6px double currentColor;font-weight:bold;}#drop{padding:.8rem;margin:.5rem 0;border:2px dashed var(--field);}
-.over #drop{border-style:solid;background:var(--press);}@media (min-width:1100px){#network{grid-template-columns:minmax(0,1fr) minmax(0,1fr);}#network > :first-child{grid-column:1 / 3;}}@media (max-width:800px){main{padding:.5rem;}
-header p,h1{margin:0;}.name,.length{width:4rem;}.long thead th{white-space:normal;}td.bar{width:50%;}}
+#diagram{overflow-x:auto;border:1px solid var(--line);touch-action:pan-x pan-y;}#diagram.moving{overflow:hidden;}#diagram svg{display:block;width:100%;min-width:900px;height:auto;cursor:crosshair;user-select:none;}
+.moving svg{cursor:grabbing;}#under{min-height:1.4em;font-size:.9rem;}fieldset{margin:.5rem 0;padding:.3rem .6rem .5rem;border:1px solid var(--line);max-height:14rem;overflow-y:auto;}
+fieldset label{flex-direction:row;gap:.3rem;align-items:center;font-size:1rem;}input[type=checkbox]{min-height:0;width:1.5rem;height:1.5rem;}.class{display:flex;flex-wrap:wrap;gap:.2rem 1rem;align-items:center;}.class label{min-width:8rem;}
+.values{display:flex;flex-wrap:wrap;gap:.1rem 1rem;font-size:.9rem;}.swatch{display:inline-block;width:1.6rem;height:.9rem;margin-right:.3rem;vertical-align:middle;border:1px solid #59626f;}[aria-current=true]{font-weight:bold;}
+pre{overflow:auto;max-height:10rem;padding:.4rem;border:1px solid var(--line);}tr.done td.word{background:var(--good-ground);color:var(--good);border-left:6px solid currentColor;}
+tr.again td.word{background:var(--known-ground);color:var(--known);border-left:6px dashed currentColor;}tr.refused td.word,tr.fault td.word{background:var(--bad-ground);color:var(--bad);border-left:6px double currentColor;font-weight:bold;}
+#drop{padding:.8rem;margin:.5rem 0;border:2px dashed var(--field);}.over #drop{border-style:solid;background:var(--press);}
+@media (min-width:1100px){#network{grid-template-columns:minmax(0,1fr) minmax(0,1fr);}#network > :first-child{grid-column:1 / 3;}}@media (max-width:800px){main{padding:.5rem;}header p,h1{margin:0;}
+.name,.length{width:4rem;}.long thead th{white-space:normal;}td.bar{width:50%;}}
 @media print{body,section{background:#fff;color:#000;border:0;padding:0;}header form,header button,form,.buttons,details,fieldset button,#skip,#under,#route .note a,#found{display:none;}header{background:none;color:#000;padding:0;}
 .table,.long{overflow:visible;max-height:none;height:auto;border:0;}thead th{position:static;}section,tr,#diagram{break-inside:avoid;}#diagram{border:0;overflow:visible;}#diagram svg{min-width:0;filter:none;print-color-adjust:exact;}
 .swatch,.track svg{filter:none;print-color-adjust:exact;}}
@@ -170,7 +171,7 @@ const SPARE = 10, MOST_PRINTED = 2000;const tables = [];let isPrinting = false;c
 this.head = this.table.createTHead().insertRow();this.head.append(...heads);this.above = this.table.createTBody();this.body = this.table.createTBody();this.below = this.table.createTBody();box.replaceChildren(this.table);box.tabIndex = -1;
 box.onscroll = () => this.draw();box.addEventListener("keydown", event => this.step(event));new ResizeObserver(() => this.draw()).observe(box);tables.push(this);}
 show(items) {const at = this.body.contains(document.activeElement) && document.activeElement.textContent;this.items = items;this.rows.clear();this.body.replaceChildren();this.box.scrollTop = 0;
-this.table.setAttribute("aria-rowcount", items.length + 1);this.draw();if (at) ([...this.body.querySelectorAll("a")].find(link => link.textContent === at) || this.box).focus();}
+this.table.setAttribute("aria-rowcount", items.length + 1);this.draw();if (at) ([...this.body.querySelectorAll("a")].find(link => link.textContent === at) || this.box).focus({ preventScroll: true });}
 draw() {const first = isPrinting ? 0 : Math.max(Math.floor(this.box.scrollTop / this.height) - SPARE, 0);
 const last = Math.min(isPrinting ? MOST_PRINTED : first + Math.ceil(this.box.clientHeight / this.height) + 2 * SPARE, this.items.length);
 for (const [at, row] of this.rows) if ((at < first || at >= last) && !row.contains(document.activeElement)) this.rows.delete(at), row.remove();let behind = null;for (let at = last - 1; at >= first; at--) {
@@ -185,7 +186,7 @@ const next = by > 0 ? row.nextSibling : row.previousSibling, target = next && ne
 }
 function prints(now) {isPrinting = now;for (const table of tables) table.draw();}
 window.onbeforeprint = () => prints(true);window.onafterprint = () => prints(false);
-const LAST_EDITS = 10, LEAST_GAP = 8, LETTER = 7;const ROUTE_FIELDS = { route: 0, ref: 1, enter: 2, supersede: 2, retire: 1, split: 0, renumber: 1, recalibrate: 0, join: 0, turn: 0, realign: 0 };
+const LAST_EDITS = 10, LEAST_GAP = 8, LETTER = 8;const ROUTE_FIELDS = { route: 0, ref: 1, enter: 2, supersede: 2, retire: 1, split: 0, renumber: 1, recalibrate: 0, join: 0, turn: 0, realign: 0 };
 const network = { routes: [], names: new Set(), longest: 1, posts: new Map(), edits: undefined };let bars, drawnFor = {};const headOf = (name, width) => make("th", name, { scope: "col", className: width });async function loadNetwork() {
 bars ||= new LongTable($("routes"), [headOf("Route", "name"), headOf("Length, m", "length"), headOf("Posts, to one scale", "bar")], routeRow);network.edits = await askHealth();
 await Promise.all([attempt("routes-said", loadRoutes), attempt("totals-said", loadTotals), attempt("edits-said", loadEdits)]);}
@@ -300,7 +301,7 @@ for (const listener of whenSwitched) listener();}
 const switchAll = on => switchClasses(classes, on);function hideClasses() {for (const group of $("diagram").querySelectorAll("g[data-class]")) group.style.display = off.has(group.dataset.class) ? "none" : "";if (!view.route) return;
 const on = classes.filter(name => !off.has(name)), chosen = on.length < classes.length ? on.map(name => ["class", name]) : [];$("plain").href = "v1/diagram" + query([["route", view.route.name], ...rangeOf(view), ...chosen]);}
 function rangeOf({ route, from, to }) {return from === 0 && to === route.length ? [] : [["from", from], ["to", to]];}
-const COLUMNS = { class: "Class", value: "Value", side: "Side", from: "From, m", to: "To, m", from_measure: "From measure", to_measure: "To measure", asset: "Asset", offset: "Offset, mm", entered_by: "Edit" };
+const COLUMNS = { class: "Class", value: "Value", side: "Side", from_measure: "From measure", to_measure: "To measure", from: "From, m", to: "To, m", asset: "Asset", offset: "Offset, mm", entered_by: "Edit" };
 const SAVED = ["route", "from", "to", "from_measure", "to_measure", "side", "asset", "class", "value", "offset", "entered_by"];const sorted = { by: "from", down: false };let table, rows = [], chosen = [];const sorterOf = name => {
 const head = make("th", "", { scope: "col" }), button = make("button", COLUMNS[name], { type: "button", className: "plain", value: name });button.onclick = () => sortBy(name);head.append(button);return head;};async function loadRows() {
 const { route, from, to } = view;table ||= new LongTable($("rows"), Object.keys(COLUMNS).map(sorterOf), assetRow);const all = await rowsOf(view);if (view.route !== route || view.from !== from || view.to !== to) return;
@@ -318,7 +319,7 @@ const way = button.value === sorted.by ? (sorted.down ? "descending" : "ascendin
 table.show(chosen);say("rows-said", `${chosen.length} of ${counted(rows.length, "row")} of this stretch.`);}
 function assetRow(row) {const { route, address } = view, link = linkTo(writeAddress(aroundAsset(route.name, row.from, row.to, row.asset, route.length)), row.asset);
 if (address.asset === String(row.asset)) link.setAttribute("aria-current", "true");
-const made = rowOf([row.class, row.value, SIDES[row.side], metres(row.from), metres(row.to), short(row.from_measure), short(row.to_measure), link, row.offset, row.entered_by]);
+const made = rowOf([row.class, row.value, SIDES[row.side], short(row.from_measure), short(row.to_measure), metres(row.from), metres(row.to), link, row.offset, row.entered_by]);
 for (const at of [3, 4, 5, 6, 7]) made.cells[at].className = "number";return made;}
 function saveRows() {const lines = chosen.map(row => SAVED.map(name => row[name]).join(","));$("csv").download = `${view.route.name}.csv`;offer($("csv"), [[SAVED.join(","), ...lines, ""].join("\n")], "text/csv");}
 whenSwitched.push(() => table && listRows());
@@ -354,7 +355,8 @@ async function endsOf(route, { from, to }, { method, fromMethod = method, toMeth
 const [start, end] = await Promise.all([from ? locate(route, fromMethod, from, "From") : 0, to ? locate(route, toMethod, to, "To") : route.length]);
 if (start >= end) throw new Error(`From must be before To: they are at ${metres(start)} m and ${metres(end)} m.`);return [start, end];}
 function putRoute(address, { route, from, to, text, refusal }, isNew) {const before = view.address;Object.assign(view, { route, address, from, to });for (const id of PARTS) $(id).hidden = false;putDiagram(text);fillEnds();
-tellStretch(refusal);hideClasses();markAll();attempt("classes-said", () => loadClasses(route.name));attempt("rows-said", loadRows);attempt("route-said", () => markAsset(address.asset));if (!address.place) clearPlace(), markAll();
+tellStretch(refusal);hideClasses();markAll();attempt("classes-said", () => loadClasses(route.name));attempt("rows-said", loadRows);attempt("route-said", () => markAsset(address.asset));
+if (address.asset && address.asset !== before.asset) $("diagram").scrollIntoView({ block: "nearest" });if (!address.place) clearPlace(), markAll();
 else if (isNew || JSON.stringify(before.place) !== JSON.stringify(address.place)) askPlace(address.place);}
 function tellStretch(refusal) {const { route, from, to, address: { stretch } } = view;const measures = ["from", "to"].map(end => (stretch?.method === "abs" && stretch[end]) || textOf(route, "abs", view[end]));
 if (refusal) say("route-said", `${refusal.message} The whole route is shown.`, true);else say("route-said", `From ${metres(from)} m to ${metres(to)} m of ${metres(route.length)} m: measures ${measures[0]} to ${measures[1]}.`);}
@@ -375,12 +377,12 @@ const kind = $("kind").value, text = $("wanted").value.trim();$("found").hidden 
 const edits = await askHealth(), { told, items } = await KINDS[kind](text, edits);$("results").replaceChildren(...items.slice(0, MOST_FOUND));say("find-said", items.length > MOST_FOUND ? `${told} The first ${MOST_FOUND} are shown.` : told);
 });}
 function item(...parts) {const made = make("li");made.append(...parts);return made;}
-function stretchItem({ route, from, to, side, asset, class: name, value }, length) {const link = linkTo(writeAddress(aroundAsset(route, from, to, asset, length)), `${route}: ${metres(from)} to ${metres(to)} m, ${SIDES[side] || side}`);
-return item(link, name ? ` ${name} ${value}, asset ${asset}` : "");}
+function stretchItem({ route, from, to, from_measure: start, to_measure: end, side, asset, class: name, value }, length) {
+const link = linkTo(writeAddress(aroundAsset(route, from, to, asset, length)), `${route}: measures ${short(start)} to ${short(end)}`);
+return item(link, ` (${metres(from)} to ${metres(to)} m), ${SIDES[side]}: ${name} ${value}, asset ${asset}`);}
 async function stretchItems(rows) {const { routes } = await known("v1/routes"), lengths = new Map(routes.map(route => [route.name, route.length]));return rows.map(row => stretchItem(row, lengths.get(row.route)));}
-async function findAsset(text) {const { rows } = await known("v1/find", [["asset", text]]);
-const told = rows.length ? `Asset ${text} holds ${rows.length === 1 ? "one stretch" : `${rows.length} stretches`}.` : `Asset ${text} is known, and lies on no route now.`;
-return { told, items: await stretchItems(rows.map(row => ({ ...row, asset: text }))) };}
+async function findAsset(text) {const { rows } = await known("v1/rows", [["asset", text]]);
+const told = rows.length ? `Asset ${text} holds ${rows.length === 1 ? "one stretch" : `${rows.length} stretches`}.` : `Asset ${text} is known, and lies on no route now.`;return { told, items: await stretchItems(rows) };}
 async function findClass(text) {const { rows } = await known("v1/rows", [["class", upper(text)]]);return { told: `${upper(text)} has ${counted(rows.length, "row")}.`, items: await stretchItems(rows) };}
 async function findValue(text) {const { lengths } = await known("v1/lengths"), names = lengths.filter(entry => entry.value === text).map(entry => entry.class);
 const lists = await Promise.all(names.map(name => known("v1/rows", [["class", name]])));const rows = lists.flatMap(list => list.rows).filter(row => row.value === text);
@@ -433,8 +435,8 @@ return showRange(middle - half, middle + half);}
 const move = times => showRange(seen.from + (seen.to - seen.from) * times, seen.to + (seen.to - seen.from) * times);function preview(from, to) {const svg = shownDiagram(), [start, end] = within(from, to, view.route.length);
 wanted = [start, end];const times = (seen.to - seen.from) / (end - start), left = 1000 + ((seen.from - start) * 10000) / (end - start) - times * 1000;svg.style.transformOrigin = "0 0";
 svg.style.transform = `translateX(${(left * svg.clientWidth) / 12000}px) scaleX(${times})`;$("diagram").classList.add("moving");}
-async function settle() {const [from, to] = wanted || [seen.from, seen.to];wanted = null;$("diagram").classList.remove("moving");if (from === seen.from && to === seen.to) return void (shownDiagram().style.transform = "");
-await showRange(from, to, true);}
+async function settle() {if (!view.route) return;const [from, to] = wanted || [seen.from, seen.to];wanted = null;$("diagram").classList.remove("moving");
+if (from === seen.from && to === seen.to) return void (shownDiagram().style.transform = "");await showRange(from, to, true);}
 function settleSoon() {clearTimeout(timer);timer = setTimeout(settle, PAUSE);}
 const share = event => {const box = $("diagram").getBoundingClientRect(), wide = shownDiagram().clientWidth;return (((event.clientX - box.left + $("diagram").scrollLeft) / wide) * 12000 - 1000) / 10000;};function wheel(event) {
 if (!shownDiagram()) return;const [from, to] = wanted || [seen.from, seen.to], span = to - from, sideways = event.shiftKey || Math.abs(event.deltaX) > Math.abs(event.deltaY);
@@ -450,7 +452,7 @@ const shares = [...event.touches].map(share), [from, to] = [seen.from, seen.to];
 if (span > 0) preview(pinch[0] - shares[0] * span, pinch[0] + (1 - shares[0]) * span);}
 function endTouch(event) {if (!pinch || event.touches.length === 2) return;pinch = null;settle();}
 function look(event) {if (!shownDiagram()?.contains(event.target)) return;const x = unitsAt(event), chainage = Math.floor(chainageAt(x));if (chainage < 0 || x < 1000 || x > 11000 || chainage > view.route.length) return say("under", "");
-say("under", [`${metres(chainage)} m, measure ${textOf(view.route, "abs", chainage)}`, ...thingsAt(x, off)].join(" \u00b7 "));}
+say("under", [`measure ${textOf(view.route, "abs", chainage)}, ${metres(chainage)} m`, ...thingsAt(x, off)].join(" \u00b7 "));}
 function press(event) {const button = { ArrowLeft: "back", ArrowRight: "on", "+": "in", "-": "out", Home: "whole" }[event.key];if (event.ctrlKey || event.altKey || event.metaKey) return;if (button) event.preventDefault(), $(button).click();
 if (event.key === "Enter") askChainage(Math.floor((seen.from + seen.to) / 2));}
 function watch() {const box = $("diagram");box.addEventListener("wheel", wheel, { passive: false });for (const name of ["touchstart", "touchmove"]) box.addEventListener(name, touch, { passive: false });
