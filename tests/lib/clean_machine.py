@@ -113,7 +113,7 @@ for device in null,1,3 zero,1,5 full,1,7 random,1,8 urandom,1,9 tty,5,0; do
     IFS=, read -r name major minor <<<"$device"
     mknod -m 666 "dev/$name" c "$major" "$minor"
 done
-mkdir dev/shm dev/pts old
+mkdir -p dev/shm dev/pts old
 mount -t devpts -o newinstance,ptmxmode=666 devpts dev/pts
 ln -s pts/ptmx dev/ptmx
 ln -s /proc/self/fd dev/fd
