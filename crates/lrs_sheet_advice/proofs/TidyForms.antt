@@ -1,6 +1,6 @@
 -- What the table of verbs has under a name, and the form of a field by it.
-use Rattle.std.proofs.Common.{◌≡◌, ◌∙◌, ◌+◌, ◌-◌, ◌<◌, ◌≤◌, ℕ, suc, Bool, true, false, cond, List, [], ◌∷◌, Option, Some, None, length, map, refl, sym, ap, arith}
-use Rattle.std.specs.Prelude.{Contains, IfNone, IfSome, nat_lt, slice_get, slice_index_or}
+use Rattle.std.proofs.Common.{◌≡◌, ◌∙◌, ◌+◌, ◌-◌, ◌<◌, ◌≤◌, ℕ, suc, Bool, true, false, cond, List, [], ◌∷◌, Option, Some, None, length, map, refl, sym, ap, subst, arith}
+use Rattle.std.specs.Prelude.{Contains, IfNone, IfSome, IsTrue, nat_lt, slice_get}
 use Rattle.std.specs.Str.{bytes_eq}
 use Rattle.std.proofs.lemmas.Bool.Decides.{nat_tests}
 use Rattle.std.proofs.lemmas.Slice.Eq.{bytes_eq-Decides}
@@ -12,7 +12,7 @@ use Rattle.lrs_sheet_records.specs.Verbs.{IsVerb, Row, row_of, shapes_in, shapes
 use Rattle.lrs_sheet_records.specs.declared.verb.Verb.{Verb}
 use Rattle.lrs_sheet_records.specs.declared.verb.Verb.TheVariants as verb
 use Rattle.lrs_sheet_advice.specs.Slots.{IsSlotOf, shape_of, shapes_behind}
-use Rattle.lrs_sheet_advice.specs.TidySheets.{form_at, form_of}
+use Rattle.lrs_sheet_advice.specs.TidySheets.{form_at, form_of, is_tidy}
 use Rattle.lrs_sheet_advice.specs.declared.slot.Slot.{Slot}
 use Rattle.lrs_sheet_advice.specs.declared.tidy_sheet.cell.CellForm.{CellForm}
 
@@ -63,3 +63,7 @@ form_in_place fields place v field slot behind at under is =
     let wanted : shape_of slot ≡ slice_get (shapes_of (text_at fields 1)) (place - 2) = is low ∙ ap (λ (n : ℕ). slice_get (shapes_behind v) (n - 2)) at ∙ ap (λ (shapes : List Shape). slice_get shapes (place - 2)) under in
     let not_first : nat_lt place 2 ≡ false = grind (arith, nat_tests) in
     rw not_first (ap (form_of fields) wanted)
+
+-- the text of a field was looked at, and is tidy
+pub tidy_here : (form form' : CellForm) (text text' : Text) (b : Bool) → form ≡ form' → text ≡ text' → b ≡ is_tidy form text → b ≡ true → IsTrue (is_tidy form' text')
+tidy_here form form' text text' b same_form same_text is holds = subst (λ (t : Text). is_tidy form' t ≡ true) same_text (subst (λ (f : CellForm). is_tidy f text ≡ true) same_form (sym is ∙ holds))
