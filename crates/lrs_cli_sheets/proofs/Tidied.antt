@@ -1,5 +1,5 @@
 -- A sheet that was tidied, and one whose bytes were read.
-use Rattle.std.proofs.Common.{◌≡◌, ℕ, List, Option, Some, Result, Ok, Err, IfOk, IfSome, refl}
+use Rattle.std.proofs.Common.{◌≡◌, Option, Some, Result, Ok, Err, IfOk, IfSome, refl}
 use Rattle.std.specs.Io.KnownBytes.{Appends}
 use Rattle.lrs_machine.specs.Lines.{Text}
 use Rattle.lrs_sheet_records.specs.declared.sheet.Sheet.{Sheet}
