@@ -33,15 +33,16 @@ declare -g _roadlrs_verbs="link class route ref unref enter retire supersede spl
 
 # the options of each command besides --help and those; one that wants a value ends in =
 declare -gA _roadlrs_options=(
-    [edit]="--sums --resume --all"
-    [survey]="--sums --resume --all"
+    [edit]="--sums --resume --all --whole"
+    [survey]="--sums --resume --all --whole"
     [serve]="--sums --log --end-on-fault --most-reply="
     [diagram]="--from= --to="
     [check]="--survey"
-    [lengths]="--route="
-    [rows]="--route= --from= --to= --class= --asset="
-    [gone]="--edit="
-    [log]="--key="
+    [lengths]="--route= --text"
+    [list]="--text"
+    [rows]="--route= --from= --to= --class= --asset= --text"
+    [gone]="--edit= --text"
+    [log]="--key= --text"
 )
 
 _roadlrs_reply() { mapfile -t COMPREPLY < <(compgen "$@"); }

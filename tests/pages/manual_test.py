@@ -93,7 +93,7 @@ def completed(line):
         ("roadlrs list roads.db r", ["routes", "refs"]),
         ("roadlrs at roads.db A1 ", ["abs", "rel", "int"]),
         ("roadlrs rows roads.db --c", ["--class"]),
-        ("roadlrs edit roads.db first.csv --", ["--sums", "--resume", "--all", *GENERAL, "--help"]),
+        ("roadlrs edit roads.db first.csv --", ["--sums", "--resume", "--all", "--whole", *GENERAL, "--help"]),
         ("roadlrs edit :m", [":memory:"]),
         ("roadlrs where roads.db l", ["link"]),
         ("roadlrs help re", ["ref", "retire", "renumber", "recalibrate", "realign"]),

@@ -181,6 +181,8 @@ OPTIONS = {
     b"--sums": (b"Gives a new file checksums, so that damage is found", ["edit", "survey", "serve"]),
     b"--resume": (b"Goes on after the last record of the sheet that was accepted before", ["edit", "survey"]),
     b"--all": (b"Does the sheet only if no record of it is refused", ["edit", "survey"]),
+    b"--whole": (b"Does the sheet only if its last line has an end", ["edit", "survey"]),
+    b"--text": (b"Writes each cell as text, for a spreadsheet", ["lengths", "list", "rows", "gone", "log"]),
     b"--survey": (b"The sheet is a survey", ["check"]),
     b"--log": (b"Writes a line for each request on standard error, and a count at the end", ["serve"]),
     b"--end-on-fault": (b"Ends with status 3 once the inventory was not written", ["serve"]),

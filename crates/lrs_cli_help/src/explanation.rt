@@ -1,7 +1,7 @@
 //! What stands behind each fault of a job, and what to do about it: lines on standard error.
 
 use crate::contents::Contents;
-use crate::flaw::tell_flaw;
+use crate::flaw::{tell_flaw, tell_last_line};
 use crate::holder::Holder;
 use crate::inspection::{Found, inspect};
 use crate::job_texts::{
@@ -403,6 +403,18 @@ pub fn explain_repeated_key(rt: &HostRuntime, job: &Job<'_>) {
     say(
         rt,
         "take the second one out, or give it a key of its own, and send the sheet again with --resume",
+    );
+}
+
+/// The last line of the sheet has no end, and it was to have one.
+pub fn explain_cut_off(rt: &HostRuntime, job: &Job<'_>) {
+    if tell_last_line(rt, job).is_none() {
+        say_of(rt, sheet_of(job).unwrap_or(""), "its last line has no end");
+    }
+    say(rt, "it may have been cut off there; nothing was done");
+    say(
+        rt,
+        "give the whole sheet; without --whole it is done as it is",
     );
 }
 

@@ -3,7 +3,7 @@
 use crate::job_texts::{sheet_kind, sheet_of, wanted_header};
 use crate::lines::{say, say_of};
 use crate::shown::shown;
-use crate::spreadsheet::{first_line, trace_in};
+use crate::spreadsheet::{first_line, last_line, trace_in};
 use lrs_cli_words::Job;
 use lrs_sheet_advice::{SheetFlaw, write_fault_advice};
 use lrs_sheet_records::Sheet;
@@ -73,4 +73,14 @@ pub(crate) fn tell_flaw(rt: &HostRuntime, job: &Job<'_>, flaw: SheetFlaw) -> Opt
         SheetFlaw::Header => tell_header(rt, job, sheet, text.as_slice()),
         SheetFlaw::Width => tell_record(rt, job, sheet, text.as_slice()),
     }
+}
+
+/// Reads the sheet of a job once more, if it is in a file, and says what stands in its last line, which has no end. None
+/// where that is not said.
+pub(crate) fn tell_last_line(rt: &HostRuntime, job: &Job<'_>) -> Option<()> {
+    let sheet = sheet_of(job)?;
+    let text = bytes_of(rt, sheet)?;
+    let line = shown(rt.alloc(), last_line(text.as_slice()))?;
+    let _ = eprintln!(rt; "explain: {sheet}: its last line has no end: \"{line}\"");
+    Some(())
 }

@@ -10,6 +10,16 @@ pub(crate) fn first_line(text: &[u8]) -> &[u8] {
     text
 }
 
+/// What stands behind the last line end of a text.
+pub(crate) fn last_line(text: &[u8]) -> &[u8] {
+    for place in (0..text.len()).rev() {
+        if text[place] == b'\n' || text[place] == b'\r' {
+            return &text[place + 1..];
+        }
+    }
+    text
+}
+
 fn has_comma(line: &[u8]) -> bool {
     line.contains(&b',')
 }

@@ -44,16 +44,16 @@ IsUnprinted fault = (fault ≡ Memory) ⊎ (fault ≡ Write)
 module _ {K : Type 0} (holds : K → Result Image Table → Type 0) (text_of : Text → Option Text) where
   -- a sheet was done at the desk, or as a whole or not at all; or a question, a sheet of them, a check or an audit was answered, which leaves the desk as it was; or it was served
   abbrev pub HasWorked : Work → DeskView K → DeskView K → Option Text → Printed → Type 0
-  HasWorked (work.Sheet kind from resumes all) before after old (Ok done) =
-      EndsRecords holds kind resumes all (text_of from.now) before after old done.0 done.1 × IsAfterCommands before.limits (state_of before.image) (state_of after.image)
-  HasWorked (work.Sheet kind from resumes all) before after old (Err fault) =
+  HasWorked (work.Sheet kind from resumes all whole) before after old (Ok done) =
+      EndsRecords holds kind resumes all whole (text_of from.now) before after old done.0 done.1 × IsAfterCommands before.limits (state_of before.image) (state_of after.image)
+  HasWorked (work.Sheet kind from resumes all whole) before after old (Err fault) =
       IsUnwritten holds before after fault × IsAfterCommands before.limits (state_of before.image) (state_of after.image)
   HasWorked (work.Check kind from) before after old (Ok done) = (after ≡ before) × EndsCheck kind (text_of from.now) before.image old done.0 done.1
   HasWorked (work.Check kind from) before after old (Err fault) = (after ≡ before) × (fault ≡ Write)
   HasWorked work.Audit before after old (Ok done) = (after ≡ before) × EndsAudit before.image old done.0 done.1
   HasWorked work.Audit before after old (Err fault) = (after ≡ before) × (fault ≡ Write)
-  HasWorked (work.Question question) before after old (Ok done) = (after ≡ before) × HasAnswered before.image question old done.0 done.1
-  HasWorked (work.Question question) before after old (Err fault) = (after ≡ before) × IsUnprinted fault
+  HasWorked (work.Question question as_text) before after old (Ok done) = (after ≡ before) × HasAnswered before.image question as_text old done.0 done.1
+  HasWorked (work.Question question as_text) before after old (Err fault) = (after ≡ before) × IsUnprinted fault
   HasWorked (work.Questions from) before after old (Ok done) = (after ≡ before) × EndsQuestions before.image (text_of from.now) old done.0 done.1
   HasWorked (work.Questions from) before after old (Err fault) = (after ≡ before) × IsUnprinted fault
   HasWorked (work.Service service) before after old (Ok done) = EndsService holds service before after old done.0 done.1
@@ -92,7 +92,7 @@ IsNotOpened old given = (why : OpenFault) × EndsSilent old given (Stopped (faul
 
 -- a question, or a sheet of them, or a sheet that is only tried
 abbrev pub Looks : Work → Type 0
-Looks (work.Question question) = ⊤
+Looks (work.Question question as_text) = ⊤
 Looks (work.Questions from) = ⊤
 Looks (work.Check kind from) = ⊤
 Looks w = ⊥

@@ -1,9 +1,9 @@
 //! What stands behind a fault in which a job ends.
 
 use lrs_cli_help::explanation::{
-    explain_header, explain_keep, explain_memory, explain_open, explain_port, explain_read,
-    explain_record, explain_reopening, explain_repeated_key, explain_unsound, explain_write,
-    name_pages,
+    explain_cut_off, explain_header, explain_keep, explain_memory, explain_open, explain_port,
+    explain_read, explain_record, explain_reopening, explain_repeated_key, explain_unsound,
+    explain_write, name_pages,
 };
 use lrs_cli_tasks::{ProgramFault, table_name};
 use lrs_cli_words::Job;
@@ -30,6 +30,7 @@ pub(crate) fn explain(
         ProgramFault::BadHeader => explain_header(rt, job),
         ProgramFault::BadCsv => explain_record(rt, job),
         ProgramFault::RepeatedKey => explain_repeated_key(rt, job),
+        ProgramFault::CutOff => explain_cut_off(rt, job),
         ProgramFault::Door => explain_port(rt, job),
     }
     name_pages(rt);

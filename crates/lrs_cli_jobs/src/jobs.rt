@@ -43,9 +43,12 @@ fn do_work<R: Runtime<A = Global> + Net, S: Sheets, W: Write + Drop, K: Keeper>(
             from,
             resumes,
             all,
-        } => do_records(world, desk, kind, resumes, all, from, of_file, to),
+            whole,
+        } => do_records(world, desk, kind, resumes, all, whole, from, of_file, to),
         Work::Check { kind, from } => do_check(world, desk, kind, from, to),
-        Work::Question(question) => answer(world.rt.alloc(), desk, question, to),
+        Work::Question { question, as_text } => {
+            answer(world.rt.alloc(), desk, question, as_text, to)
+        }
         Work::Questions { from } => do_questions(world, desk, from, to),
         Work::Audit => do_audit(world.rt, desk, to),
         Work::Service(service) => do_service(world.rt, desk, service, to),
@@ -162,7 +165,7 @@ fn looks(work: &Work<'_>) -> bool
 {
     matches!(
         work,
-        Work::Question(_) | Work::Questions { .. } | Work::Check { .. }
+        Work::Question { .. } | Work::Questions { .. } | Work::Check { .. }
     )
 }
 

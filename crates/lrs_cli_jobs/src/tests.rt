@@ -80,6 +80,7 @@ fn does_first(rt: &HostRuntime, desk: &mut Desk<Plain>) -> bool {
         Sheet::Edits,
         false,
         false,
+        false,
         "sheet",
         Pace::InPieces,
         to,

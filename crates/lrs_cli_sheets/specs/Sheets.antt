@@ -1,5 +1,6 @@
 -- What a sheet's run gives, what it leaves of the desk, and how the program ends with it.
-use Rattle.std.specs.Prelude.{◌≡◌, ◌==◌, ◌⊎◌, ℕ, Bool, true, false, List, Option, Some, Result, Ok, Err, IfErr, IfOk, IfSome, if◌then◌else◌}
+use Rattle.std.specs.Prelude.{◌≡◌, ◌==◌, ◌||◌, ◌⊎◌, ◌-◌, ℕ, Bool, true, false, not, List, length, slice_get, Option, Some, Result, Ok, Err, IfErr, IfOk, IfSome, if◌then◌else◌}
+use Rattle.std.specs.Option.{option_map_or}
 use Rattle.lrs_machine.specs.Image.{state_of}
 use Rattle.lrs_machine.specs.Lines.{Text}
 use Rattle.lrs_machine.specs.declared.image.Image.{Image}
@@ -39,6 +40,14 @@ run_of way = record { sheet = way.kind; together = together_at way.pace; passed 
 abbrev pub ending_of_sheet : Result Tally SheetFault → Ending
 ending_of_sheet (Ok tally) = if tally.refused == 0 then Done else RecordsRefused
 ending_of_sheet (Err fault) = Stopped (fault_of_sheet fault)
+
+-- LF or CR
+abbrev pub ends_line : ℕ → Bool
+ends_line byte = (byte == 10) || (byte == 13)
+
+-- the last line of a text has no end: there is a last byte, which is neither
+abbrev pub is_cut_off : Text → Bool
+is_cut_off text = option_map_or (λ last. not (ends_line last)) (slice_get text (length text - 1)) false
 
 -- A sheet goes on behind this many records: those that are decided, where no two of all have one key.
 abbrev pub GoesOnBehind : Sheet → Image → Text → ℕ → Type 0

@@ -16,10 +16,10 @@ use Rattle.lrs_sheet_records.specs.declared.fault.SheetFault.{SheetFault}
 use Rattle.lrs_sheet.specs.declared.reply.Tally.{Tally}
 use Rattle.lrs_cli_tasks.specs.declared.endings.Ending.{Ending}
 use Rattle.lrs_cli_tasks.specs.declared.endings.Ending.TheVariants.{Stopped}
-use Rattle.lrs_cli_tasks.specs.declared.fault.ProgramFault.TheVariants.{Memory, Read}
+use Rattle.lrs_cli_tasks.specs.declared.fault.ProgramFault.TheVariants.{CutOff, Memory, Read}
 use Rattle.lrs_cli_sheets.specs.declared.sheets.Pace.{Pace}
 use Rattle.lrs_cli_sheets.specs.declared.sheets.Way.{Way}
-use Rattle.lrs_cli_sheets.specs.Sheets.{EndsAsRun, EndsSheet, EndsUnresumed, GoesOnBehind, ending_of_sheet}
+use Rattle.lrs_cli_sheets.specs.Sheets.{EndsAsRun, EndsSheet, EndsUnresumed, GoesOnBehind, IsUnopened, ending_of_sheet, is_cut_off}
 
 -- an inventory may hold as much as one may hold at all
 pub record IsFull (limits : Limits) : Type 0 where
@@ -111,6 +111,14 @@ module _ {K : Type 0} (holds : K → Result Image Table → Type 0) where
       ⊎ ((after ≡ before) × (new ≡ old) × IsUntried kind resumes known ending)
 
   -- How the program ends with a sheet: done as it comes, or as a whole or not at all.
-  abbrev pub EndsRecords : Sheet → Bool → Bool → Option Text → DeskView K → DeskView K → Option Text → Option Text → Ending → Type 0
-  EndsRecords kind resumes false known before after old new ending = EndsSheet holds kind resumes known before after old new ending
-  EndsRecords kind resumes true known before after old new ending = EndsAll kind resumes known before after old new ending
+  abbrev pub EndsGiven : Sheet → Bool → Bool → Option Text → DeskView K → DeskView K → Option Text → Option Text → Ending → Type 0
+  EndsGiven kind resumes false known before after old new ending = EndsSheet holds kind resumes known before after old new ending
+  EndsGiven kind resumes true known before after old new ending = EndsAll kind resumes known before after old new ending
+
+  -- The same; and where the sheet has to be whole, it is not opened; or its last line has no end, and nothing is done or written; or it has one, and the same.
+  abbrev pub EndsRecords : Sheet → Bool → Bool → Bool → Option Text → DeskView K → DeskView K → Option Text → Option Text → Ending → Type 0
+  EndsRecords kind resumes all false known before after old new ending = EndsGiven kind resumes all known before after old new ending
+  EndsRecords kind resumes all true known before after old new ending =
+      IsUnopened holds before after old new ending
+      ⊎ (IfSome known (λ text. is_cut_off text ≡ true) × (after ≡ before) × (new ≡ old) × (ending ≡ Stopped CutOff))
+      ⊎ (IfSome known (λ text. is_cut_off text ≡ false) × EndsGiven kind resumes all known before after old new ending)

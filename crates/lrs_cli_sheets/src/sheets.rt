@@ -1,10 +1,10 @@
 //! Sheets, from a file or the standard input, and their replies.
 
-ghost use Rattle.std.specs.Prelude.{◌≡◌, ◌⊎◌, IfErr, IfOk, IfSome, false, true};
+ghost use Rattle.std.specs.Prelude.{◌≡◌, ◌⊎◌, IfErr, IfOk, IfSome, Some, false, true};
 ghost use Rattle.lrs_machine.specs.Image.{state_of};
 ghost use Rattle.lrs_sheet.specs.Runs.{IsWholeRun};
 ghost use Rattle.lrs_sheet.specs.Sheets.{IsAfterCommands};
-ghost use Rattle.lrs_cli_sheets.specs.Sheets.{DoesNotGoOn, EndsAsRun, EndsSheet, GoesOnBehind, HasRun, IsUnwritten, WritesReplies, ending_of_sheet, run_of, together_at};
+ghost use Rattle.lrs_cli_sheets.specs.Sheets.{DoesNotGoOn, EndsAsRun, EndsSheet, GoesOnBehind, HasRun, IsUnwritten, WritesReplies, ending_of_sheet, ends_line, is_cut_off, run_of, together_at};
 
 use crate::progress::Progress;
 use crate::world::{Sheets, World};
@@ -308,6 +308,45 @@ pub(crate) fn passed_over<R: Runtime<A = Global>, K: Keeper>(
     }
 }
 
+fn ends_line(byte: u8) -> bool
+    ensures { result ≡ ends_line byte }
+{
+    byte == b'\n' || byte == b'\r'
+}
+
+// Whether the last line of a text has no end.
+pub(crate) fn is_cut_off(text: &[u8]) -> bool
+    ensures { result ≡ is_cut_off text.now }
+{
+    match text.last() {
+        Some(last) => !ends_line(*last),
+        None => false,
+    }
+}
+
+// Goes on with the bytes of a sheet behind its last record that is an edit.
+#[tactic(auto, using(crate::proofs::Between::none_done))]
+fn go_on_with<R: Runtime<A = Global>, S: Sheets, W: Write + Drop, K: Keeper>(
+    world: &World<'_, R, S>,
+    desk: &mut Desk<K>,
+    kind: Sheet,
+    text: &[u8],
+    pace: Pace,
+    to: W,
+) -> Result<(W, Ending), ProgramFault>
+    ensures ended { IfOk result (λ done. EndsSheet K.may_hold kind true (Some text.now)
+        desk.old desk.new (W.contents to) (W.contents done.0) done.1) }
+    ensures failed { IfErr result (IsUnwritten K.may_hold desk.old desk.new) }
+    ensures left { IsAfterCommands desk.old.limits (state_of desk.old.image)
+        (state_of desk.new.image) }
+{
+    let passed = match passed_over(world.rt, desk, kind, text) {
+        Ok(passed) => passed,
+        Err(fault) => return Ok((to, Ending::Stopped(fault))),
+    };
+    print_replies(world, Way { kind, pace, passed }, text, desk, to)
+}
+
 // Goes on with a sheet behind its last record that is an edit. It is read as a whole before.
 #[tactic(auto, using(crate::proofs::Between::none_done))]
 fn go_on<R: Runtime<A = Global>, S: Sheets, W: Write + Drop, K: Keeper>(
@@ -325,15 +364,33 @@ fn go_on<R: Runtime<A = Global>, S: Sheets, W: Write + Drop, K: Keeper>(
     ensures left { IsAfterCommands desk.old.limits (state_of desk.old.image)
         (state_of desk.new.image) }
 {
-    let text = match read_whole(world, name) {
-        Ok(text) => text,
-        Err(error) => return Ok((to, unopened(world.rt, name, error))),
-    };
-    let passed = match passed_over(world.rt, desk, kind, text.as_slice()) {
-        Ok(passed) => passed,
-        Err(fault) => return Ok((to, Ending::Stopped(fault))),
-    };
-    print_replies(world, Way { kind, pace, passed }, text.as_slice(), desk, to)
+    match read_whole(world, name) {
+        Ok(text) => go_on_with(world, desk, kind, text.as_slice(), pace, to),
+        Err(error) => Ok((to, unopened(world.rt, name, error))),
+    }
+}
+
+// Does the bytes of a sheet, or goes on with them behind the last record that is an edit.
+pub(crate) fn do_bytes<R: Runtime<A = Global>, S: Sheets, W: Write + Drop, K: Keeper>(
+    world: &World<'_, R, S>,
+    desk: &mut Desk<K>,
+    kind: Sheet,
+    resumes: bool,
+    text: &[u8],
+    pace: Pace,
+    to: W,
+) -> Result<(W, Ending), ProgramFault>
+    ensures ended { IfOk result (λ done. EndsSheet K.may_hold kind resumes (Some text.now)
+        desk.old desk.new (W.contents to) (W.contents done.0) done.1) }
+    ensures failed { IfErr result (IsUnwritten K.may_hold desk.old desk.new) }
+    ensures left { IsAfterCommands desk.old.limits (state_of desk.old.image)
+        (state_of desk.new.image) }
+{
+    if resumes {
+        return go_on_with(world, desk, kind, text, pace, to);
+    }
+    let passed = 0;
+    print_replies(world, Way { kind, pace, passed }, text, desk, to)
 }
 
 /// Does a sheet of this kind at a desk, or goes on with it behind its last record that is an edit, and writes its replies:

@@ -9,7 +9,8 @@ ghost use Rattle.lrs_cli_sheets.specs.Trials.{ArePassed, EndsAll, EndsCheck, End
 
 use crate::advice::{Trial, advise};
 use crate::sheets::{
-    Pace, Way, do_sheet, ending_of, passed_over, print_replies, read_whole, unopened, write_replies,
+    Pace, Way, do_bytes, do_sheet, ending_of, is_cut_off, passed_over, print_replies, read_whole,
+    unopened, write_replies,
 };
 use crate::world::{Sheets, World};
 use lrs_cli_tasks::{Ending, ProgramFault, open_full};
@@ -276,12 +277,36 @@ fn do_all<R: Runtime<A = Global>, S: Sheets, W: Write + Drop, K: Keeper>(
     }
 }
 
-/// Does a sheet of this kind at a desk: with `all` only if no record of it is refused, and else each record by itself. Its
-/// replies are written, and the writer is given back with how the program ends.
-///
-/// # Errors
-/// `Memory` where there is none for the replies, and nothing is done; `Write` where not all of them were written.
-pub fn do_records<R: Runtime<A = Global>, S: Sheets, W: Write + Drop, K: Keeper>(
+// Does the bytes of a sheet, if their last line has an end. Else nothing is done.
+#[tactic(auto, using(crate::proofs::Between::none_done))]
+fn do_uncut_text<R: Runtime<A = Global>, S: Sheets, W: Write + Drop, K: Keeper>(
+    world: &World<'_, R, S>,
+    desk: &mut Desk<K>,
+    kind: Sheet,
+    resumes: bool,
+    all: bool,
+    text: &[u8],
+    of_file: Pace,
+    to: W,
+) -> Result<(W, Ending), ProgramFault>
+    ensures ended { IfOk result (λ done. EndsRecords K.may_hold kind resumes all true
+        (Some text.now) desk.old desk.new (W.contents to) (W.contents done.0) done.1) }
+    ensures failed { IfErr result (IsUnwritten K.may_hold desk.old desk.new) }
+    ensures left { IsAfterCommands desk.old.limits (state_of desk.old.image)
+        (state_of desk.new.image) }
+{
+    if is_cut_off(text) {
+        return Ok((to, Ending::Stopped(ProgramFault::CutOff)));
+    }
+    if all {
+        return do_text(world, desk, kind, resumes, text, of_file, to);
+    }
+    do_bytes(world, desk, kind, resumes, text, of_file, to)
+}
+
+// Does a sheet only if its last line has an end. It is read as a whole before.
+#[tactic(auto, using(crate::proofs::Between::none_done))]
+fn do_uncut<R: Runtime<A = Global>, S: Sheets, W: Write + Drop, K: Keeper>(
     world: &World<'_, R, S>,
     desk: &mut Desk<K>,
     kind: Sheet,
@@ -291,14 +316,55 @@ pub fn do_records<R: Runtime<A = Global>, S: Sheets, W: Write + Drop, K: Keeper>
     of_file: Pace,
     to: W,
 ) -> Result<(W, Ending), ProgramFault>
-    ensures ended { IfOk result (λ done. EndsRecords K.may_hold kind resumes all
+    ensures ended { IfOk result (λ done. EndsRecords K.may_hold kind resumes all true
         (S.text_of world.now.sheets.now name.now) desk.old desk.new
         (W.contents to) (W.contents done.0) done.1) }
     ensures failed { IfErr result (IsUnwritten K.may_hold desk.old desk.new) }
     ensures left { IsAfterCommands desk.old.limits (state_of desk.old.image)
         (state_of desk.new.image) }
 {
-    if all {
+    match read_whole(world, name) {
+        Ok(text) => do_uncut_text(
+            world,
+            desk,
+            kind,
+            resumes,
+            all,
+            text.as_slice(),
+            of_file,
+            to,
+        ),
+        Err(error) => Ok((to, unopened(world.rt, name, error))),
+    }
+}
+
+/// Does a sheet of this kind at a desk: with `all` only if no record of it is refused, and else each record by itself; with
+/// `whole` only if its last line has an end. Its replies are written, and the writer is given back with how the program
+/// ends.
+///
+/// # Errors
+/// `Memory` where there is none for the replies, and nothing is done; `Write` where not all of them were written.
+pub fn do_records<R: Runtime<A = Global>, S: Sheets, W: Write + Drop, K: Keeper>(
+    world: &World<'_, R, S>,
+    desk: &mut Desk<K>,
+    kind: Sheet,
+    resumes: bool,
+    all: bool,
+    whole: bool,
+    name: &str,
+    of_file: Pace,
+    to: W,
+) -> Result<(W, Ending), ProgramFault>
+    ensures ended { IfOk result (λ done. EndsRecords K.may_hold kind resumes all whole
+        (S.text_of world.now.sheets.now name.now) desk.old desk.new
+        (W.contents to) (W.contents done.0) done.1) }
+    ensures failed { IfErr result (IsUnwritten K.may_hold desk.old desk.new) }
+    ensures left { IsAfterCommands desk.old.limits (state_of desk.old.image)
+        (state_of desk.new.image) }
+{
+    if whole {
+        do_uncut(world, desk, kind, resumes, all, name, of_file, to)
+    } else if all {
         do_all(world, desk, kind, resumes, name, of_file, to)
     } else {
         do_sheet(world, desk, kind, resumes, name, of_file, to)

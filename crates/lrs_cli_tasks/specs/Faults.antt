@@ -11,7 +11,7 @@ use Rattle.lrs_machine.specs.declared.stops.fault.Fault.TheVariants as desk
 use Rattle.lrs_sheet_records.specs.declared.fault.SheetFault.{SheetFault}
 use Rattle.lrs_sheet_records.specs.declared.fault.SheetFault.TheVariants as sheet
 use Rattle.lrs_cli_tasks.specs.declared.fault.ProgramFault.{ProgramFault}
-use Rattle.lrs_cli_tasks.specs.declared.fault.ProgramFault.TheVariants.{Open, Unsound, Memory, Keep, MustReopen, Read, Write, BadHeader, BadCsv, RepeatedKey, Door}
+use Rattle.lrs_cli_tasks.specs.declared.fault.ProgramFault.TheVariants.{Open, Unsound, Memory, Keep, MustReopen, Read, Write, BadHeader, BadCsv, RepeatedKey, CutOff, Door}
 
 -- a table's name
 abbrev pub table_text : Table → List ℕ
@@ -40,6 +40,7 @@ fault_text Write = codes "Write"
 fault_text BadHeader = codes "BadHeader"
 fault_text BadCsv = codes "BadCsv"
 fault_text RepeatedKey = codes "RepeatedKey"
+fault_text CutOff = codes "CutOff"
 fault_text Door = codes "Door"
 
 -- what it is for the program that a desk is not opened

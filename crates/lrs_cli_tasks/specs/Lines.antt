@@ -1,6 +1,6 @@
 -- Answers as they are printed: words with a space between them, a line for each place, asset, row or class.
-use Rattle.std.specs.Prelude.{ℕ, List, [], ◌∷◌, ◌++◌, length}
-use Rattle.std.specs.List.{flat_map}
+use Rattle.std.specs.Prelude.{ℕ, List, [], ◌∷◌, ◌++◌, length, map}
+use Rattle.std.specs.List.{flat_map, join_with_byte}
 use Rattle.std.specs.Fmt.{decimal}
 use Rattle.lrs_measure.specs.Fraction.{Fraction}
 use Rattle.lrs_measure.specs.FractionTexts.{fraction_text, metres_text}
@@ -15,10 +15,11 @@ use Rattle.lrs_machine.specs.declared.image.Image.{Image}
 use Rattle.lrs_machine.specs.declared.question.Listing.{Listing}
 use Rattle.lrs_machine.specs.declared.question.Listing.TheVariants as listing
 use Rattle.lrs_machine.specs.Image.{state_of}
-use Rattle.lrs_machine.specs.Lines.{Text, method_text, words}
+use Rattle.lrs_machine.specs.Lines.{Text, fields, method_text, words}
 use Rattle.lrs_report_lists.specs.Length.Lines.{lengths_text}
 use Rattle.lrs_report_lists.specs.Lists.{classes_text, gone_text, links_text, marks_text, refs_text, routes_text, rows_text}
 use Rattle.lrs_sheet_log.specs.Log.{edits_from, edits_under, log_text}
+use Rattle.lrs_sheet_records.specs.Words.{parts_of}
 use Rattle.lrs_report.specs.Drawings.Strips.{strip_text}
 use Rattle.lrs_report.specs.Drawings.Pictures.{diagram_text}
 use Rattle.lrs_report_answers.specs.Answers.{direction_text}
@@ -107,3 +108,16 @@ told_text (told.Where w) = whereabouts_text w
 told_text (told.Lengths lengths) = lengths_text lengths
 told_text (told.Listing l inventory) = listing_text inventory.now l
 told_text (told.Health edits) = decimal edits ++ 10 ∷ []
+
+-- a cell as a formula that gives it as text, quoted as CSV quotes: `"=""CELL"""`; an empty cell stays empty
+abbrev pub text_cell : Text → Text
+text_cell [] = []
+text_cell (byte ∷ rest) = 34 ∷ 61 ∷ 34 ∷ 34 ∷ byte ∷ rest ++ 34 ∷ 34 ∷ 34 ∷ []
+
+-- a line, each cell of it so, between commas
+abbrev pub text_line : Text → Text
+text_line line = fields (map text_cell (parts_of 44 line))
+
+-- a CSV text that has no quotes, each cell of each line so
+abbrev pub text_cells : Text → Text
+text_cells text = join_with_byte 10 (map text_line (parts_of 10 text))

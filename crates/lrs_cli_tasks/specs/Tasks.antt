@@ -13,8 +13,8 @@ use Rattle.lrs_cli_tasks.specs.declared.task.Work.TheVariants as work
 
 -- the inventory that it names; none for the page
 abbrev pub inventory_of : Job → Option Text
-inventory_of (job.Edit db sheet sums resume all) = Some db.now
-inventory_of (job.Survey db sheet sums resume all) = Some db.now
+inventory_of (job.Edit db sheet sums resume all whole) = Some db.now
+inventory_of (job.Survey db sheet sums resume all whole) = Some db.now
 inventory_of (job.Check db sheet survey) = Some db.now
 inventory_of (job.At db route method position) = Some db.now
 inventory_of (job.Where db route chainage mm) = Some db.now
@@ -22,13 +22,13 @@ inventory_of (job.Translate db route method position to) = Some db.now
 inventory_of (job.Strip db route side classes) = Some db.now
 inventory_of (job.Diagram db route classes from to) = Some db.now
 inventory_of (job.Totals db) = Some db.now
-inventory_of (job.Lengths db route) = Some db.now
+inventory_of (job.Lengths db route text) = Some db.now
 inventory_of (job.Find db asset) = Some db.now
 inventory_of (job.Ask db questions) = Some db.now
-inventory_of (job.List db what) = Some db.now
-inventory_of (job.Rows db route from to class asset) = Some db.now
-inventory_of (job.Gone db edit) = Some db.now
-inventory_of (job.Log db from key) = Some db.now
+inventory_of (job.List db what text) = Some db.now
+inventory_of (job.Rows db route from to class asset text) = Some db.now
+inventory_of (job.Gone db edit text) = Some db.now
+inventory_of (job.Log db from key text) = Some db.now
 inventory_of (job.Audit db) = Some db.now
 inventory_of (job.Serve db port max sums log end_on_fault most_reply) = Some db.now
 inventory_of (job.Page dir) = None
@@ -38,15 +38,24 @@ abbrev pub kind_checked : Bool → Sheet
 kind_checked true = Survey
 kind_checked false = Edits
 
--- `edit` does an edit sheet, `survey` a survey, `check` tries one, `ask` answers a sheet of questions, `audit` audits, `serve` serves where and how its words say, and every other job asks what they say
+-- each cell of what the job lists is written as text
+abbrev pub has_text_cells : Job → Bool
+has_text_cells (job.Lengths db route text) = text
+has_text_cells (job.List db what text) = text
+has_text_cells (job.Rows db route from to class asset text) = text
+has_text_cells (job.Gone db edit text) = text
+has_text_cells (job.Log db from key text) = text
+has_text_cells _ = false
+
+-- `edit` does an edit sheet, `survey` a survey, `check` tries one, `ask` answers a sheet of questions, `audit` audits, `serve` serves where and how its words say, and every other job asks what they say, and has its cells written as text where it says so
 abbrev pub IsWorkOf : Job → Work → Type 0
-IsWorkOf (job.Edit db sheet sums resume all) (work.Sheet kind from resumes whole) = (kind ≡ Edits) × (from.now ≡ sheet.now) × (resumes ≡ resume) × (whole ≡ all)
-IsWorkOf (job.Survey db sheet sums resume all) (work.Sheet kind from resumes whole) = (kind ≡ Survey) × (from.now ≡ sheet.now) × (resumes ≡ resume) × (whole ≡ all)
+IsWorkOf (job.Edit db sheet sums resume all whole) (work.Sheet kind from resumes at_once with_end) = (kind ≡ Edits) × (from.now ≡ sheet.now) × (resumes ≡ resume) × (at_once ≡ all) × (with_end ≡ whole)
+IsWorkOf (job.Survey db sheet sums resume all whole) (work.Sheet kind from resumes at_once with_end) = (kind ≡ Survey) × (from.now ≡ sheet.now) × (resumes ≡ resume) × (at_once ≡ all) × (with_end ≡ whole)
 IsWorkOf (job.Check db sheet survey) (work.Check kind from) = (kind ≡ kind_checked survey) × (from.now ≡ sheet.now)
 IsWorkOf (job.Ask db questions) (work.Questions from) = from.now ≡ questions.now
 IsWorkOf (job.Audit db) work.Audit = ⊤
 IsWorkOf (job.Serve db port max sums log end_on_fault most_reply) (work.Service service) = SaysService port.now max.now log end_on_fault (option_map (λ w. w.now) most_reply) service
-IsWorkOf j (work.Question question) = Asks j question
+IsWorkOf j (work.Question question as_text) = Asks j question × (as_text ≡ has_text_cells j)
 IsWorkOf j w = ⊥
 
 -- `page` has a folder, and every other job an inventory and what is done with it

@@ -27,6 +27,8 @@ pub enum ProgramFault {
     BadCsv,
     /// Two records of the sheet have one key, so it does not go on.
     RepeatedKey,
+    /// The last line of the sheet has no end, and it was to have one.
+    CutOff,
     /// The port cannot be listened on.
     Door,
 }
@@ -117,6 +119,7 @@ impl fmt::Display for ProgramFault {
             ProgramFault::BadHeader => f.write_str("BadHeader"),
             ProgramFault::BadCsv => f.write_str("BadCsv"),
             ProgramFault::RepeatedKey => f.write_str("RepeatedKey"),
+            ProgramFault::CutOff => f.write_str("CutOff"),
             ProgramFault::Door => f.write_str("Door"),
         }
     }

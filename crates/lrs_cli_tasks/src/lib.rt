@@ -2,6 +2,7 @@
 #![tactic(auto)]
 
 mod buffer;
+mod cells;
 mod desk;
 mod endings;
 mod fault;

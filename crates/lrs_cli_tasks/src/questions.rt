@@ -1,11 +1,13 @@
 //! Questions: asked of a desk, and their answers printed.
 
-ghost use Rattle.std.specs.Prelude.{◌≡◌, ◌⊎◌, IfOk, IfErr, Err, false};
+ghost use Rattle.std.specs.Prelude.{◌≡◌, ◌⊎◌, IfOk, IfErr, Err, false, true};
+ghost use Rattle.std.specs.Io.KnownBytes.{Appends};
 ghost use Rattle.lrs_report_answers.specs.ToldAnswers.{IsTold};
-ghost use Rattle.lrs_cli_tasks.specs.Lines.{told_text};
+ghost use Rattle.lrs_cli_tasks.specs.Lines.{text_cells, told_text};
 ghost use Rattle.lrs_cli_tasks.specs.Questions.{HasAnswered, IsPrinted, ending_of, stop_of};
 
 use crate::buffer::{behind, buffered};
+use crate::cells::write_text_cells;
 use crate::endings::Ending;
 use crate::fault::ProgramFault;
 use crate::lines::write_told;
@@ -64,19 +66,15 @@ fn refusal(fault: AskFault) -> Ending
     }
 }
 
-/// Answers a question through a buffer in front of the writer, and gives the writer back with the whole answer. A
-/// question changes nothing.
-///
-/// # Errors
-/// `Write` where the answer was not written, and `Memory` where there is none for the buffer.
-pub fn answer<K: Keeper, W: Write + Drop>(
+// Answers a question through a buffer in front of the writer, and gives the writer back with the whole answer.
+fn answer_as_it_is<K: Keeper, W: Write + Drop>(
     alloc: Global,
     desk: &Desk<K>,
     question: Question,
     to: W,
 ) -> Result<(W, Ending), ProgramFault>
     requires behind { desk.now.is_ahead ≡ false }
-    ensures answered { IfOk result (λ done. HasAnswered desk.now.image question
+    ensures answered { IfOk result (λ done. HasAnswered desk.now.image question false
         (W.contents to) (W.contents done.0) done.1) }
     ensures faults { IfErr result (λ e. (e ≡ ProgramFault.Memory) ⊎ (e ≡ ProgramFault.Write)) }
 {
@@ -87,4 +85,62 @@ pub fn answer<K: Keeper, W: Write + Drop>(
         Err(Unanswered::Write) => return Err(ProgramFault::Write),
     };
     Ok((behind(writer)?, ending))
+}
+
+// Writes a CSV text through a buffer in front of the writer, each cell as text, and gives the writer back.
+fn print_cells<W: Write + Drop>(alloc: Global, text: &[u8], to: W) -> Result<W, ProgramFault>
+    ensures written { IfOk result (λ w. Appends (W.contents to) (W.contents w)
+        (text_cells text.now)) }
+    ensures faults { IfErr result (λ e. (e ≡ ProgramFault.Memory) ⊎ (e ≡ ProgramFault.Write)) }
+{
+    let mut writer = buffered(alloc, to)?;
+    match write_text_cells(&mut writer, text) {
+        Ok(()) => behind(writer),
+        Err(_) => Err(ProgramFault::Write),
+    }
+}
+
+// Answers a question with each cell of the answer as text. The answer is made in memory before.
+fn answer_in_cells<K: Keeper, W: Write + Drop>(
+    alloc: Global,
+    desk: &Desk<K>,
+    question: Question,
+    to: W,
+) -> Result<(W, Ending), ProgramFault>
+    requires behind { desk.now.is_ahead ≡ false }
+    ensures answered { IfOk result (λ done. HasAnswered desk.now.image question true
+        (W.contents to) (W.contents done.0) done.1) }
+    ensures faults { IfErr result (λ e. (e ≡ ProgramFault.Memory) ⊎ (e ≡ ProgramFault.Write)) }
+{
+    let mut text = Vec::new(alloc);
+    match print_answer(desk, question, &mut text) {
+        Ok(()) => Ok((print_cells(alloc, text.as_slice(), to)?, Ending::Done)),
+        Err(Unanswered::Asked(fault)) => Ok((to, refusal(fault))),
+        // of what is written into memory, that alone can run out
+        Err(Unanswered::Write) => Err(ProgramFault::Memory),
+    }
+}
+
+/// Answers a question, and gives the writer back with the whole answer: as it is, or, for a list, with each cell as text.
+/// A question changes nothing.
+///
+/// # Errors
+/// `Write` where the answer was not written, and `Memory` where there is none for it.
+pub fn answer<K: Keeper, W: Write + Drop>(
+    alloc: Global,
+    desk: &Desk<K>,
+    question: Question,
+    as_text: bool,
+    to: W,
+) -> Result<(W, Ending), ProgramFault>
+    requires behind { desk.now.is_ahead ≡ false }
+    ensures answered { IfOk result (λ done. HasAnswered desk.now.image question as_text
+        (W.contents to) (W.contents done.0) done.1) }
+    ensures faults { IfErr result (λ e. (e ≡ ProgramFault.Memory) ⊎ (e ≡ ProgramFault.Write)) }
+{
+    if as_text {
+        answer_in_cells(alloc, desk, question, to)
+    } else {
+        answer_as_it_is(alloc, desk, question, to)
+    }
 }

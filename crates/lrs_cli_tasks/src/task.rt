@@ -2,7 +2,7 @@
 
 ghost use Rattle.std.specs.Prelude.{◌≡◌, IfOk, IfErr};
 ghost use Rattle.lrs_cli_words.specs.Questions.{IsFaultOf};
-ghost use Rattle.lrs_cli_tasks.specs.Tasks.{IsTaskOf, kind_checked};
+ghost use Rattle.lrs_cli_tasks.specs.Tasks.{IsTaskOf, has_text_cells, kind_checked};
 
 use lrs_cli_words::{Job, QuestionFault, Service, question_of, service_of};
 use lrs_machine::Question;
@@ -13,20 +13,24 @@ use std::alloc::Global;
 #[derive(Drop)]
 pub enum Work<'a> {
     /// A sheet of this kind is read from `from`, and done; or it goes on behind its last record that is an edit. With
-    /// `all` it is done only if no record of it is refused.
+    /// `all` it is done only if no record of it is refused, and with `whole` only if its last line has an end.
     Sheet {
         kind: Sheet,
         from: &'a str,
         resumes: bool,
         all: bool,
+        whole: bool,
     },
     /// A sheet of this kind is read from `from`, and tried.
     Check {
         kind: Sheet,
         from: &'a str,
     },
-    /// A question is answered.
-    Question(Question),
+    /// A question is answered; with `as_text` each cell of its answer is written as text.
+    Question {
+        question: Question,
+        as_text: bool,
+    },
     /// A sheet of questions is read from `from`, and answered.
     Questions {
         from: &'a str,
@@ -46,14 +50,15 @@ pub enum Task<'a> {
     Page { dir: &'a str },
 }
 
-fn sheet_work<'a>(kind: Sheet, from: &'a str, resumes: bool, all: bool) -> Work<'a>
-    ensures { result ≡ Work.Sheet kind from.entry resumes all }
+fn sheet_work<'a>(kind: Sheet, from: &'a str, resumes: bool, all: bool, whole: bool) -> Work<'a>
+    ensures { result ≡ Work.Sheet kind from.entry resumes all whole }
 {
     Work::Sheet {
         kind,
         from,
         resumes,
         all,
+        whole,
     }
 }
 
@@ -62,6 +67,20 @@ fn check_work<'a>(from: &'a str, survey: bool) -> Work<'a>
 {
     let kind = if survey { Sheet::Survey } else { Sheet::Edits };
     Work::Check { kind, from }
+}
+
+// Whether each cell of what the job lists is written as text.
+fn writes_text_cells(job: &Job<'_>) -> bool
+    ensures { result ≡ has_text_cells job.now }
+{
+    match job {
+        Job::Lengths { text, .. }
+        | Job::List { text, .. }
+        | Job::Rows { text, .. }
+        | Job::Gone { text, .. }
+        | Job::Log { text, .. } => *text,
+        _ => false,
+    }
 }
 
 /// What a job asks for. Its words are read, and nothing else is looked at.
@@ -79,15 +98,17 @@ pub fn task_of<'a>(alloc: Global, job: &Job<'a>) -> Result<Task<'a>, QuestionFau
             sheet,
             resume,
             all,
+            whole,
             ..
-        } => (db, sheet_work(Sheet::Edits, sheet, *resume, *all)),
+        } => (db, sheet_work(Sheet::Edits, sheet, *resume, *all, *whole)),
         Job::Survey {
             db,
             sheet,
             resume,
             all,
+            whole,
             ..
-        } => (db, sheet_work(Sheet::Survey, sheet, *resume, *all)),
+        } => (db, sheet_work(Sheet::Survey, sheet, *resume, *all, *whole)),
         Job::Check { db, sheet, survey } => (db, check_work(sheet, *survey)),
         Job::Ask { db, questions } => (db, Work::Questions { from: questions }),
         Job::Audit { db } => (db, Work::Audit),
@@ -115,7 +136,13 @@ pub fn task_of<'a>(alloc: Global, job: &Job<'a>) -> Result<Task<'a>, QuestionFau
         | Job::Rows { db, .. }
         | Job::Gone { db, .. }
         | Job::Log { db, .. } => match question_of(alloc, job)? {
-            Some(question) => (db, Work::Question(question)),
+            Some(question) => (
+                db,
+                Work::Question {
+                    question,
+                    as_text: writes_text_cells(job),
+                },
+            ),
             None => unreachable!(),
         },
     };

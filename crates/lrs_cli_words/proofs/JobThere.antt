@@ -89,6 +89,12 @@ resume_fills = flag_fills (codes "resume")
 all_fills : Fills (flag_at (codes "all"))
 all_fills = flag_fills (codes "all")
 
+whole_fills : Fills (flag_at (codes "whole"))
+whole_fills = flag_fills (codes "whole")
+
+text_fills : Fills (flag_at (codes "text"))
+text_fills = flag_fills (codes "text")
+
 survey_fills : Fills (flag_at (codes "survey"))
 survey_fills = flag_fills (codes "survey")
 
@@ -123,7 +129,7 @@ most_reply_fills : Fills (option_at (codes "most-reply"))
 most_reply_fills = option_fills (codes "most-reply") refl
 
 abbrev sheet_options : List Rule
-sheet_options = flag_at (codes "sums") ∷ flag_at (codes "resume") ∷ flag_at (codes "all") ∷ []
+sheet_options = flag_at (codes "sums") ∷ flag_at (codes "resume") ∷ flag_at (codes "all") ∷ flag_at (codes "whole") ∷ []
 
 abbrev serve_options : List Rule
 serve_options = flag_at (codes "sums") ∷ flag_at (codes "log") ∷ flag_at (codes "end-on-fault") ∷ option_at (codes "most-reply") ∷ []
@@ -132,18 +138,18 @@ abbrev end_options : List Rule
 end_options = option_at (codes "from") ∷ option_at (codes "to") ∷ []
 
 abbrev row_options : List Rule
-row_options = option_at (codes "route") ∷ option_at (codes "from") ∷ option_at (codes "to") ∷ option_at (codes "class") ∷ option_at (codes "asset") ∷ []
+row_options = option_at (codes "route") ∷ option_at (codes "from") ∷ option_at (codes "to") ∷ option_at (codes "class") ∷ option_at (codes "asset") ∷ flag_at (codes "text") ∷ []
 
 without_options : (j : JobName) → HasHelp (rules_at j) → ((name : Text) → IfSome (among [] name) (IsNamed (rules_at j)))
 without_options j help = long_among (rules_at j) [] tt help
 
 has_flags : (j : JobName) → HasFlags (rules_at j)
 has_flags job.Edit = record {
-  long = long_among (rules_at job.Edit) sheet_options (sums_fills, sums_fills, (resume_fills, resume_fills, (all_fills, all_fills, tt))) help_fills;
+  long = long_among (rules_at job.Edit) sheet_options (sums_fills, sums_fills, (resume_fills, resume_fills, (all_fills, all_fills, (whole_fills, whole_fills, tt)))) help_fills;
   short = short_help (rules_at job.Edit) help_fills;
 }
 has_flags job.Survey = record {
-  long = long_among (rules_at job.Survey) sheet_options (sums_fills, sums_fills, (resume_fills, resume_fills, (all_fills, all_fills, tt))) help_fills;
+  long = long_among (rules_at job.Survey) sheet_options (sums_fills, sums_fills, (resume_fills, resume_fills, (all_fills, all_fills, (whole_fills, whole_fills, tt)))) help_fills;
   short = short_help (rules_at job.Survey) help_fills;
 }
 has_flags job.Check = record {
@@ -160,23 +166,26 @@ has_flags job.Diagram = record {
 }
 has_flags job.Totals = record { long = without_options job.Totals help_fills; short = short_help (rules_at job.Totals) help_fills }
 has_flags job.Lengths = record {
-  long = long_among (rules_at job.Lengths) (option_at (codes "route") ∷ []) (route_fills, route_fills, tt) help_fills;
+  long = long_among (rules_at job.Lengths) (option_at (codes "route") ∷ flag_at (codes "text") ∷ []) (route_fills, route_fills, (text_fills, text_fills, tt)) help_fills;
   short = short_help (rules_at job.Lengths) help_fills;
 }
 has_flags job.Find = record { long = without_options job.Find help_fills; short = short_help (rules_at job.Find) help_fills }
 has_flags job.Ask = record { long = without_options job.Ask help_fills; short = short_help (rules_at job.Ask) help_fills }
-has_flags job.List = record { long = without_options job.List help_fills; short = short_help (rules_at job.List) help_fills }
+has_flags job.List = record {
+  long = long_among (rules_at job.List) (flag_at (codes "text") ∷ []) (text_fills, text_fills, tt) help_fills;
+  short = short_help (rules_at job.List) help_fills;
+}
 has_flags job.Rows = record {
   long = long_among (rules_at job.Rows) row_options
-      (route_fills, route_fills, (from_fills, from_fills, (to_fills, to_fills, (class_fills, class_fills, (asset_fills, asset_fills, tt))))) help_fills;
+      (route_fills, route_fills, (from_fills, from_fills, (to_fills, to_fills, (class_fills, class_fills, (asset_fills, asset_fills, (text_fills, text_fills, tt)))))) help_fills;
   short = short_help (rules_at job.Rows) help_fills;
 }
 has_flags job.Gone = record {
-  long = long_among (rules_at job.Gone) (option_at (codes "edit") ∷ []) (edit_fills, edit_fills, tt) help_fills;
+  long = long_among (rules_at job.Gone) (option_at (codes "edit") ∷ flag_at (codes "text") ∷ []) (edit_fills, edit_fills, (text_fills, text_fills, tt)) help_fills;
   short = short_help (rules_at job.Gone) help_fills;
 }
 has_flags job.Log = record {
-  long = long_among (rules_at job.Log) (option_at (codes "key") ∷ []) (key_fills, key_fills, tt) help_fills;
+  long = long_among (rules_at job.Log) (option_at (codes "key") ∷ flag_at (codes "text") ∷ []) (key_fills, key_fills, (text_fills, text_fills, tt)) help_fills;
   short = short_help (rules_at job.Log) help_fills;
 }
 has_flags job.Audit = record { long = without_options job.Audit help_fills; short = short_help (rules_at job.Audit) help_fills }

@@ -127,8 +127,8 @@ pub record SaysService (at most : Text) (tells ends : Bool) (longest : Option Te
 
 -- the job asks no single question: it does or checks a sheet, answers a sheet of questions, audits, serves, or writes the page
 abbrev pub AsksNothing : Job → Type 0
-AsksNothing (job.Edit db sheet sums resume all) = ⊤
-AsksNothing (job.Survey db sheet sums resume all) = ⊤
+AsksNothing (job.Edit db sheet sums resume all whole) = ⊤
+AsksNothing (job.Survey db sheet sums resume all whole) = ⊤
 AsksNothing (job.Check db sheet survey) = ⊤
 AsksNothing (job.Ask db questions) = ⊤
 AsksNothing (job.Audit db) = ⊤
@@ -199,12 +199,12 @@ Asks (job.Diagram db route classes from to) q = AsksDiagram route.now (map (λ w
 Asks (job.Totals db) question.Totals = ⊤
 Asks (job.Find db asset) (question.Find n) = SaysAsset asset.now n
 Asks (job.Where db route chainage mm) (question.Where place) = IsPlace route.now chainage.now (option_map (λ w. w.now) mm) place
-Asks (job.Lengths db route) (question.Lengths name) = SaysIfGiven SaysRoute (option_map (λ w. w.now) route) name
-Asks (job.List db what) (question.List l) = SaysList what.now l
-Asks (job.Rows db route from to class asset) (question.List l) =
+Asks (job.Lengths db route text) (question.Lengths name) = SaysIfGiven SaysRoute (option_map (λ w. w.now) route) name
+Asks (job.List db what text) (question.List l) = SaysList what.now l
+Asks (job.Rows db route from to class asset text) (question.List l) =
     AsksRows (option_map (λ w. w.now) route) (option_map (λ w. w.now) from) (option_map (λ w. w.now) to) (option_map (λ w. w.now) class) (option_map (λ w. w.now) asset) l
-Asks (job.Gone db edit) (question.List (listing.Gone n)) = SaysIfGiven SaysEdit (option_map (λ w. w.now) edit) n
-Asks (job.Log db from key) (question.List l) = AsksLog (option_map (λ w. w.now) from) (option_map (λ w. w.now) key) l
+Asks (job.Gone db edit text) (question.List (listing.Gone n)) = SaysIfGiven SaysEdit (option_map (λ w. w.now) edit) n
+Asks (job.Log db from key text) (question.List l) = AsksLog (option_map (λ w. w.now) from) (option_map (λ w. w.now) key) l
 Asks _ q = ⊥
 
 -- ---- words that cannot be read
@@ -284,12 +284,12 @@ IsFaultOf (job.Strip db route side classes) fault = CannotStrip route.now side.n
 IsFaultOf (job.Diagram db route classes from to) fault = CannotDiagram route.now (map (λ w. w.now) classes.items) (option_map (λ w. w.now) from) (option_map (λ w. w.now) to) fault
 IsFaultOf (job.Find db asset) fault = Cannot word.Asset (SaysAsset asset.now) fault
 IsFaultOf (job.Where db route chainage mm) fault = CannotWhere route.now chainage.now (option_map (λ w. w.now) mm) fault
-IsFaultOf (job.Lengths db route) fault = CannotIfGiven word.Route SaysRoute (option_map (λ w. w.now) route) fault
-IsFaultOf (job.List db what) fault = Cannot word.What (SaysList what.now) fault
-IsFaultOf (job.Rows db route from to class asset) fault =
+IsFaultOf (job.Lengths db route text) fault = CannotIfGiven word.Route SaysRoute (option_map (λ w. w.now) route) fault
+IsFaultOf (job.List db what text) fault = Cannot word.What (SaysList what.now) fault
+IsFaultOf (job.Rows db route from to class asset text) fault =
     CannotRows (option_map (λ w. w.now) route) (option_map (λ w. w.now) from) (option_map (λ w. w.now) to) (option_map (λ w. w.now) class) (option_map (λ w. w.now) asset) fault
-IsFaultOf (job.Gone db edit) fault = CannotIfGiven word.Edit SaysEdit (option_map (λ w. w.now) edit) fault
-IsFaultOf (job.Log db from key) fault = CannotLog (option_map (λ w. w.now) from) (option_map (λ w. w.now) key) fault
+IsFaultOf (job.Gone db edit text) fault = CannotIfGiven word.Edit SaysEdit (option_map (λ w. w.now) edit) fault
+IsFaultOf (job.Log db from key text) fault = CannotLog (option_map (λ w. w.now) from) (option_map (λ w. w.now) key) fault
 IsFaultOf (job.Serve db port max sums log end_on_fault most_reply) fault = CannotServe port.now max.now (option_map (λ w. w.now) most_reply) fault
 IsFaultOf _ fault = ⊥
 

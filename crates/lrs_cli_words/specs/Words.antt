@@ -80,18 +80,19 @@ rules_of job.Audit = required (codes "DB") ∷ []
 rules_of job.Serve = required (codes "DB") ∷ required (codes "PORT") ∷ required (codes "MAX") ∷ []
 rules_of job.Page = required (codes "DIR") ∷ []
 
--- what may be left out: those jobs that may make a file have `--sums`, those that do a sheet also `--resume` and `--all`, a service also `--log`, `--end-on-fault` and `--most-reply`, a check says of which kind its sheet is, a place on a link has its millimetre, a diagram has its classes and its ends, and a list may be narrowed
+-- what may be left out: those jobs that may make a file have `--sums`, those that do a sheet also `--resume`, `--all` and `--whole`, a service also `--log`, `--end-on-fault` and `--most-reply`, a check says of which kind its sheet is, a place on a link has its millimetre, a diagram has its classes and its ends, and a list may be narrowed, and has `--text`
 abbrev pub options_of : JobName → List Rule
-options_of job.Edit = flag (codes "sums") ∷ flag (codes "resume") ∷ flag (codes "all") ∷ []
-options_of job.Survey = flag (codes "sums") ∷ flag (codes "resume") ∷ flag (codes "all") ∷ []
+options_of job.Edit = flag (codes "sums") ∷ flag (codes "resume") ∷ flag (codes "all") ∷ flag (codes "whole") ∷ []
+options_of job.Survey = flag (codes "sums") ∷ flag (codes "resume") ∷ flag (codes "all") ∷ flag (codes "whole") ∷ []
 options_of job.Check = flag (codes "survey") ∷ []
 options_of job.Serve = flag (codes "sums") ∷ flag (codes "log") ∷ flag (codes "end-on-fault") ∷ option (codes "most-reply") ∷ []
 options_of job.Where = optional (codes "MM") ∷ []
-options_of job.Lengths = option (codes "route") ∷ []
+options_of job.Lengths = option (codes "route") ∷ flag (codes "text") ∷ []
+options_of job.List = flag (codes "text") ∷ []
 options_of job.Diagram = any (codes "CLASS") ∷ option (codes "from") ∷ option (codes "to") ∷ []
-options_of job.Rows = option (codes "route") ∷ option (codes "from") ∷ option (codes "to") ∷ option (codes "class") ∷ option (codes "asset") ∷ []
-options_of job.Gone = option (codes "edit") ∷ []
-options_of job.Log = optional (codes "FROM") ∷ option (codes "key") ∷ []
+options_of job.Rows = option (codes "route") ∷ option (codes "from") ∷ option (codes "to") ∷ option (codes "class") ∷ option (codes "asset") ∷ flag (codes "text") ∷ []
+options_of job.Gone = option (codes "edit") ∷ flag (codes "text") ∷ []
+options_of job.Log = optional (codes "FROM") ∷ option (codes "key") ∷ flag (codes "text") ∷ []
 options_of _ = []
 
 -- the line of a job: its name, its words and its options
@@ -123,8 +124,8 @@ line_of_program = fold with_job bare_line jobs
 -- ---- jobs
 
 abbrev pub job_name : Job → JobName
-job_name (Edit db sheet sums resume all) = job.Edit
-job_name (Survey db sheet sums resume all) = job.Survey
+job_name (Edit db sheet sums resume all whole) = job.Edit
+job_name (Survey db sheet sums resume all whole) = job.Survey
 job_name (Check db sheet survey) = job.Check
 job_name (At db route method position) = job.At
 job_name (Where db route chainage mm) = job.Where
@@ -132,21 +133,21 @@ job_name (Translate db route method position to) = job.Translate
 job_name (Strip db route side classes) = job.Strip
 job_name (Diagram db route classes from to) = job.Diagram
 job_name (Totals db) = job.Totals
-job_name (Lengths db route) = job.Lengths
+job_name (Lengths db route text) = job.Lengths
 job_name (Find db asset) = job.Find
 job_name (Ask db questions) = job.Ask
-job_name (Listing db what) = job.List
-job_name (Rows db route from to class asset) = job.Rows
-job_name (Gone db edit) = job.Gone
-job_name (Log db from key) = job.Log
+job_name (Listing db what text) = job.List
+job_name (Rows db route from to class asset text) = job.Rows
+job_name (Gone db edit text) = job.Gone
+job_name (Log db from key text) = job.Log
 job_name (Audit db) = job.Audit
 job_name (Serve db port max sums log end_on_fault most_reply) = job.Serve
 job_name (Page dir) = job.Page
 
 -- its words that stand once, each with what it is called
 abbrev pub words_of : Job → List (Text × Text)
-words_of (Edit db sheet sums resume all) = (codes "DB", db.now) ∷ (codes "SHEET", sheet.now) ∷ []
-words_of (Survey db sheet sums resume all) = (codes "DB", db.now) ∷ (codes "SHEET", sheet.now) ∷ []
+words_of (Edit db sheet sums resume all whole) = (codes "DB", db.now) ∷ (codes "SHEET", sheet.now) ∷ []
+words_of (Survey db sheet sums resume all whole) = (codes "DB", db.now) ∷ (codes "SHEET", sheet.now) ∷ []
 words_of (Check db sheet survey) = (codes "DB", db.now) ∷ (codes "SHEET", sheet.now) ∷ []
 words_of (At db route method position) = (codes "DB", db.now) ∷ (codes "ROUTE", route.now) ∷ (codes "METHOD", method.now) ∷ (codes "POS", position.now) ∷ []
 words_of (Where db route chainage mm) = (codes "DB", db.now) ∷ (codes "ROUTE", route.now) ∷ (codes "CHAINAGE", chainage.now) ∷ []
@@ -155,13 +156,13 @@ words_of (Translate db route method position to) =
 words_of (Strip db route side classes) = (codes "DB", db.now) ∷ (codes "ROUTE", route.now) ∷ (codes "SIDE", side.now) ∷ []
 words_of (Diagram db route classes from to) = (codes "DB", db.now) ∷ (codes "ROUTE", route.now) ∷ []
 words_of (Totals db) = (codes "DB", db.now) ∷ []
-words_of (Lengths db route) = (codes "DB", db.now) ∷ []
+words_of (Lengths db route text) = (codes "DB", db.now) ∷ []
 words_of (Find db asset) = (codes "DB", db.now) ∷ (codes "ASSET", asset.now) ∷ []
 words_of (Ask db questions) = (codes "DB", db.now) ∷ (codes "QUESTIONS", questions.now) ∷ []
-words_of (Listing db what) = (codes "DB", db.now) ∷ (codes "WHAT", what.now) ∷ []
-words_of (Rows db route from to class asset) = (codes "DB", db.now) ∷ []
-words_of (Gone db edit) = (codes "DB", db.now) ∷ []
-words_of (Log db from key) = (codes "DB", db.now) ∷ []
+words_of (Listing db what text) = (codes "DB", db.now) ∷ (codes "WHAT", what.now) ∷ []
+words_of (Rows db route from to class asset text) = (codes "DB", db.now) ∷ []
+words_of (Gone db edit text) = (codes "DB", db.now) ∷ []
+words_of (Log db from key text) = (codes "DB", db.now) ∷ []
 words_of (Audit db) = (codes "DB", db.now) ∷ []
 words_of (Serve db port max sums log end_on_fault most_reply) = (codes "DB", db.now) ∷ (codes "PORT", port.now) ∷ (codes "MAX", max.now) ∷ []
 words_of (Page dir) = (codes "DIR", dir.now) ∷ []
@@ -180,14 +181,14 @@ IsValue id rows word = first_of id rows ≡ word
 abbrev pub HasValues : Job → List Row → Type 0
 HasValues (Diagram db route classes from to) rows =
     IsValue (codes "from") rows (option_map (λ w. w.now) from) × IsValue (codes "to") rows (option_map (λ w. w.now) to)
-HasValues (Rows db route from to class asset) rows =
+HasValues (Rows db route from to class asset text) rows =
     IsValue (codes "route") rows (option_map (λ w. w.now) route) × IsValue (codes "from") rows (option_map (λ w. w.now) from)
     × IsValue (codes "to") rows (option_map (λ w. w.now) to) × IsValue (codes "class") rows (option_map (λ w. w.now) class)
     × IsValue (codes "asset") rows (option_map (λ w. w.now) asset)
 HasValues (Where db route chainage mm) rows = IsValue (codes "MM") rows (option_map (λ w. w.now) mm)
-HasValues (Lengths db route) rows = IsValue (codes "route") rows (option_map (λ w. w.now) route)
-HasValues (Gone db edit) rows = IsValue (codes "edit") rows (option_map (λ w. w.now) edit)
-HasValues (Log db from key) rows = IsValue (codes "FROM") rows (option_map (λ w. w.now) from) × IsValue (codes "key") rows (option_map (λ w. w.now) key)
+HasValues (Lengths db route text) rows = IsValue (codes "route") rows (option_map (λ w. w.now) route)
+HasValues (Gone db edit text) rows = IsValue (codes "edit") rows (option_map (λ w. w.now) edit)
+HasValues (Log db from key text) rows = IsValue (codes "FROM") rows (option_map (λ w. w.now) from) × IsValue (codes "key") rows (option_map (λ w. w.now) key)
 HasValues (Serve db port max sums log end_on_fault most_reply) rows = IsValue (codes "most-reply") rows (option_map (λ w. w.now) most_reply)
 HasValues _ rows = ⊤
 
@@ -197,22 +198,37 @@ IsSet id rows = first_of id rows ≡ Some (codes "true")
 
 -- a new file gets sums exactly where `--sums` was given
 abbrev pub HasSums : Job → List Row → Type 0
-HasSums (Edit db sheet sums resume all) rows = IsTrue sums ↔ IsSet (codes "sums") rows
-HasSums (Survey db sheet sums resume all) rows = IsTrue sums ↔ IsSet (codes "sums") rows
+HasSums (Edit db sheet sums resume all whole) rows = IsTrue sums ↔ IsSet (codes "sums") rows
+HasSums (Survey db sheet sums resume all whole) rows = IsTrue sums ↔ IsSet (codes "sums") rows
 HasSums (Serve db port max sums log end_on_fault most_reply) rows = IsTrue sums ↔ IsSet (codes "sums") rows
 HasSums _ rows = ⊤
 
 -- a sheet goes on behind its last record that is an edit exactly where `--resume` was given
 abbrev pub HasResume : Job → List Row → Type 0
-HasResume (Edit db sheet sums resume all) rows = IsTrue resume ↔ IsSet (codes "resume") rows
-HasResume (Survey db sheet sums resume all) rows = IsTrue resume ↔ IsSet (codes "resume") rows
+HasResume (Edit db sheet sums resume all whole) rows = IsTrue resume ↔ IsSet (codes "resume") rows
+HasResume (Survey db sheet sums resume all whole) rows = IsTrue resume ↔ IsSet (codes "resume") rows
 HasResume _ rows = ⊤
 
 -- a sheet is done only if no record is refused exactly where `--all` was given
 abbrev pub HasAll : Job → List Row → Type 0
-HasAll (Edit db sheet sums resume all) rows = IsTrue all ↔ IsSet (codes "all") rows
-HasAll (Survey db sheet sums resume all) rows = IsTrue all ↔ IsSet (codes "all") rows
+HasAll (Edit db sheet sums resume all whole) rows = IsTrue all ↔ IsSet (codes "all") rows
+HasAll (Survey db sheet sums resume all whole) rows = IsTrue all ↔ IsSet (codes "all") rows
 HasAll _ rows = ⊤
+
+-- a sheet is done only if its last line has an end exactly where `--whole` was given
+abbrev pub HasWhole : Job → List Row → Type 0
+HasWhole (Edit db sheet sums resume all whole) rows = IsTrue whole ↔ IsSet (codes "whole") rows
+HasWhole (Survey db sheet sums resume all whole) rows = IsTrue whole ↔ IsSet (codes "whole") rows
+HasWhole _ rows = ⊤
+
+-- each cell of a list is written as text exactly where `--text` was given
+abbrev pub HasText : Job → List Row → Type 0
+HasText (Lengths db route text) rows = IsTrue text ↔ IsSet (codes "text") rows
+HasText (Listing db what text) rows = IsTrue text ↔ IsSet (codes "text") rows
+HasText (Rows db route from to class asset text) rows = IsTrue text ↔ IsSet (codes "text") rows
+HasText (Gone db edit text) rows = IsTrue text ↔ IsSet (codes "text") rows
+HasText (Log db from key text) rows = IsTrue text ↔ IsSet (codes "text") rows
+HasText _ rows = ⊤
 
 -- a survey is checked exactly where `--survey` was given
 abbrev pub HasKind : Job → List Row → Type 0
@@ -226,7 +242,7 @@ HasManner _ rows = ⊤
 
 -- its words stand in their places, and its options are as they were given
 abbrev pub HasWords : Job → List Row → Type 0
-HasWords j rows = (map (λ w. first_of w.0 rows) (words_of j) ≡ map (λ w. Some w.1) (words_of j)) × HasClasses j rows × HasValues j rows × HasSums j rows × HasResume j rows × HasAll j rows × HasKind j rows × HasManner j rows
+HasWords j rows = (map (λ w. first_of w.0 rows) (words_of j) ≡ map (λ w. Some w.1) (words_of j)) × HasClasses j rows × HasValues j rows × HasSums j rows × HasResume j rows × HasAll j rows × HasWhole j rows × HasText j rows × HasKind j rows × HasManner j rows
 
 -- the job that was met has this name and these rows
 abbrev pub IsMet : Job → Option (Text × List Row) → Type 0
@@ -238,8 +254,8 @@ IsJobOf words j = IsMet j (subcommand_of line_of_program words)
 
 -- a file that the job makes gets sums of its pages
 abbrev pub has_new_sums : Job → Bool
-has_new_sums (Edit db sheet sums resume all) = sums
-has_new_sums (Survey db sheet sums resume all) = sums
+has_new_sums (Edit db sheet sums resume all whole) = sums
+has_new_sums (Survey db sheet sums resume all whole) = sums
 has_new_sums (Serve db port max sums log end_on_fault most_reply) = sums
 has_new_sums _ = false
 

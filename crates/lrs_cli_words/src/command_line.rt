@@ -59,6 +59,10 @@ const RESUME: &str = "Goes on after the last record of the sheet that was accept
 
 const ALL: &str = "Does the sheet only if no record of it is refused";
 
+const WHOLE: &str = "Does the sheet only if its last line has an end";
+
+const AS_TEXT: &str = "Writes each cell as text, for a spreadsheet";
+
 const AS_SURVEY: &str = "The sheet is a survey";
 
 const WHAT: &str = "What is listed: routes, links, classes, refs or marks";
@@ -163,6 +167,7 @@ static EDIT: JobLine = JobLine {
         LinePart::Switch("sums", SUMS),
         LinePart::Switch("resume", RESUME),
         LinePart::Switch("all", ALL),
+        LinePart::Switch("whole", WHOLE),
     ],
 };
 
@@ -177,6 +182,7 @@ static SURVEY: JobLine = JobLine {
         LinePart::Switch("sums", SUMS),
         LinePart::Switch("resume", RESUME),
         LinePart::Switch("all", ALL),
+        LinePart::Switch("whole", WHOLE),
     ],
 };
 
@@ -276,6 +282,7 @@ static LENGTHS: JobLine = JobLine {
     parts: &[
         LinePart::Required("DB", DB),
         LinePart::Valued("route", "ROUTE", OF_ROUTE),
+        LinePart::Switch("text", AS_TEXT),
     ],
 };
 
@@ -309,6 +316,7 @@ static LIST: JobLine = JobLine {
     parts: &[
         LinePart::Required("DB", DB),
         LinePart::Required("WHAT", WHAT),
+        LinePart::Switch("text", AS_TEXT),
     ],
 };
 
@@ -324,6 +332,7 @@ static ROWS: JobLine = JobLine {
         LinePart::Valued("to", "C", ROWS_TO),
         LinePart::Valued("class", "CLASS", OF_CLASS),
         LinePart::Valued("asset", "ASSET", OF_ASSET),
+        LinePart::Switch("text", AS_TEXT),
     ],
 };
 
@@ -335,6 +344,7 @@ static GONE: JobLine = JobLine {
     parts: &[
         LinePart::Required("DB", DB),
         LinePart::Valued("edit", "N", OF_EDIT),
+        LinePart::Switch("text", AS_TEXT),
     ],
 };
 
@@ -347,6 +357,7 @@ static LOG: JobLine = JobLine {
         LinePart::Required("DB", DB),
         LinePart::Optional("FROM", FROM_EDIT),
         LinePart::Valued("key", "KEY", OF_KEY),
+        LinePart::Switch("text", AS_TEXT),
     ],
 };
 

@@ -29,8 +29,9 @@ pub enum JobName {
 }
 
 /// A job, with its words as they were given. `db` is the inventory; with `sums` a new file of it
-/// gets sums of its pages. With `resume` a sheet goes on behind its last record that is an edit, and
-/// with `all` it is done only if no record is refused.
+/// gets sums of its pages. With `resume` a sheet goes on behind its last record that is an edit, with
+/// `all` it is done only if no record is refused, and with `whole` only if its last line has an end.
+/// With `text` each cell of a list is written as text, for a spreadsheet.
 #[derive(Drop)]
 pub enum Job<'a> {
     /// Does the edit sheet `sheet`.
@@ -40,6 +41,7 @@ pub enum Job<'a> {
         sums: bool,
         resume: bool,
         all: bool,
+        whole: bool,
     },
     /// Does the survey `sheet`.
     Survey {
@@ -48,6 +50,7 @@ pub enum Job<'a> {
         sums: bool,
         resume: bool,
         all: bool,
+        whole: bool,
     },
     /// Says what `sheet` would be answered, an edit sheet or a survey, and does nothing.
     Check {
@@ -102,6 +105,7 @@ pub enum Job<'a> {
     Lengths {
         db: &'a str,
         route: Option<&'a str>,
+        text: bool,
     },
     /// Says where an asset lies.
     Find {
@@ -117,6 +121,7 @@ pub enum Job<'a> {
     List {
         db: &'a str,
         what: &'a str,
+        text: bool,
     },
     /// Lists the stretches that assets hold: on a route, from a chainage to another, of a class, of an
     /// asset, where these are given.
@@ -127,17 +132,20 @@ pub enum Job<'a> {
         to: Option<&'a str>,
         class: Option<&'a str>,
         asset: Option<&'a str>,
+        text: bool,
     },
     /// Lists what was retired or abandoned, by one edit where it is given.
     Gone {
         db: &'a str,
         edit: Option<&'a str>,
+        text: bool,
     },
     /// Prints the accepted commands as an edit sheet: from a number on, or the one of a key.
     Log {
         db: &'a str,
         from: Option<&'a str>,
         key: Option<&'a str>,
+        text: bool,
     },
     /// Does the log again in memory, and compares what it makes with what is kept.
     Audit {

@@ -117,12 +117,14 @@ fn edit_job<'a>(given: &ArgMatches<'a>) -> Job<'a>
     let sums = is_set(given, "sums");
     let resume = is_set(given, "resume");
     let all = is_set(given, "all");
+    let whole = is_set(given, "whole");
     Job::Edit {
         db,
         sheet,
         sums,
         resume,
         all,
+        whole,
     }
 }
 
@@ -136,12 +138,14 @@ fn survey_job<'a>(given: &ArgMatches<'a>) -> Job<'a>
     let sums = is_set(given, "sums");
     let resume = is_set(given, "resume");
     let all = is_set(given, "all");
+    let whole = is_set(given, "whole");
     Job::Survey {
         db,
         sheet,
         sums,
         resume,
         all,
+        whole,
     }
 }
 
@@ -276,7 +280,8 @@ fn lengths_job<'a>(given: &ArgMatches<'a>) -> Job<'a>
 {
     let db = given_word(given, "DB");
     let route = word_in(given, "route");
-    Job::Lengths { db, route }
+    let text = is_set(given, "text");
+    Job::Lengths { db, route, text }
 }
 
 fn find_job<'a>(given: &ArgMatches<'a>) -> Job<'a>
@@ -306,7 +311,8 @@ fn list_job<'a>(given: &ArgMatches<'a>) -> Job<'a>
 {
     let db = given_word(given, "DB");
     let what = given_word(given, "WHAT");
-    Job::List { db, what }
+    let text = is_set(given, "text");
+    Job::List { db, what, text }
 }
 
 fn rows_job<'a>(given: &ArgMatches<'a>) -> Job<'a>
@@ -320,6 +326,7 @@ fn rows_job<'a>(given: &ArgMatches<'a>) -> Job<'a>
     let to = word_in(given, "to");
     let class = word_in(given, "class");
     let asset = word_in(given, "asset");
+    let text = is_set(given, "text");
     Job::Rows {
         db,
         route,
@@ -327,6 +334,7 @@ fn rows_job<'a>(given: &ArgMatches<'a>) -> Job<'a>
         to,
         class,
         asset,
+        text,
     }
 }
 
@@ -337,7 +345,8 @@ fn gone_job<'a>(given: &ArgMatches<'a>) -> Job<'a>
 {
     let db = given_word(given, "DB");
     let edit = word_in(given, "edit");
-    Job::Gone { db, edit }
+    let text = is_set(given, "text");
+    Job::Gone { db, edit, text }
 }
 
 fn log_job<'a>(given: &ArgMatches<'a>) -> Job<'a>
@@ -348,7 +357,13 @@ fn log_job<'a>(given: &ArgMatches<'a>) -> Job<'a>
     let db = given_word(given, "DB");
     let from = word_in(given, "FROM");
     let key = word_in(given, "key");
-    Job::Log { db, from, key }
+    let text = is_set(given, "text");
+    Job::Log {
+        db,
+        from,
+        key,
+        text,
+    }
 }
 
 fn audit_job<'a>(given: &ArgMatches<'a>) -> Job<'a>

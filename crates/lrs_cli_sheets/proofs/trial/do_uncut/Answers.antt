@@ -1,0 +1,8 @@
+use Rattle.lrs_cli_sheets.proofs.Trying.{is_known, whole_as_named}
+use Rattle.lrs_cli_sheets.proofs.trial.do_uncut.Goals as goal
+
+pub returns-in-Ok-clause-ended : goal.returns-in-Ok-clause-ended
+returns-in-Ok-clause-ended g c =
+    let known = g.S.Sheets.text_of c.args.world.now.sheets.now c.args.name.now in
+    whole_as_named g.K.Holder.may_hold c.args.kind c.as_slice.result.now known (is_known _ c.in-Ok.text.items known c.in-Ok.ensures c.as_slice.ensures.value)
+    c.args.desk.now c.do_uncut_text.new.desk (g.W.Write.contents c.args.to) {W = g.row.W.Denot} g.W.Write.contents c.args.resumes c.args.all c.do_uncut_text.result c.do_uncut_text.ensures.ended
