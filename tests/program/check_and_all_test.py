@@ -31,7 +31,7 @@ def test_a_check_says_what_edit_says(top):
     drawn = random.Random(7)
     for seed in range(40):
         db, copy = top / f"{seed}.db", top / f"{seed}-copy.db"
-        begun = sheet_of(*(random_record(drawn, n) for n in range(1, 12)))
+        begun = sheet_of("z1,link,999,9", *(random_record(drawn, n) for n in range(1, 12)))
         sheet = sheet_of(*(random_record(drawn, n) for n in range(6, 30)))
         for path in (db, copy):
             edit(path, begun)
@@ -134,6 +134,6 @@ def test_all_of_a_long_sheet(top):
     sheet.write_bytes(HEADER + rows + record("k0,link,1,5"))
     ended = run("edit", db, sheet, "--all")
     assert (ended.stdout, ended.status) == (b"", 1), ended
-    assert rows_of(db)["link"] == []
+    assert not db.exists()
     sheet.write_bytes(HEADER + rows)
     ends(run("edit", db, sheet, "--all"), b"".join(b"k%d,done,%d\n" % (n, n) for n in range(1, 1001)), 0)
