@@ -165,7 +165,7 @@ REPEATED = [
 def test_a_sheet_with_a_key_twice_does_not_go_on(top, texts, found, options):
     """Its first record may be done, and those between the two not."""
     db = top / "roads.db"
-    edit(db, sheet_of(*texts[:1]))
+    edit(db, sheet_of("z,link,9,9", *texts[:1]))
     before = rows_of(db)
     ends(run("edit", db, "stdin", "--resume", *options, given=sheet_of(*texts)), b"", 3, twice(*found))
     assert rows_of(db) == before
