@@ -182,7 +182,8 @@ def test_a_long_file_is_named_while_it_is_opened():
         for words in (["totals"], ["audit"]):
             done, shown = run_with_terminal(words[0], str(path))
             assert done.returncode == 0
-            assert shown == f"opening {path}, {size} MB\r\x1b[K".encode(), shown
+            # behind it an audit that takes more than a second shows how far it is
+            assert shown.startswith(f"opening {path}, {size} MB, about 1 s\r\x1b[K".encode()), shown
 
 
 # ---- the end of a service

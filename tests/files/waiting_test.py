@@ -257,7 +257,6 @@ def test_nothing_but_what_sqlite_has_committed_is_answered(mode, pages):
 
         def write():
             with contextlib.closing(sqlite3.connect(path, isolation_level=None, timeout=60)) as db:
-                db.execute(f"PRAGMA journal_mode = {mode}")
                 db.execute(f"PRAGMA wal_autocheckpoint = {pages}")
                 while not over.is_set():
                     with contextlib.suppress(sqlite3.OperationalError):
@@ -269,6 +268,9 @@ def test_nothing_but_what_sqlite_has_committed_is_answered(mode, pages):
                         db.execute("ROLLBACK")
                     time.sleep(0.01)
 
+        # sqlite does not wait for a lock where it changes the mode
+        with contextlib.closing(sqlite3.connect(path, isolation_level=None)) as db:
+            db.execute(f"PRAGMA journal_mode = {mode}")
         writer = threading.Thread(target=write)
         writer.start()
         try:
