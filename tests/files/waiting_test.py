@@ -120,11 +120,12 @@ def test_two_that_make_one_inventory_make_it_one_after_the_other():
 
 
 def test_a_question_waits_for_an_inventory_that_is_made():
-    with folder() as path, held(path):
-        waiting = begun("totals", path, "--wait", "300")
-        time.sleep(0.3)
-        assert waiting.poll() is None
-    ends(ended(waiting), b"", 0)
+    with folder() as path:
+        with held(path):
+            waiting = begun("totals", path, "--wait", "300")
+            time.sleep(0.3)
+            assert waiting.poll() is None
+        ends(ended(waiting), b"", 0)
 
 
 def test_what_is_waited_for_is_said_on_a_terminal_after_a_second():
