@@ -52,7 +52,8 @@ def test_a_log_that_nobody_reads_loses_lines_and_stops_nobody():
         rows = taken(server)
         lines, lost = told(rows)
         assert lines + lost == asked and lost > 100, (lines, lost)
-        assert LOST.fullmatch(rows[-1]), rows[-2:]
+        # the last reply comes before its line, which may find room again
+        assert any(LOST.fullmatch(row) for row in rows[-2:]), rows[-2:]
         for _ in range(2):
             server.answers(SENT, SAYS)
         *rows, end = server.end()[1].splitlines()
