@@ -52,13 +52,7 @@ fn next_sum(sum: &[u8; 64], number: u64, edit: &Edit) -> [u8; 64]
     let line = edit.line.as_str().as_bytes();
     let mut digits = Buffer::new();
     let number = digits.format(number).as_bytes();
-    digits_of(digest_of(
-        sum,
-        number,
-        edit.key.bytes(),
-        line,
-        empty_fields(line),
-    ))
+    digits_of(digest_of(sum, number, edit.key.bytes(), line, empty_fields(line)))
 }
 
 // The sum of no edits.
