@@ -228,7 +228,7 @@ fn looks(work: &Work<'_>) -> bool
 {
     matches!(
         work,
-        Work::Question { .. } | Work::Questions { .. } | Work::Sum { .. } | Work::Check { .. }
+        Work::Sum { .. } | Work::Question { .. } | Work::Questions { .. } | Work::Check { .. }
     )
 }
 
