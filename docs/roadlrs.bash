@@ -27,7 +27,7 @@ declare -gA _roadlrs_words=(
 )
 
 # the options that go with every command
-declare -g _roadlrs_general="--existing --explain --wait="
+declare -g _roadlrs_general="--existing --explain --wait= --expect="
 
 # the verbs of edit sheets, on which there is help
 declare -g _roadlrs_verbs="link class route ref unref enter retire supersede split join renumber recalibrate turn realign close"

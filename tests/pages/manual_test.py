@@ -25,7 +25,7 @@ def options(command):
 
 
 # the options that go with every command
-GENERAL = ["--existing", "--explain", "--wait"]
+GENERAL = ["--existing", "--explain", "--wait", "--expect"]
 
 
 def words(command):
@@ -99,7 +99,7 @@ def completed(line):
         ("roadlrs edit :m", [":memory:"]),
         ("roadlrs where roads.db l", ["link"]),
         ("roadlrs help re", ["ref", "retire", "renumber", "recalibrate", "realign"]),
-        ("roadlrs serve roads.db 8080 5 --e", ["--end-on-fault", "--existing", "--explain"]),
+        ("roadlrs serve roads.db 8080 5 --e", ["--end-on-fault", "--existing", "--explain", "--expect"]),
         ("roadlrs --wait 5 ch", ["check"]),
         ("roadlrs list --wait ", []),
         ("roadlrs list --wait=5 roads.db l", ["links"]),

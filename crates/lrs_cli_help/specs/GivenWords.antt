@@ -4,4 +4,5 @@ use Rattle.lrs_cli_help.specs.Options.{Reading}
 use Rattle.lrs_cli_help.specs.declared.options.GivenWords.{GivenWords}
 
 abbrev pub reading_of : GivenWords → Reading
-reading_of w = record { words = map (λ word. word.now) w.words.items; given = option_map (λ text. text.now) w.wait; is_next = w.is_next }
+reading_of w =
+    record { words = map (λ word. word.now) w.words.items; wait = option_map (λ text. text.now) w.wait; expected = option_map (λ text. text.now) w.expected; next = w.next }

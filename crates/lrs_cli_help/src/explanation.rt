@@ -450,6 +450,37 @@ pub fn explain_port(rt: &HostRuntime, job: &Job<'_>) {
     );
 }
 
+// The digits of an identity as text.
+fn shown_identity(identity: &[u8; 16]) -> &str {
+    str::from_utf8(identity).unwrap_or("")
+}
+
+/// The inventory of a job has this identity, or none, and another one is expected.
+pub fn explain_other(
+    rt: &HostRuntime,
+    job: &Job<'_>,
+    found: Option<[u8; 16]>,
+    expected: Option<[u8; 16]>,
+) {
+    let db = inventory_of(job).unwrap_or("");
+    if let Some(expected) = expected {
+        let wanted = shown_identity(&expected);
+        let _ = match found {
+            Some(found) => {
+                let found = shown_identity(&found);
+                eprintln!(rt; "explain: {db}: its identity is {found}, and not {wanted}")
+            }
+            None => eprintln!(rt;
+                "explain: {db}: it has no edits, so its identity is not {wanted}"
+            ),
+        };
+    }
+    say(
+        rt,
+        "nothing was done; name the inventory with this identity, or leave --expect away",
+    );
+}
+
 /// Where more is said, whatever the fault.
 pub fn name_pages(rt: &HostRuntime) {
     say(

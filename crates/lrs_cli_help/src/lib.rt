@@ -22,7 +22,7 @@ mod verbs;
 
 pub use hints::hint_at;
 pub use made_file::{MadeFile, make_file, remove_file};
-pub use options::{GivenWords, Options, options_of, read_words, wait_of};
+pub use options::{GivenWords, NextWord, Options, expected_of, options_of, read_words, wait_of};
 pub use outlet::{is_error_read, is_reader_gone};
 pub use site::{Site, site_at};
 pub use turn::{Patience, Purpose, Turn, take_turn};

@@ -1,5 +1,5 @@
 -- What is done with an inventory, what is written, and how the program ends.
-use Rattle.std.specs.Prelude.{◌≡◌, ◌⊎◌, ⊤, codes, Option, Result, Ok, Err}
+use Rattle.std.specs.Prelude.{◌≡◌, ◌⊎◌, ⊤, codes, Option, Some, None, Result, Ok, Err}
 use Rattle.lrs_machine.specs.Lines.{Text}
 use Rattle.lrs_machine.specs.declared.image.Image.{Image}
 use Rattle.lrs_machine.specs.declared.table.Table.{Table}
@@ -8,6 +8,7 @@ use Rattle.lrs_image.specs.KeeperCalls.{HoldsOnly}
 use Rattle.lrs_desk.specs.DeskView.{DeskView}
 use Rattle.lrs_desk.specs.declared.desk.OpenFault.{OpenFault}
 use Rattle.lrs_sheet_records.specs.declared.sheet.Sheet.{Sheet}
+use Rattle.lrs_sheet_log.specs.Sums.{identity_of}
 use Rattle.lrs_cli_words.specs.Questions.{IsFaultOf}
 use Rattle.lrs_cli_words.specs.declared.job.Job.{Job}
 use Rattle.lrs_cli_words.specs.declared.question.QuestionFault.{QuestionFault}
@@ -24,7 +25,7 @@ use Rattle.lrs_cli_tasks.specs.Tasks.{IsTaskOf}
 use Rattle.lrs_cli_tasks.specs.declared.endings.Ending.{Ending}
 use Rattle.lrs_cli_tasks.specs.declared.endings.Ending.TheVariants.{Done, Stopped, Unreadable}
 use Rattle.lrs_cli_tasks.specs.declared.fault.ProgramFault.{ProgramFault}
-use Rattle.lrs_cli_tasks.specs.declared.fault.ProgramFault.TheVariants.{Memory, Write}
+use Rattle.lrs_cli_tasks.specs.declared.fault.ProgramFault.TheVariants.{Memory, OtherInventory, Write}
 use Rattle.lrs_cli_tasks.specs.declared.task.Task.{Task}
 use Rattle.lrs_cli_tasks.specs.declared.task.Task.TheVariants as task
 use Rattle.lrs_cli_tasks.specs.declared.task.Work.{Work}
@@ -43,6 +44,19 @@ printed contents (Err fault) = Err fault
 -- not all was written, or there was no memory for it
 abbrev pub IsUnprinted : ProgramFault → Type 0
 IsUnprinted fault = (fault ≡ Memory) ⊎ (fault ≡ Write)
+
+-- the program ends so, and nothing is written
+abbrev pub EndsSilent : Option Text → Printed → Ending → Type 0
+EndsSilent old given ending = given ≡ Ok (old, ending)
+
+-- the identity of an inventory
+abbrev pub identity_at : Image → Option Text
+identity_at i = identity_of (state_of i).done
+
+-- an inventory of this identity is expected, or any is
+abbrev pub IsExpected : Option Text → Option Text → Type 0
+IsExpected None found = ⊤
+IsExpected (Some identity) found = found ≡ Some identity
 
 module _ {K : Type 0} (holds : K → Result Image Table → Type 0) (text_of : Text → Option Text) where
   -- a sheet was done at the desk, or as a whole or not at all; or a question, a sheet of them, a sum, a check or an audit was answered, which leaves the desk as it was; or it was served
@@ -64,12 +78,18 @@ module _ {K : Type 0} (holds : K → Result Image Table → Type 0) (text_of : T
   HasWorked (work.Service service) before after old (Ok done) = EndsService holds service before after old done.0 done.1
   HasWorked (work.Service service) before after old (Err fault) = (after ≡ before) × (fault ≡ Write)
 
+  -- Work was done at a desk whose inventory is expected. Of another one nothing was done, nothing is written, and the program stops.
+  abbrev pub HasWorkedAt : Option Text → Work → DeskView K → DeskView K → Option Text → Printed → Type 0
+  HasWorkedAt expected w before after old given =
+      (IsExpected expected (identity_at before.image) × HasWorked w before after old given)
+      ⊎ ((IsExpected expected (identity_at before.image) → ⊥) × (after ≡ before) × EndsSilent old given (Stopped (OtherInventory (identity_at before.image))))
+
   -- Work was done at a desk that begins so.
-  pub record HasWorkedFrom (Begins : DeskView K → Type 0) (w : Work) (old : Option Text) (given : Printed) : Type 0 where
+  pub record HasWorkedFrom (expected : Option Text) (Begins : DeskView K → Type 0) (w : Work) (old : Option Text) (given : Printed) : Type 0 where
     pub before : DeskView K
     pub after : DeskView K
     pub begins : Begins before
-    pub worked : HasWorked w before after old given
+    pub worked : HasWorkedAt expected w before after old given
 
 -- an empty inventory
 abbrev pub IsFresh : {K : Type 0} → DeskView K → Type 0
@@ -86,10 +106,6 @@ ActsOnFound holds was_found desk = ActsOnKept holds desk × ((c : Result Image T
 -- what may be found was kept at the desk
 abbrev pub FindsKept : {K : Type 0} → (K → Result Image Table → Type 0) → DeskView K → (Result Image Table → Type 0) → Type 0
 FindsKept holds desk finds = (c : Result Image Table) → finds c → holds desk.keeper c
-
--- the program ends so, and nothing is written
-abbrev pub EndsSilent : Option Text → Printed → Ending → Type 0
-EndsSilent old given ending = given ≡ Ok (old, ending)
 
 -- nothing was opened, for a fault of an opening
 abbrev pub IsNotOpened : Option Text → Printed → Type 0
@@ -122,30 +138,30 @@ abbrev pub ending_of_words : QuestionFault → Ending
 ending_of_words (unread.Unreadable word) = Unreadable word
 ending_of_words unread.Memory = Stopped Memory
 
-module _ (text_of : Text → Option Text) where
+module _ (text_of : Text → Option Text) (expected : Option Text) where
   -- in memory: work was done from an empty inventory, or there was no memory for one
   abbrev pub EndsInMemory : {M : Type 0} → (M → Result Image Table → Type 0) → Work → Option Text → Printed → Type 0
-  EndsInMemory memory w old given = EndsSilent old given (Stopped Memory) ⊎ HasWorkedFrom memory text_of IsFresh w old given
+  EndsInMemory memory w old given = EndsSilent old given (Stopped Memory) ⊎ HasWorkedFrom memory text_of expected IsFresh w old given
 
   -- in a file and its log: work was done on what they hold, and an opening of them as they are closed finds what the desk kept, and nothing else; or nothing was opened
   abbrev pub EndsWithLog : {F : Type 0} → (F → Result Image Table → Type 0) → (Result Image Table → Type 0) → (Result Image Table → Type 0) → Work → Option Text → Printed → Type 0
   EndsWithLog file has_opened finds w old given =
-      IsNotOpened old given ⊎ ((it : HasWorkedFrom file text_of (ActsOnFound file has_opened) w old given) × FindsKept file it.after finds)
+      IsNotOpened old given ⊎ ((it : HasWorkedFrom file text_of expected (ActsOnFound file has_opened) w old given) × FindsKept file it.after finds)
 
-module _ {M F Q : Type 0} (memory : M → Result Image Table → Type 0) (file : F → Result Image Table → Type 0) (looked : Q → Result Image Table → Type 0) (has_opened has_read finds : Result Image Table → Type 0) (text_of : Text → Option Text) where
+module _ {M F Q : Type 0} (memory : M → Result Image Table → Type 0) (file : F → Result Image Table → Type 0) (looked : Q → Result Image Table → Type 0) (has_opened has_read finds : Result Image Table → Type 0) (text_of : Text → Option Text) (expected : Option Text) where
   -- in a file: work was done on what it holds; or what only looks was answered of what it held, or a sheet was tried in an empty inventory; or nothing was opened
   abbrev pub EndsInFile : Work → Option Text → Printed → Type 0
   EndsInFile w old given =
-      EndsWithLog text_of file has_opened finds w old given
-      ⊎ (Looks w × HasWorkedFrom looked text_of (ActsOnFound looked has_read) w old given)
-      ⊎ (Tries w × EndsInMemory text_of memory w old given)
+      EndsWithLog text_of expected file has_opened finds w old given
+      ⊎ (Looks w × HasWorkedFrom looked text_of expected (ActsOnFound looked has_read) w old given)
+      ⊎ (Tries w × EndsInMemory text_of expected memory w old given)
 
   -- `:memory:` is an inventory in memory, and every other name that of a file
   abbrev pub EndsTask : Task → Option Text → Printed → Type 0
   EndsTask (task.Page dir) old given = EndsPage old given
   EndsTask (task.Tidy kind from) old given = EndsTidied kind (text_of from.now) old given
   EndsTask (task.Inventory db w) old given =
-      ((db.now ≡ codes ":memory:") × EndsInMemory text_of memory w old given)
+      ((db.now ≡ codes ":memory:") × EndsInMemory text_of expected memory w old given)
       ⊎ ((db.now ≡ codes ":memory:" → ⊥) × EndsInFile w old given)
 
   -- the task of the job was done, or its words cannot be read

@@ -2,7 +2,7 @@
 
 ghost use Rattle.std.specs.Prelude.{◌≡◌, ◌↔◌, false, true, IsTrue, length};
 ghost use Rattle.lrs_desk.specs.DeskView.{DeskView};
-ghost use Rattle.lrs_cli_jobs.specs.Jobs.{EndsInFile, EndsInMemory, EndsJob, EndsPage, EndsTask, EndsTidied, EndsWithLog, FindsKept, HasWorked, Looks, printed};
+ghost use Rattle.lrs_cli_jobs.specs.Jobs.{EndsInFile, EndsInMemory, EndsJob, EndsPage, EndsTask, EndsTidied, EndsWithLog, FindsKept, HasWorked, HasWorkedAt, IsExpected, Looks, identity_at, printed};
 
 use crate::desk::{open_desk, open_desk_to_look};
 use crate::service::do_service;
@@ -18,6 +18,7 @@ use lrs_cli_tasks::{
 };
 use lrs_cli_words::{Job, QuestionFault, new_has_sums};
 use lrs_desk::{Desk, Files, Holder, Keeper, OpenFault, Plain};
+use lrs_sheet_log::identity_of_log;
 use lrs_sheet_records::Sheet;
 use std::alloc::Global;
 use std::fs;
@@ -40,6 +41,8 @@ struct Target<'a> {
     patience: Patience,
     /// The file that this run has made for it.
     made: Option<MadeFile>,
+    /// It has this identity, or nothing is done.
+    expected: Option<[u8; 16]>,
 }
 
 // Does what a job asks for at a desk, whatever keeps the inventory, and writes what is said to it. The replies to a
@@ -74,18 +77,57 @@ fn do_work<R: Runtime<A = Global> + Net, S: Sheets, W: Write + Drop, K: Keeper>(
     }
 }
 
+// The identity of a desk's inventory.
+fn identity_at<K: Keeper>(desk: &Desk<K>) -> Option<[u8; 16]>
+    ensures { result ≡ identity_at desk.now.image }
+{
+    identity_of_log(desk.inventory().kept())
+}
+
+// Whether a desk has the inventory that is expected.
+fn is_expected<K: Keeper>(desk: &Desk<K>, expected: Option<[u8; 16]>) -> bool
+    ensures { IsTrue result ↔ IsExpected expected (identity_at desk.now.image) }
+{
+    match expected {
+        Some(_) => identity_at(desk) == expected,
+        None => true,
+    }
+}
+
+// Does the same where the desk's inventory is expected, and else nothing.
+fn do_expected<R: Runtime<A = Global> + Net, S: Sheets, W: Write + Drop, K: Keeper>(
+    world: &World<'_, R, S>,
+    desk: &mut Desk<K>,
+    expected: Option<[u8; 16]>,
+    work: Work<'_>,
+    of_file: Pace,
+    to: W,
+) -> Result<(W, Ending), ProgramFault>
+    requires behind { desk.old.is_ahead ≡ false }
+    ensures { HasWorkedAt K.may_hold (S.text_of world.now.sheets.now) expected work.entry
+        desk.old desk.new (W.contents to) (printed W.contents result) }
+{
+    if is_expected(desk, expected) {
+        do_work(world, desk, work, of_file, to)
+    } else {
+        let found = identity_at(desk);
+        Ok((to, Ending::Stopped(ProgramFault::OtherInventory(found))))
+    }
+}
+
 // Does work in a fresh inventory in memory.
 fn do_in_memory<R: Runtime<A = Global> + Net, S: Sheets, W: Write + Drop>(
     world: &World<'_, R, S>,
+    expected: Option<[u8; 16]>,
     work: Work<'_>,
     to: W,
 ) -> Result<(W, Ending), ProgramFault>
-    ensures { EndsInMemory (S.text_of world.now.sheets.now) ⟦<Plain as Holder>⟧.may_hold
+    ensures { EndsInMemory (S.text_of world.now.sheets.now) expected ⟦<Plain as Holder>⟧.may_hold
         work.entry (W.contents to) (printed W.contents result) }
 {
     match open_in_memory(world.rt.alloc()) {
         Ok(mut desk) => {
-            let given = do_work(world, &mut desk, work, Pace::InPieces, to);
+            let given = do_expected(world, &mut desk, expected, work, Pace::InPieces, to);
             desk.into_keeper().discard();
             given
         }
@@ -168,12 +210,12 @@ fn do_and_close<F: Files, S: Sheets, W: Write + Drop>(
     to: W,
 ) -> Result<(W, Ending), ProgramFault>
     requires behind { desk.is_ahead ≡ false }
-    ensures { (after : DeskView F.Kept) × HasWorked F.Kept.may_hold
-        (S.text_of world.now.sheets.now) work.entry desk after
+    ensures { (after : DeskView F.Kept) × HasWorkedAt F.Kept.may_hold
+        (S.text_of world.now.sheets.now) target.expected work.entry desk after
         (W.contents to) (printed W.contents result)
         × FindsKept F.Kept.may_hold after (F.may_find files.new) }
 {
-    let given = do_work(world, &mut desk, work, Pace::InGroups, to);
+    let given = do_expected(world, &mut desk, target.expected, work, Pace::InGroups, to);
     // the file is open still, and nobody else has it
     leave_none(world.rt, target, &desk, &given, world.shown);
     files.close(desk.into_keeper());
@@ -189,7 +231,7 @@ fn do_with_log<F: Files, S: Sheets, W: Write + Drop>(
     work: Work<'_>,
     to: W,
 ) -> Result<(W, Ending), ProgramFault>
-    ensures { EndsWithLog (S.text_of world.now.sheets.now) F.Kept.may_hold F.has_opened
+    ensures { EndsWithLog (S.text_of world.now.sheets.now) target.expected F.Kept.may_hold F.has_opened
         (F.may_find files.new) work.entry (W.contents to) (printed W.contents result) }
 {
     let turn = turn_at(world.rt, target, Purpose::Change);
@@ -209,15 +251,16 @@ fn do_with_log<F: Files, S: Sheets, W: Write + Drop>(
 fn look<F: Files, S: Sheets, W: Write + Drop>(
     world: &World<'_, HostRuntime, S>,
     mut desk: Desk<F::Seen>,
+    expected: Option<[u8; 16]>,
     work: Work<'_>,
     to: W,
 ) -> Result<(W, Ending), ProgramFault>
     requires behind { desk.is_ahead ≡ false }
-    ensures { (after : DeskView F.Seen) × HasWorked F.Seen.may_hold
-        (S.text_of world.now.sheets.now) work.entry desk after
+    ensures { (after : DeskView F.Seen) × HasWorkedAt F.Seen.may_hold
+        (S.text_of world.now.sheets.now) expected work.entry desk after
         (W.contents to) (printed W.contents result) }
 {
-    let given = do_work(world, &mut desk, work, Pace::InGroups, to);
+    let given = do_expected(world, &mut desk, expected, work, Pace::InGroups, to);
     F::discard_seen(desk.into_keeper());
     given
 }
@@ -243,7 +286,7 @@ fn do_in_file<F: Files, S: Sheets, W: Write + Drop>(
 ) -> Result<(W, Ending), ProgramFault>
     ensures { EndsInFile ⟦<Plain as Holder>⟧.may_hold F.Kept.may_hold F.Seen.may_hold
         F.has_opened F.has_read (F.may_find files.new) (S.text_of world.now.sheets.now)
-        work.entry (W.contents to) (printed W.contents result) }
+        target.expected work.entry (W.contents to) (printed W.contents result) }
 {
     if matches!(work, Work::Audit) {
         return audit_with_log(world, files, target, work, to);
@@ -259,7 +302,7 @@ fn do_in_file<F: Files, S: Sheets, W: Write + Drop>(
         was_said,
         open_desk_to_look(world.rt, files, target.path),
     ) {
-        Ok(Some(desk)) => look::<F, S, W>(world, desk, work, to),
+        Ok(Some(desk)) => look::<F, S, W>(world, desk, target.expected, work, to),
         Ok(None) => do_with_log(world, files, target, work, to),
         Err(fault) => Ok((to, Ending::Stopped(ProgramFault::from(fault)))),
     }
@@ -287,7 +330,7 @@ fn audit_with_log<F: Files, S: Sheets, W: Write + Drop>(
     work: Work<'_>,
     to: W,
 ) -> Result<(W, Ending), ProgramFault>
-    ensures { EndsWithLog (S.text_of world.now.sheets.now) F.Kept.may_hold F.has_opened
+    ensures { EndsWithLog (S.text_of world.now.sheets.now) target.expected F.Kept.may_hold F.has_opened
         (F.may_find files.new) work.entry (W.contents to) (printed W.contents result) }
 {
     match try_to_look(world.rt, files, target) {
@@ -316,6 +359,7 @@ fn made_at<'a>(rt: &HostRuntime, target: Target<'a>) -> Target<'a> {
         existing: target.existing,
         patience: target.patience,
         made: make_file(rt, target.path),
+        expected: target.expected,
     }
 }
 
@@ -330,14 +374,14 @@ fn do_in_new<F: Files, S: Sheets, W: Write + Drop>(
 ) -> Result<(W, Ending), ProgramFault>
     ensures { EndsInFile ⟦<Plain as Holder>⟧.may_hold F.Kept.may_hold F.Seen.may_hold
         F.has_opened F.has_read (F.may_find files.new) (S.text_of world.now.sheets.now)
-        work.entry (W.contents to) (printed W.contents result) }
+        target.expected work.entry (W.contents to) (printed W.contents result) }
 {
     if makes(&work) {
         tell_making(world.rt, target.path, world.shown);
         return do_with_log(world, files, made_at(world.rt, target), work, to);
     }
     if matches!(work, Work::Check { .. }) {
-        return do_in_memory(world, work, to);
+        return do_in_memory(world, target.expected, work, to);
     }
     Ok((to, Ending::Stopped(ProgramFault::Open)))
 }
@@ -363,7 +407,7 @@ fn do_at_path<F: Files, S: Sheets, W: Write + Drop>(
 ) -> Result<(W, Ending), ProgramFault>
     ensures { EndsInFile ⟦<Plain as Holder>⟧.may_hold F.Kept.may_hold F.Seen.may_hold
         F.has_opened F.has_read (F.may_find files.new) (S.text_of world.now.sheets.now)
-        work.entry (W.contents to) (printed W.contents result) }
+        target.expected work.entry (W.contents to) (printed W.contents result) }
 {
     match settled_site(world.rt, target) {
         Site::Inventory => do_in_file(world, files, target, work, to),
@@ -410,9 +454,10 @@ fn target_at<'a>(
     Target {
         path,
         new_has_sums,
-        existing: options.existing,
+        existing: options.has_to_be(),
         patience: Patience::new(rt, options.wait, shown != ProgressDisplay::Nowhere),
         made: None,
+        expected: options.expected,
     }
 }
 
@@ -427,14 +472,14 @@ fn do_task<F: Files, S: Sheets, W: Write + Drop>(
 ) -> Result<(W, Ending), ProgramFault>
     ensures { EndsTask ⟦<Plain as Holder>⟧.may_hold F.Kept.may_hold F.Seen.may_hold
         F.has_opened F.has_read (F.may_find files.new) (S.text_of world.now.sheets.now)
-        task.entry (W.contents to) (printed W.contents result) }
+        options.expected task.entry (W.contents to) (printed W.contents result) }
 {
     match task {
         Task::Page { dir } => give_page(world.rt, dir, to),
         Task::Tidy { kind, from } => give_tidied(world, kind, from, to),
         Task::Inventory { db, work } => {
             if is_in_memory(db) {
-                return do_in_memory(world, work, to);
+                return do_in_memory(world, options.expected, work, to);
             }
             let target = target_at(world.rt, db, new_has_sums, options, world.shown);
             do_at_path(world, files, target, work, to)
@@ -442,7 +487,7 @@ fn do_task<F: Files, S: Sheets, W: Write + Drop>(
     }
 }
 
-/// Reads the words of a job, and then opens its inventory, if it has one, by the options `existing` and `wait`. All answers
+/// Reads the words of a job, and then opens its inventory, if it has one, by the options `existing`, `wait` and `expected`. All answers
 /// are written to `to`, replies to the sheets of a file in groups, and it is given back with how the program ends; the page
 /// goes into its folder. `files` has then the files that were closed.
 ///
@@ -457,7 +502,7 @@ pub fn do_job<F: Files, S: Sheets, W: Write + Drop>(
 ) -> Result<(W, Ending), ProgramFault>
     ensures { EndsJob ⟦<Plain as Holder>⟧.may_hold F.Kept.may_hold F.Seen.may_hold
         F.has_opened F.has_read (F.may_find files.new) (S.text_of world.now.sheets.now)
-        job.now (W.contents to) (printed W.contents result) }
+        options.expected job.now (W.contents to) (printed W.contents result) }
 {
     match task_of(world.rt.alloc(), job) {
         Ok(task) => do_task(world, files, task, new_has_sums(job), options, to),

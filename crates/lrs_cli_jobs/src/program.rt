@@ -4,7 +4,8 @@ use crate::explanation::explain;
 use crate::jobs::do_job;
 use crate::output::Output;
 use lrs_cli_help::{
-    Options, hint_at, is_error_read, is_reader_gone, options_of, read_words, verb_help, wait_of,
+    Options, expected_of, hint_at, is_error_read, is_reader_gone, options_of, read_words,
+    verb_help, wait_of,
 };
 use lrs_cli_sheets::{ProgressDisplay, Sheets, World};
 use lrs_cli_tasks::{Ending, ProgramFault, status};
@@ -50,7 +51,7 @@ fn do_explained<F: Files, S: Sheets>(
     match ending {
         Ending::Unreadable(word) if is_error_read(rt) => hint_at(rt, job, word),
         Ending::Stopped(fault) if is_explained(rt, world.shown, options, fault) => {
-            explain(rt, job, options.existing, fault, failure.get());
+            explain(rt, job, options, fault, failure.get());
         }
         _ => {}
     }
@@ -112,14 +113,25 @@ fn do_given<F: Files, S: Sheets>(
     }
 }
 
-// Says that what `--wait` is given is no number of seconds.
-fn refuse_wait(rt: &HostRuntime, given: Option<&[u8]>) -> Ending {
+// Says that what an option is given is not what it wants.
+fn refuse_given(rt: &HostRuntime, option: &str, given: Option<&[u8]>, wanted: &str) -> Ending {
     let text = str::from_utf8(given.unwrap_or(b"".as_slice())).unwrap_or("");
-    let _ = eprintln!(rt;
-        "error: invalid value '{text}' for '--wait <SECONDS>': no whole number from 0 to 3600"
-    );
+    let _ = eprintln!(rt; "error: invalid value '{text}' for '{option}': no {wanted}");
     let _ = eprintln!(rt; "\nFor more information, try '--help'.");
     Ending::Misused
+}
+
+fn refuse_wait(rt: &HostRuntime, given: Option<&[u8]>) -> Ending {
+    refuse_given(rt, "--wait <SECONDS>", given, "whole number from 0 to 3600")
+}
+
+fn refuse_expected(rt: &HostRuntime, given: Option<&[u8]>) -> Ending {
+    refuse_given(
+        rt,
+        "--expect <ID>",
+        given,
+        "identity, which is 16 of 0-9 and a-f",
+    )
 }
 
 fn do_words<F: Files, S: Sheets>(world: &World<'_, HostRuntime, S>, files: F) -> Ending {
@@ -146,13 +158,14 @@ fn do_words<F: Files, S: Sheets>(world: &World<'_, HostRuntime, S>, files: F) ->
     let Ok(read) = read_words(rt.alloc(), words.as_slice()) else {
         return Ending::Stopped(ProgramFault::Memory);
     };
-    match wait_of(read.wait) {
-        Some(wait) => {
-            let options = options_of(words.as_slice(), wait);
-            do_given(world, files, read.words.as_slice(), options)
-        }
-        None => refuse_wait(rt, read.wait),
-    }
+    let Some(wait) = wait_of(read.wait) else {
+        return refuse_wait(rt, read.wait);
+    };
+    let Some(expected) = expected_of(read.expected) else {
+        return refuse_expected(rt, read.expected);
+    };
+    let options = options_of(words.as_slice(), wait, expected);
+    do_given(world, files, read.words.as_slice(), options)
 }
 
 // Says how the program ends, where somebody reads it.

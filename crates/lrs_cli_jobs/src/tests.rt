@@ -164,6 +164,7 @@ fn done(rt: &HostRuntime, job: &Job<'_>, text: &str) -> Option<(Vec<u8>, Ending)
         existing: false,
         explain: false,
         wait: 0,
+        expected: None,
     };
     do_job(&world, &mut files, job, options, Vec::new(rt.alloc())).ok()
 }

@@ -11,7 +11,7 @@ use Rattle.lrs_machine.specs.declared.stops.fault.Fault.TheVariants as desk
 use Rattle.lrs_sheet_records.specs.declared.fault.SheetFault.{SheetFault}
 use Rattle.lrs_sheet_records.specs.declared.fault.SheetFault.TheVariants as sheet
 use Rattle.lrs_cli_tasks.specs.declared.fault.ProgramFault.{ProgramFault}
-use Rattle.lrs_cli_tasks.specs.declared.fault.ProgramFault.TheVariants.{Open, Unsound, Memory, Keep, MustReopen, Read, Write, BadHeader, BadCsv, RepeatedKey, CutOff, Door}
+use Rattle.lrs_cli_tasks.specs.declared.fault.ProgramFault.TheVariants.{Open, OtherInventory, Unsound, Memory, Keep, MustReopen, Read, Write, BadHeader, BadCsv, RepeatedKey, CutOff, Door}
 
 -- a table's name
 abbrev pub table_text : Table → List ℕ
@@ -31,6 +31,7 @@ table_text table.Origin = codes "origin"
 -- a fault's name, with the first unsound table of `Unsound`
 abbrev pub fault_text : ProgramFault → List ℕ
 fault_text Open = codes "Open"
+fault_text (OtherInventory found) = codes "OtherInventory"
 fault_text (Unsound t) = codes "Unsound:" ++ table_text t
 fault_text Memory = codes "Memory"
 fault_text Keep = codes "Keep"

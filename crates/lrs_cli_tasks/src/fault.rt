@@ -13,6 +13,8 @@ use std::fmt;
 pub enum ProgramFault {
     /// The inventory cannot be opened.
     Open,
+    /// The inventory is another one than was expected: its identity, if it has one.
+    OtherInventory(Option<[u8; 16]>),
     /// What is kept is unsound: the first table that is.
     Unsound(Table),
     Memory,
@@ -107,6 +109,7 @@ impl fmt::Display for ProgramFault {
     fn fmt<W: fmt::Write>(&self, f: &mut fmt::Formatter<W>) -> fmt::Result {
         match self {
             ProgramFault::Open => f.write_str("Open"),
+            ProgramFault::OtherInventory(_) => f.write_str("OtherInventory"),
             ProgramFault::Unsound(table) => {
                 let name = table_name(*table);
                 write!(f, "Unsound:{name}")
