@@ -150,6 +150,34 @@ def test_who_serves_the_file_is_named_with_its_port():
         assert f"process {server.child.pid}" in said and f"http://127.0.0.1:{server.port}/v1/totals" in said, said
 
 
+def test_a_question_whose_answer_is_not_read_keeps_no_writer_out():
+    with folder() as path:
+        assets(path)
+        answer = run("rows", str(path)).stdout
+        # an answer that has begun, and is longer than a pipe takes
+        with subprocess.Popen([PROGRAM, "rows", str(path)], stdout=subprocess.PIPE, bufsize=0) as asking:
+            first = asking.stdout.read(1)
+            ends(run("edit", str(path), "stdin", "--wait", "0", given=sheet_of("z1,link,2,5")), b"z1,done,3004\n", 0)
+            assert asking.poll() is None
+            assert first + asking.stdout.read() == answer
+        assert asking.returncode == 0
+        is_whole(path)
+
+
+def test_questions_that_have_yet_to_arrive_keep_no_writer_out():
+    with folder() as path:
+        make(path)
+        words = [PROGRAM, "ask", str(path), "stdin"]
+        with subprocess.Popen(words, stdin=subprocess.PIPE, stdout=subprocess.PIPE, bufsize=0) as asking:
+            asking.stdin.write(b"key,question,a,b,c,d\nq1,find,1,,,\n")
+            assert asking.stdout.readline().startswith(b"q1,")
+            ends(run("edit", str(path), "stdin", "--wait", "0", given=sheet_of("z1,link,9,5")), b"z1,done,8\n", 0)
+            asking.stdin.write(b"q2,find,1,,,\n")
+            asking.stdin.close()
+            assert asking.stdout.read().startswith(b"q2,")
+        is_whole(path)
+
+
 # ---- many readers and a writer
 
 BURST = 10
