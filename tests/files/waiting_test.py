@@ -270,12 +270,15 @@ def assets(path, count=3_000):
     assert run("edit", str(path), str(sheet)).status == 0
 
 
-def values(path, *words):
+def values_in(told):
     """The values that are told of the assets, all of which were changed together each time."""
-    told = run("rows", str(path), *words)
     if told.status == 3:
         return told.stderr
     return frozenset(line.split(b",")[8] for line in told.stdout.splitlines()[1:])
+
+
+def values(path, *words):
+    return values_in(run("rows", str(path), *words))
 
 
 @pytest.mark.parametrize("mode, pages", [("WAL", 1_000_000), ("WAL", 20), ("DELETE", 0)])
@@ -303,6 +306,10 @@ def test_nothing_but_what_sqlite_has_committed_is_answered(mode, pages):
         writer = threading.Thread(target=write)
         writer.start()
         try:
+            # a question that has begun before sqlite's index of the log may have to wait until sqlite has gone
+            until = time.monotonic() + 60
+            while not commits and time.monotonic() < until:
+                time.sleep(0.01)
             until = time.monotonic() + SECONDS / 2
             told = []
             while time.monotonic() < until or (len(commits) < 3 and time.monotonic() < until + 60):
@@ -314,6 +321,21 @@ def test_nothing_but_what_sqlite_has_committed_is_answered(mode, pages):
             writer.join()
         whole = {frozenset([b"AA"]), frozenset([b"BB"]), frozenset([b"CC"])}
         assert told and commits and set(told) <= whole, (len(told), len(commits), set(told) - whole)
+        is_whole(path)
+
+
+def test_nothing_is_answered_of_a_file_into_which_sqlite_copies_its_log_meanwhile():
+    drawn = random.Random(5)
+    with folder() as path:
+        assets(path)
+        for n in range(20):
+            asking = begun("rows", path, "--wait", "300")
+            time.sleep(drawn.random() * 0.1)
+            with contextlib.closing(sqlite3.connect(path, isolation_level=None, timeout=60)) as db:
+                db.execute("UPDATE asset SET value = ?", ("BCA"[n % 3] * 2,))
+                db.execute("PRAGMA wal_checkpoint").fetchall()
+            told = values_in(ended(asking))
+            assert told in (frozenset(["ABC"[n % 3].encode() * 2]), frozenset(["BCA"[n % 3].encode() * 2])), (n, told)
         is_whole(path)
 
 
