@@ -44,7 +44,7 @@ declare -gA _roadlrs_options=(
     [list]="--text"
     [rows]="--route= --from= --to= --class= --asset= --text"
     [gone]="--edit= --text"
-    [log]="--key= --text"
+    [log]="--key= --text --sum"
 )
 
 _roadlrs_reply() { mapfile -t COMPREPLY < <(compgen "$@"); }

@@ -34,6 +34,7 @@ fn wanted(word: BadWord, method: Option<&str>) -> &'static str {
         }
         BadWord::Key => "no key; 1 to 40 of A-Z a-z 0-9 . : _ -, not - alone",
         BadWord::FromBesideKey => "a second question beside --key; either FROM or --key KEY",
+        BadWord::SumBesideKey => "a second question beside --sum; either --sum or --key KEY",
         BadWord::NotLink => "not link; either ROUTE CHAINAGE, or link LINK MM",
         BadWord::Link => "no link number; a whole number from 1 to 999999, as 101",
         BadWord::Millimetre => {

@@ -85,7 +85,7 @@ fn other_in<'a>(job: &Job<'a>, word: BadWord) -> Option<&'a str> {
         (Job::List { what, .. }, BadWord::What) => Some(what),
         (Job::Gone { edit, .. }, BadWord::Edit) => *edit,
         (Job::Log { from, .. }, BadWord::Number | BadWord::FromBesideKey) => *from,
-        (Job::Log { key, .. }, BadWord::Key) => *key,
+        (Job::Log { key, .. }, BadWord::Key | BadWord::SumBesideKey) => *key,
         (Job::Serve { port, .. }, BadWord::Port) => Some(port),
         (Job::Serve { max, .. }, BadWord::Max) => Some(max),
         (Job::Serve { most_reply, .. }, BadWord::MostReply) => *most_reply,
@@ -112,6 +112,7 @@ pub(crate) fn given<'a>(job: &Job<'a>, word: BadWord) -> Option<&'a str> {
         | BadWord::Number
         | BadWord::Key
         | BadWord::FromBesideKey
+        | BadWord::SumBesideKey
         | BadWord::Port
         | BadWord::Max
         | BadWord::MostReply => other_in(job, word),

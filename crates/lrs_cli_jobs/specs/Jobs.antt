@@ -13,6 +13,7 @@ use Rattle.lrs_cli_words.specs.declared.job.Job.{Job}
 use Rattle.lrs_cli_words.specs.declared.question.QuestionFault.{QuestionFault}
 use Rattle.lrs_cli_words.specs.declared.question.QuestionFault.TheVariants as unread
 use Rattle.lrs_cli_tasks.specs.Questions.{HasAnswered}
+use Rattle.lrs_cli_tasks.specs.Sums.{EndsSum}
 use Rattle.lrs_cli_sheets.specs.Sheets.{IsUnwritten}
 use Rattle.lrs_cli_sheets.specs.QuestionSheets.{EndsQuestions}
 use Rattle.lrs_cli_sheets.specs.Trials.{EndsCheck, EndsRecords, IsAfterCommands}
@@ -44,7 +45,7 @@ abbrev pub IsUnprinted : ProgramFault → Type 0
 IsUnprinted fault = (fault ≡ Memory) ⊎ (fault ≡ Write)
 
 module _ {K : Type 0} (holds : K → Result Image Table → Type 0) (text_of : Text → Option Text) where
-  -- a sheet was done at the desk, or as a whole or not at all; or a question, a sheet of them, a check or an audit was answered, which leaves the desk as it was; or it was served
+  -- a sheet was done at the desk, or as a whole or not at all; or a question, a sheet of them, a sum, a check or an audit was answered, which leaves the desk as it was; or it was served
   abbrev pub HasWorked : Work → DeskView K → DeskView K → Option Text → Printed → Type 0
   HasWorked (work.Sheet kind from resumes all whole) before after old (Ok done) =
       EndsRecords holds kind resumes all whole (text_of from.now) before after old done.0 done.1 × IsAfterCommands before.limits (state_of before.image) (state_of after.image)
@@ -54,6 +55,8 @@ module _ {K : Type 0} (holds : K → Result Image Table → Type 0) (text_of : T
   HasWorked (work.Check kind from) before after old (Err fault) = (after ≡ before) × (fault ≡ Write)
   HasWorked work.Audit before after old (Ok done) = (after ≡ before) × EndsAudit before.image old done.0 done.1
   HasWorked work.Audit before after old (Err fault) = (after ≡ before) × (fault ≡ Write)
+  HasWorked (work.Sum up_to) before after old (Ok done) = (after ≡ before) × EndsSum before.image up_to old done.0 done.1
+  HasWorked (work.Sum up_to) before after old (Err fault) = (after ≡ before) × IsUnprinted fault
   HasWorked (work.Question question as_text) before after old (Ok done) = (after ≡ before) × HasAnswered before.image question as_text old done.0 done.1
   HasWorked (work.Question question as_text) before after old (Err fault) = (after ≡ before) × IsUnprinted fault
   HasWorked (work.Questions from) before after old (Ok done) = (after ≡ before) × EndsQuestions before.image (text_of from.now) old done.0 done.1
@@ -92,8 +95,9 @@ EndsSilent old given ending = given ≡ Ok (old, ending)
 abbrev pub IsNotOpened : Option Text → Printed → Type 0
 IsNotOpened old given = (why : OpenFault) × EndsSilent old given (Stopped (fault_of_open why))
 
--- a question, or a sheet of them, or a sheet that is only tried
+-- a question, or a sheet of them, or the sum of the log, or a sheet that is only tried
 abbrev pub Looks : Work → Type 0
+Looks (work.Sum up_to) = ⊤
 Looks (work.Question question as_text) = ⊤
 Looks (work.Questions from) = ⊤
 Looks (work.Check kind from) = ⊤

@@ -13,7 +13,8 @@ use lrs_cli_sheets::{
     Pace, ProgressDisplay, Sheets, World, do_audit, do_check, do_questions, do_records, do_tidy,
 };
 use lrs_cli_tasks::{
-    Ending, ProgramFault, Task, Work, answer, do_page, is_in_memory, open_in_memory, task_of,
+    Ending, ProgramFault, Task, Work, answer, answer_sum, do_page, is_in_memory, open_in_memory,
+    task_of,
 };
 use lrs_cli_words::{Job, QuestionFault, new_has_sums};
 use lrs_desk::{Desk, Files, Holder, Keeper, OpenFault, Plain};
@@ -67,6 +68,7 @@ fn do_work<R: Runtime<A = Global> + Net, S: Sheets, W: Write + Drop, K: Keeper>(
             answer(world.rt.alloc(), desk, question, as_text, to)
         }
         Work::Questions { from } => do_questions(world, desk, from, to),
+        Work::Sum { up_to } => answer_sum(world.rt.alloc(), desk, up_to, to),
         Work::Audit => do_audit(world.rt, world.shown, desk, to),
         Work::Service(service) => do_service(world.rt, desk, service, to),
     }
@@ -220,13 +222,13 @@ fn look<F: Files, S: Sheets, W: Write + Drop>(
     given
 }
 
-// Whether work is a question, a sheet of them, or a sheet that is only tried.
+// Whether work is a question, a sheet of them, the sum of the log, or a sheet that is only tried.
 fn looks(work: &Work<'_>) -> bool
     ensures { IsTrue result ↔ Looks work.now }
 {
     matches!(
         work,
-        Work::Question { .. } | Work::Questions { .. } | Work::Check { .. }
+        Work::Question { .. } | Work::Questions { .. } | Work::Sum { .. } | Work::Check { .. }
     )
 }
 

@@ -2,5 +2,6 @@ pub mod Cells
 pub mod Lines
 pub mod Questions
 pub mod Endings
+pub mod Sums
 pub mod Faults
 pub mod Tasks

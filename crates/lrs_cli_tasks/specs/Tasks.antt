@@ -5,7 +5,7 @@ use Rattle.lrs_sheet_records.specs.declared.sheet.Sheet.{Sheet}
 use Rattle.lrs_sheet_records.specs.declared.sheet.Sheet.TheVariants.{Edits, Survey}
 use Rattle.lrs_cli_words.specs.declared.job.Job.{Job}
 use Rattle.lrs_cli_words.specs.declared.job.Job.TheVariants as job
-use Rattle.lrs_cli_words.specs.Questions.{Asks, SaysService}
+use Rattle.lrs_cli_words.specs.Questions.{Asks, SaysService, SaysSummed}
 use Rattle.lrs_cli_tasks.specs.declared.task.Task.{Task}
 use Rattle.lrs_cli_tasks.specs.declared.task.Task.TheVariants as task
 use Rattle.lrs_cli_tasks.specs.declared.task.Work.{Work}
@@ -28,7 +28,7 @@ inventory_of (job.Ask db questions) = Some db.now
 inventory_of (job.List db what text) = Some db.now
 inventory_of (job.Rows db route from to class asset text) = Some db.now
 inventory_of (job.Gone db edit text) = Some db.now
-inventory_of (job.Log db from key text) = Some db.now
+inventory_of (job.Log db from key text sum) = Some db.now
 inventory_of (job.Audit db) = Some db.now
 inventory_of (job.Serve db port max sums log end_on_fault most_reply) = Some db.now
 inventory_of (job.Page dir) = None
@@ -45,16 +45,17 @@ has_text_cells (job.Lengths db route text) = text
 has_text_cells (job.List db what text) = text
 has_text_cells (job.Rows db route from to class asset text) = text
 has_text_cells (job.Gone db edit text) = text
-has_text_cells (job.Log db from key text) = text
+has_text_cells (job.Log db from key text sum) = text
 has_text_cells _ = false
 
--- `edit` does an edit sheet, `survey` a survey, `check` tries one, `ask` answers a sheet of questions, `audit` audits, `serve` serves where and how its words say, and every other job asks what they say, and has its cells written as text where it says so
+-- `edit` does an edit sheet, `survey` a survey, `check` tries one, `ask` answers a sheet of questions, `audit` audits, `log --sum` sums the log, `serve` serves where and how its words say, and every other job asks what they say, and has its cells written as text where it says so
 abbrev pub IsWorkOf : Job → Work → Type 0
 IsWorkOf (job.Edit db sheet sums resume all whole) (work.Sheet kind from resumes at_once with_end) = (kind ≡ Edits) × (from.now ≡ sheet.now) × (resumes ≡ resume) × (at_once ≡ all) × (with_end ≡ whole)
 IsWorkOf (job.Survey db sheet sums resume all whole) (work.Sheet kind from resumes at_once with_end) = (kind ≡ Survey) × (from.now ≡ sheet.now) × (resumes ≡ resume) × (at_once ≡ all) × (with_end ≡ whole)
 IsWorkOf (job.Check db sheet survey) (work.Check kind from) = (kind ≡ kind_of survey) × (from.now ≡ sheet.now)
 IsWorkOf (job.Ask db questions) (work.Questions from) = from.now ≡ questions.now
 IsWorkOf (job.Audit db) work.Audit = ⊤
+IsWorkOf (job.Log db from key text true) (work.Sum up_to) = SaysSummed (option_map (λ w. w.now) from) (option_map (λ w. w.now) key) up_to
 IsWorkOf (job.Serve db port max sums log end_on_fault most_reply) (work.Service service) = SaysService port.now max.now log end_on_fault (option_map (λ w. w.now) most_reply) service
 IsWorkOf j (work.Question question as_text) = Asks j question × (as_text ≡ has_text_cells j)
 IsWorkOf j w = ⊥

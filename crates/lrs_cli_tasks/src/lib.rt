@@ -10,6 +10,7 @@ mod lines;
 mod page;
 mod page_file;
 mod questions;
+mod sums;
 mod task;
 
 pub use buffer::{behind, buffered};
@@ -19,4 +20,5 @@ pub use fault::{ProgramFault, table_name};
 pub use page::do_page;
 pub use page_file::{PAGE, write_page};
 pub use questions::answer;
+pub use sums::answer_sum;
 pub use task::{Task, Work, task_of};

@@ -4,7 +4,7 @@ ghost use Rattle.std.specs.Prelude.{◌≡◌, IfOk, IfErr};
 ghost use Rattle.lrs_cli_words.specs.Questions.{IsFaultOf};
 ghost use Rattle.lrs_cli_tasks.specs.Tasks.{IsTaskOf, has_text_cells, kind_of};
 
-use lrs_cli_words::{Job, QuestionFault, Service, question_of, service_of};
+use lrs_cli_words::{Job, QuestionFault, Service, question_of, service_of, summed_of};
 use lrs_machine::Question;
 use lrs_sheet_records::Sheet;
 use std::alloc::Global;
@@ -34,6 +34,10 @@ pub enum Work<'a> {
     /// A sheet of questions is read from `from`, and answered.
     Questions {
         from: &'a str,
+    },
+    /// The log is summed, up to an edit or all of it.
+    Sum {
+        up_to: Option<u64>,
     },
     /// The log is done again in memory, and what it makes is compared with what is kept.
     Audit,
@@ -128,6 +132,18 @@ pub fn task_of<'a>(alloc: Global, job: &Job<'a>) -> Result<Task<'a>, QuestionFau
         Job::Check { db, sheet, survey } => (db, check_work(sheet, *survey)),
         Job::Ask { db, questions } => (db, Work::Questions { from: questions }),
         Job::Audit { db } => (db, Work::Audit),
+        Job::Log {
+            db,
+            from,
+            key,
+            sum: true,
+            ..
+        } => (
+            db,
+            Work::Sum {
+                up_to: summed_of(*from, *key)?,
+            },
+        ),
         Job::Serve {
             db,
             port,

@@ -95,6 +95,9 @@ whole_fills = flag_fills (codes "whole")
 text_fills : Fills (flag_at (codes "text"))
 text_fills = flag_fills (codes "text")
 
+sum_fills : Fills (flag_at (codes "sum"))
+sum_fills = flag_fills (codes "sum")
+
 survey_fills : Fills (flag_at (codes "survey"))
 survey_fills = flag_fills (codes "survey")
 
@@ -189,7 +192,7 @@ has_flags job.Gone = record {
   short = short_help (rules_at job.Gone) help_fills;
 }
 has_flags job.Log = record {
-  long = long_among (rules_at job.Log) (option_at (codes "key") ∷ flag_at (codes "text") ∷ []) (key_fills, key_fills, (text_fills, text_fills, tt)) help_fills;
+  long = long_among (rules_at job.Log) (option_at (codes "key") ∷ flag_at (codes "text") ∷ flag_at (codes "sum") ∷ []) (key_fills, key_fills, (text_fills, text_fills, (sum_fills, sum_fills, tt))) help_fills;
   short = short_help (rules_at job.Log) help_fills;
 }
 has_flags job.Audit = record { long = without_options job.Audit help_fills; short = short_help (rules_at job.Audit) help_fills }

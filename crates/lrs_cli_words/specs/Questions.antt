@@ -1,5 +1,5 @@
 -- What a job's words ask of an inventory, and which of them cannot be read.
-use Rattle.std.specs.Prelude.{◌≡◌, ◌⊎◌, ⊤, ℕ, ◌≤◌, Bool, IsTrue, IsSomeAnd, List, Option, Some, None, map, option_map, codes, slice_get}
+use Rattle.std.specs.Prelude.{◌≡◌, ◌⊎◌, ⊤, ℕ, ◌≤◌, Bool, false, true, IsTrue, IsSomeAnd, List, Option, Some, None, map, option_map, codes, slice_get}
 use Rattle.std.specs.Str.Parse.{IsNumeral, digits_value}
 use Rattle.clap.specs.Words.{Text}
 use Rattle.lrs_measure.specs.Limits.{greatest_asset, greatest_link, longest_link, longest_route, most_edits}
@@ -125,13 +125,14 @@ pub record SaysService (at most : Text) (tells ends : Bool) (longest : Option Te
 
 -- ---- questions
 
--- the job asks no single question: it does, checks or tidies a sheet, answers a sheet of questions, audits, serves, or writes the page
+-- the job asks no single question: it does, checks or tidies a sheet, answers a sheet of questions, sums its log, audits, serves, or writes the page
 abbrev pub AsksNothing : Job → Type 0
 AsksNothing (job.Edit db sheet sums resume all whole) = ⊤
 AsksNothing (job.Survey db sheet sums resume all whole) = ⊤
 AsksNothing (job.Check db sheet survey) = ⊤
 AsksNothing (job.Tidy file survey) = ⊤
 AsksNothing (job.Ask db questions) = ⊤
+AsksNothing (job.Log db from key text true) = ⊤
 AsksNothing (job.Audit db) = ⊤
 AsksNothing (job.Serve db port max sums log end_on_fault most_reply) = ⊤
 AsksNothing (job.Page dir) = ⊤
@@ -205,8 +206,15 @@ Asks (job.List db what text) (question.List l) = SaysList what.now l
 Asks (job.Rows db route from to class asset text) (question.List l) =
     AsksRows (option_map (λ w. w.now) route) (option_map (λ w. w.now) from) (option_map (λ w. w.now) to) (option_map (λ w. w.now) class) (option_map (λ w. w.now) asset) l
 Asks (job.Gone db edit text) (question.List (listing.Gone n)) = SaysIfGiven SaysEdit (option_map (λ w. w.now) edit) n
-Asks (job.Log db from key text) (question.List l) = AsksLog (option_map (λ w. w.now) from) (option_map (λ w. w.now) key) l
+Asks (job.Log db from key text false) (question.List l) = AsksLog (option_map (λ w. w.now) from) (option_map (λ w. w.now) key) l
 Asks _ q = ⊥
+
+-- ---- sums
+
+-- The number of the edit up to which a log is summed, where it is given; there is no key beside it.
+abbrev pub SaysSummed : Option Text → Option Text → Option ℕ → Type 0
+SaysSummed from (Some key) up_to = ⊥
+SaysSummed from None up_to = SaysIfGiven SaysEdit from up_to
 
 -- ---- words that cannot be read
 
@@ -277,6 +285,11 @@ abbrev pub CannotLog : Option Text → Option Text → QuestionFault → Type 0
 CannotLog (Some from) (Some key) fault = fault ≡ Unreadable word.FromBesideKey
 CannotLog from key fault = CannotIfGiven word.Number SaysEdit from fault ⊎ CannotIfGiven word.Key SaysKey key fault
 
+-- the number of the last edit of a sum; or a key is given
+abbrev pub CannotSum : Option Text → Option Text → QuestionFault → Type 0
+CannotSum from (Some key) fault = fault ≡ Unreadable word.SumBesideKey
+CannotSum from None fault = CannotIfGiven word.Number SaysEdit from fault
+
 -- the fault is a word of the job that cannot be read, or lack of memory for the classes
 abbrev pub IsFaultOf : Job → QuestionFault → Type 0
 IsFaultOf (job.At db route method position) fault = CannotAt route.now method.now position.now fault
@@ -290,7 +303,8 @@ IsFaultOf (job.List db what text) fault = Cannot word.What (SaysList what.now) f
 IsFaultOf (job.Rows db route from to class asset text) fault =
     CannotRows (option_map (λ w. w.now) route) (option_map (λ w. w.now) from) (option_map (λ w. w.now) to) (option_map (λ w. w.now) class) (option_map (λ w. w.now) asset) fault
 IsFaultOf (job.Gone db edit text) fault = CannotIfGiven word.Edit SaysEdit (option_map (λ w. w.now) edit) fault
-IsFaultOf (job.Log db from key text) fault = CannotLog (option_map (λ w. w.now) from) (option_map (λ w. w.now) key) fault
+IsFaultOf (job.Log db from key text false) fault = CannotLog (option_map (λ w. w.now) from) (option_map (λ w. w.now) key) fault
+IsFaultOf (job.Log db from key text true) fault = CannotSum (option_map (λ w. w.now) from) (option_map (λ w. w.now) key) fault
 IsFaultOf (job.Serve db port max sums log end_on_fault most_reply) fault = CannotServe port.now max.now (option_map (λ w. w.now) most_reply) fault
 IsFaultOf _ fault = ⊥
 
@@ -310,6 +324,7 @@ bad_word_text word.Edit = codes "EDIT is no number of an edit"
 bad_word_text word.Number = codes "FROM is no number of an edit"
 bad_word_text word.Key = codes "KEY is no key"
 bad_word_text word.FromBesideKey = codes "FROM and --key KEY are two questions"
+bad_word_text word.SumBesideKey = codes "--sum and --key KEY are two questions"
 bad_word_text word.Chainage = codes "CHAINAGE is no chainage in millimetres"
 bad_word_text word.NotLink = codes "MM stands only behind the word link and LINK"
 bad_word_text word.Link = codes "LINK is no link number"

@@ -82,7 +82,7 @@ rules_of job.Audit = required (codes "DB") ∷ []
 rules_of job.Serve = required (codes "DB") ∷ required (codes "PORT") ∷ required (codes "MAX") ∷ []
 rules_of job.Page = required (codes "DIR") ∷ []
 
--- what may be left out: those jobs that may make a file have `--sums`, those that do a sheet also `--resume`, `--all` and `--whole`, a service also `--log`, `--end-on-fault` and `--most-reply`, a check and a tidying say of which kind their sheet is, a place on a link has its millimetre, a diagram has its classes and its ends, and a list may be narrowed, and has `--text`
+-- what may be left out: those jobs that may make a file have `--sums`, those that do a sheet also `--resume`, `--all` and `--whole`, a service also `--log`, `--end-on-fault` and `--most-reply`, a check and a tidying say of which kind their sheet is, a place on a link has its millimetre, a diagram has its classes and its ends, a list may be narrowed, and has `--text`, and a log has its sum
 abbrev pub options_of : JobName → List Rule
 options_of job.Edit = flag (codes "sums") ∷ flag (codes "resume") ∷ flag (codes "all") ∷ flag (codes "whole") ∷ []
 options_of job.Survey = flag (codes "sums") ∷ flag (codes "resume") ∷ flag (codes "all") ∷ flag (codes "whole") ∷ []
@@ -95,7 +95,7 @@ options_of job.List = flag (codes "text") ∷ []
 options_of job.Diagram = any (codes "CLASS") ∷ option (codes "from") ∷ option (codes "to") ∷ []
 options_of job.Rows = option (codes "route") ∷ option (codes "from") ∷ option (codes "to") ∷ option (codes "class") ∷ option (codes "asset") ∷ flag (codes "text") ∷ []
 options_of job.Gone = option (codes "edit") ∷ flag (codes "text") ∷ []
-options_of job.Log = optional (codes "FROM") ∷ option (codes "key") ∷ flag (codes "text") ∷ []
+options_of job.Log = optional (codes "FROM") ∷ option (codes "key") ∷ flag (codes "text") ∷ flag (codes "sum") ∷ []
 options_of _ = []
 
 -- the line of a job: its name, its words and its options
@@ -143,7 +143,7 @@ job_name (Ask db questions) = job.Ask
 job_name (Listing db what text) = job.List
 job_name (Rows db route from to class asset text) = job.Rows
 job_name (Gone db edit text) = job.Gone
-job_name (Log db from key text) = job.Log
+job_name (Log db from key text sum) = job.Log
 job_name (Audit db) = job.Audit
 job_name (Serve db port max sums log end_on_fault most_reply) = job.Serve
 job_name (Page dir) = job.Page
@@ -167,7 +167,7 @@ words_of (Ask db questions) = (codes "DB", db.now) ∷ (codes "QUESTIONS", quest
 words_of (Listing db what text) = (codes "DB", db.now) ∷ (codes "WHAT", what.now) ∷ []
 words_of (Rows db route from to class asset text) = (codes "DB", db.now) ∷ []
 words_of (Gone db edit text) = (codes "DB", db.now) ∷ []
-words_of (Log db from key text) = (codes "DB", db.now) ∷ []
+words_of (Log db from key text sum) = (codes "DB", db.now) ∷ []
 words_of (Audit db) = (codes "DB", db.now) ∷ []
 words_of (Serve db port max sums log end_on_fault most_reply) = (codes "DB", db.now) ∷ (codes "PORT", port.now) ∷ (codes "MAX", max.now) ∷ []
 words_of (Page dir) = (codes "DIR", dir.now) ∷ []
@@ -193,7 +193,7 @@ HasValues (Rows db route from to class asset text) rows =
 HasValues (Where db route chainage mm) rows = IsValue (codes "MM") rows (option_map (λ w. w.now) mm)
 HasValues (Lengths db route text) rows = IsValue (codes "route") rows (option_map (λ w. w.now) route)
 HasValues (Gone db edit text) rows = IsValue (codes "edit") rows (option_map (λ w. w.now) edit)
-HasValues (Log db from key text) rows = IsValue (codes "FROM") rows (option_map (λ w. w.now) from) × IsValue (codes "key") rows (option_map (λ w. w.now) key)
+HasValues (Log db from key text sum) rows = IsValue (codes "FROM") rows (option_map (λ w. w.now) from) × IsValue (codes "key") rows (option_map (λ w. w.now) key)
 HasValues (Serve db port max sums log end_on_fault most_reply) rows = IsValue (codes "most-reply") rows (option_map (λ w. w.now) most_reply)
 HasValues _ rows = ⊤
 
@@ -232,8 +232,13 @@ HasText (Lengths db route text) rows = IsTrue text ↔ IsSet (codes "text") rows
 HasText (Listing db what text) rows = IsTrue text ↔ IsSet (codes "text") rows
 HasText (Rows db route from to class asset text) rows = IsTrue text ↔ IsSet (codes "text") rows
 HasText (Gone db edit text) rows = IsTrue text ↔ IsSet (codes "text") rows
-HasText (Log db from key text) rows = IsTrue text ↔ IsSet (codes "text") rows
+HasText (Log db from key text sum) rows = IsTrue text ↔ IsSet (codes "text") rows
 HasText _ rows = ⊤
+
+-- the sum of a log is asked for exactly where `--sum` was given
+abbrev pub HasSum : Job → List Row → Type 0
+HasSum (Log db from key text sum) rows = IsTrue sum ↔ IsSet (codes "sum") rows
+HasSum _ rows = ⊤
 
 -- a survey is checked or tidied exactly where `--survey` was given
 abbrev pub HasKind : Job → List Row → Type 0
@@ -248,7 +253,7 @@ HasManner _ rows = ⊤
 
 -- its words stand in their places, and its options are as they were given
 abbrev pub HasWords : Job → List Row → Type 0
-HasWords j rows = (map (λ w. first_of w.0 rows) (words_of j) ≡ map (λ w. Some w.1) (words_of j)) × HasClasses j rows × HasValues j rows × HasSums j rows × HasResume j rows × HasAll j rows × HasWhole j rows × HasText j rows × HasKind j rows × HasManner j rows
+HasWords j rows = (map (λ w. first_of w.0 rows) (words_of j) ≡ map (λ w. Some w.1) (words_of j)) × HasClasses j rows × HasValues j rows × HasSums j rows × HasResume j rows × HasAll j rows × HasWhole j rows × HasText j rows × HasSum j rows × HasKind j rows × HasManner j rows
 
 -- the job that was met has this name and these rows
 abbrev pub IsMet : Job → Option (Text × List Row) → Type 0

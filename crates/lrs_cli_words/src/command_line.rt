@@ -97,6 +97,8 @@ const FROM_EDIT: &str = "The number of the first edit; else from the first one o
 
 const OF_KEY: &str = "The edit of this key alone";
 
+const AS_SUM: &str = "The sum of all edits, or of those up to edit FROM, in place of them";
+
 // What help says of the records of an edit sheet, and of a survey.
 const RECORDS: &str = "A record has a key, a verb and its fields a to i, 11 fields in all:
   link LINK LENGTH                     a new link; lengths are in whole mm
@@ -382,6 +384,7 @@ static LOG: JobLine = JobLine {
         LinePart::Optional("FROM", FROM_EDIT),
         LinePart::Valued("key", "KEY", OF_KEY),
         LinePart::Switch("text", AS_TEXT),
+        LinePart::Switch("sum", AS_SUM),
     ],
 };
 

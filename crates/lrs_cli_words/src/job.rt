@@ -146,12 +146,14 @@ pub enum Job<'a> {
         edit: Option<&'a str>,
         text: bool,
     },
-    /// Prints the accepted commands as an edit sheet: from a number on, or the one of a key.
+    /// Prints the accepted commands as an edit sheet: from a number on, or the one of a key. With `sum` it prints the
+    /// sum of them all, or up to that number.
     Log {
         db: &'a str,
         from: Option<&'a str>,
         key: Option<&'a str>,
         text: bool,
+        sum: bool,
     },
     /// Does the log again in memory, and compares what it makes with what is kept.
     Audit {

@@ -9,5 +9,6 @@ mod question;
 mod words;
 
 pub use job::{Job, new_has_sums};
+pub use lists::summed_of;
 pub use question::{BadWord, QuestionFault, Service, question_of, service_of};
 pub use words::{WordsFault, job_of};

@@ -1,7 +1,7 @@
 //! Places, and listings, as words say them.
 
 ghost use Rattle.std.specs.Prelude.{IfOk, IfErr, option_map};
-ghost use Rattle.lrs_cli_words.specs.Questions.{AsksLog, AsksRows, Cannot, CannotIfGiven, CannotLink, CannotLog, CannotPlace, CannotRows, CannotWhere, IsOnLink, IsOnRoute, IsPlace, SaysAsset, SaysClass, SaysEdit, SaysIfGiven, SaysKey, SaysLink, SaysList, SaysRoute};
+ghost use Rattle.lrs_cli_words.specs.Questions.{AsksLog, AsksRows, Cannot, CannotIfGiven, CannotLink, CannotLog, CannotPlace, CannotRows, CannotSum, CannotWhere, IsOnLink, IsOnRoute, IsPlace, SaysAsset, SaysClass, SaysEdit, SaysIfGiven, SaysKey, SaysLink, SaysList, SaysRoute, SaysSummed};
 
 use crate::question::{BadWord, QuestionFault, asset_of, class_of, end_of, number_of, route_of};
 use lrs_events::ClassName;
@@ -167,5 +167,22 @@ pub(crate) fn log_of(from: Option<&str>, key: Option<&str>) -> Result<Listing, Q
         (Some(key), None) => Ok(Listing::LogOfKey(key_of(key)?)),
         (None, Some(from)) => Ok(Listing::Log(edit_of(from, BadWord::Number)?)),
         (None, None) => Ok(Listing::Log(1)),
+    }
+}
+
+/// The number of the edit up to which a log is summed, where these words say one; else all of it is.
+///
+/// # Errors
+/// A number that cannot be read, or a key that is given.
+pub fn summed_of(from: Option<&str>, key: Option<&str>) -> Result<Option<u64>, QuestionFault>
+    ensures read { IfOk result (SaysSummed (option_map (λ t. t.now) from.entry)
+        (option_map (λ t. t.now) key.entry)) }
+    ensures unread { IfErr result (CannotSum (option_map (λ t. t.now) from.entry)
+        (option_map (λ t. t.now) key.entry)) }
+{
+    match (key, from) {
+        (Some(_), _) => Err(QuestionFault::Unreadable(BadWord::SumBesideKey)),
+        (None, Some(from)) => Ok(Some(edit_of(from, BadWord::Number)?)),
+        (None, None) => Ok(None),
     }
 }

@@ -55,6 +55,7 @@ pub enum BadWord {
     Number,
     Key,
     FromBesideKey,
+    SumBesideKey,
     Chainage,
     NotLink,
     Link,
@@ -87,6 +88,7 @@ impl fmt::Display for BadWord {
             BadWord::Number => f.write_str("FROM is no number of an edit"),
             BadWord::Key => f.write_str("KEY is no key"),
             BadWord::FromBesideKey => f.write_str("FROM and --key KEY are two questions"),
+            BadWord::SumBesideKey => f.write_str("--sum and --key KEY are two questions"),
             BadWord::Chainage => f.write_str("CHAINAGE is no chainage in millimetres"),
             BadWord::NotLink => f.write_str("MM stands only behind the word link and LINK"),
             BadWord::Link => f.write_str("LINK is no link number"),
@@ -366,8 +368,8 @@ pub fn service_of(
     })
 }
 
-/// What a job asks of its inventory; none where it does, checks or tidies a sheet, answers a sheet of questions, audits,
-/// serves, or writes the page.
+/// What a job asks of its inventory; none where it does, checks or tidies a sheet, answers a sheet of questions, sums its
+/// log, audits, serves, or writes the page.
 ///
 /// # Errors
 /// The first word that cannot be read, and `Memory`.
@@ -382,6 +384,7 @@ pub fn question_of(alloc: Global, job: &Job<'_>) -> Result<Option<Question>, Que
         | Job::Check { .. }
         | Job::Tidy { .. }
         | Job::Ask { .. }
+        | Job::Log { sum: true, .. }
         | Job::Audit { .. }
         | Job::Serve { .. }
         | Job::Page { .. } => return Ok(None),
@@ -432,7 +435,12 @@ pub fn question_of(alloc: Global, job: &Job<'_>) -> Result<Option<Question>, Que
             ..
         } => Question::List(rows_of(*route, *from, *to, *class, *asset)?),
         Job::Gone { edit, .. } => Question::List(Listing::Gone(edit_if_given(*edit)?)),
-        Job::Log { from, key, .. } => Question::List(log_of(*from, *key)?),
+        Job::Log {
+            from,
+            key,
+            sum: false,
+            ..
+        } => Question::List(log_of(*from, *key)?),
     };
     Ok(Some(question))
 }

@@ -368,11 +368,13 @@ fn log_job<'a>(given: &ArgMatches<'a>) -> Job<'a>
     let from = word_in(given, "FROM");
     let key = word_in(given, "key");
     let text = is_set(given, "text");
+    let sum = is_set(given, "sum");
     Job::Log {
         db,
         from,
         key,
         text,
+        sum,
     }
 }
 
