@@ -11,7 +11,7 @@ use clap::Command;
 use std::alloc::{AllocError, Global};
 
 /// The version of the program, and the kit that proved it.
-static VERSION: &str = "0.8.16, proved by rattle-kit-13f logic dac8208d650f15bf";
+static VERSION: &str = "0.8.17, proved by rattle-kit-13b logic dac8208d650f15bf";
 
 // What help says of the words.
 const DB: &str = "The inventory's file, or :memory: for a fresh one in memory";
