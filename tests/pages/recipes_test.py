@@ -56,17 +56,17 @@ def test_a_follower_that_is_killed_at_any_moment_ends_equal(tmp_path):
     chosen = random.Random(5)
     log = lambda db: run("log", str(tmp_path / db)).stdout
     with started(db=tmp_path / "first.db") as server:
-        for first in range(1, 6_001, 400):
+        for first in range(1, 4_001, 400):
             rows = records(first, 400)
             server.does("edits", HEADER + rows, b"".join(b"k%d,done,%d\n" % (n, n) for n in range(first, first + 400)))
             child = follower(tmp_path, server.port)
-            time.sleep(chosen.uniform(0, 0.3))
+            time.sleep(chosen.uniform(0, 0.25))
             chosen.choice([os.kill, os.killpg])(child.pid, signal.SIGKILL)
             child.wait()
         child = follower(tmp_path, server.port)
         try:
             until = time.monotonic() + PATIENCE
-            while log("copy.db") != HEADER + records(1, 6_000):
+            while log("copy.db") != HEADER + records(1, 4_000):
                 assert child.poll() is None and time.monotonic() < until
                 time.sleep(0.1)
         finally:
