@@ -12,7 +12,7 @@ import pytest
 
 from documents import blocks
 from program import HEADER, PATIENCE, PROGRAM, TOP, ends, run
-from serving import started
+from serving import Server
 from sessions import play
 
 FOLDER = TOP / "docs" / "recipes"
@@ -49,27 +49,31 @@ def records(first, count):
 
 
 def test_a_follower_that_is_killed_at_any_moment_ends_equal(tmp_path):
-    """With what it has begun, or alone, so that this goes on for a while beside the next one."""
+    """With what it has begun, or alone, so that this goes on for a while beside the next one; and now and then the service."""
     (script,) = [text for language, text in blocks(FOLDER / "follow.md") if language == "sh"]
     (tmp_path / "follow.sh").write_text(script)
     (tmp_path / "roadlrs").symlink_to(pathlib.Path(PROGRAM).resolve())
     chosen = random.Random(5)
-    log = lambda db: run("log", str(tmp_path / db)).stdout
-    with started(db=tmp_path / "first.db") as server:
+    server = Server(1_000_000, tmp_path / "first.db")
+    try:
         for first in range(1, 4_001, 400):
-            rows = records(first, 400)
-            server.does("edits", HEADER + rows, b"".join(b"k%d,done,%d\n" % (n, n) for n in range(first, first + 400)))
+            if first % 1_600 == 1:
+                server.stop()
+                server = Server(1_000_000, tmp_path / "first.db", port=server.port)
+            server.does("edits", HEADER + records(first, 400), b"".join(b"k%d,done,%d\n" % (n, n) for n in range(first, first + 400)))
             child = follower(tmp_path, server.port)
-            time.sleep(chosen.uniform(0, 0.25))
+            time.sleep(chosen.uniform(0, 0.5) ** 2)
             chosen.choice([os.kill, os.killpg])(child.pid, signal.SIGKILL)
             child.wait()
         child = follower(tmp_path, server.port)
         try:
             until = time.monotonic() + PATIENCE
-            while log("copy.db") != HEADER + records(1, 4_000):
+            while run("log", str(tmp_path / "copy.db")).stdout != HEADER + records(1, 4_000):
                 assert child.poll() is None and time.monotonic() < until
                 time.sleep(0.1)
         finally:
             os.killpg(child.pid, signal.SIGKILL)
             child.wait()
+    finally:
+        server.stop()
     ends(run("audit", str(tmp_path / "copy.db")), b"sound, and as its log says\n", 0)
