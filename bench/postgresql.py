@@ -107,18 +107,19 @@ def followed(loader, countries, count):
     edits = sum(it.count() for it in countries)
     wal = loader.wal()
     child = subprocess.Popen(loader.words("--every", "1", "--quick"), env=loader.environment, stdout=subprocess.PIPE, text=True)
-    started, done = time.monotonic(), 0
-    for n in range(count):
-        for it in countries:
-            done += it.send([it.edits.pop(0)])
-        time.sleep(0.005)
-    sent = time.monotonic()
-    while loader.value("SELECT sum(edits) FROM roadlrs.followed") < edits + done:
-        time.sleep(0.02)
-    ended = time.monotonic()
-    usage = pathlib.Path(f"/proc/{child.pid}/stat").read_text().rpartition(")")[2].split()
-    child.terminate()
-    commits = child.communicate()[0].count("\n")
+    try:
+        started, done = time.monotonic(), 0
+        for n in range(count):
+            done += sum(it.send([it.edits.pop(0)]) for it in countries)
+            time.sleep(0.005)
+        sent = time.monotonic()
+        while loader.value("SELECT sum(edits) FROM roadlrs.followed") < edits + done:
+            time.sleep(0.02)
+        ended = time.monotonic()
+        usage = pathlib.Path(f"/proc/{child.pid}/stat").read_text().rpartition(")")[2].split()
+    finally:
+        child.terminate()
+        commits = child.communicate()[0].count("\n")
     used = sum(map(int, usage[11:15])) / os.sysconf("SC_CLK_TCK")
     print(
         f"{done} route edits one by one in {sent - started:.1f} s, looked at each second: the last is there {ended - sent:.2f} s later, "

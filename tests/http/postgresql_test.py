@@ -99,7 +99,7 @@ def commands(drawn, n, port):
         "recalibrate": (2, [f"recalibrate,{name},0:{n} {length // 3}:{n + 13} {length}:{n + length % 999 + 100}"]),
         "turn": (2, [f"turn,{name}"]),
         "realign": (2, [f"link,{n},500", f"realign,{name},{length // 4},{length // 2},{n}:0:500:-,0:0 {length - length // 2 + length // 4 + 500}:5000"]),
-        "close": (2 if len(names) > 6 else 0, [f"close,{name}"]),
+        "close": (2 if len(names) > 4 else 1, [f"close,{name}"]),
     }
     return drawn.choices([given for _, given in kinds.values()], [weight for weight, _ in kinds.values()])[0]
 
@@ -180,7 +180,7 @@ WRONG_PIECES = f"SELECT count(*) FROM roadlrs.routes WHERE length IS DISTINCT FR
 
 def snapshot(postgres, database, name):
     """How many edits PostgreSQL has of an inventory, their sum, and its lists."""
-    script = f"BEGIN ISOLATION LEVEL REPEATABLE READ;\nSELECT edits, total FROM roadlrs.followed WHERE inventory = '{name}';\n"
+    script = f"BEGIN ISOLATION LEVEL REPEATABLE READ;\nSELECT edits, sum FROM roadlrs.followed WHERE inventory = '{name}';\n"
     for _, columns in LISTS.values():
         script += f"\\echo --\nCOPY (SELECT {columns} WHERE inventory = '{name}') TO STDOUT (FORMAT csv);\n"
     found, *lists = postgres.sql(f"{script}\\echo --\n{WRONG_PIECES};\nCOMMIT;\n", database).split("--\n")
@@ -379,7 +379,7 @@ def test_an_edit_changes_nothing_but_what_is_asked_about_again():
     with started() as server:
         sent(server.port, *BASE)
         before = held(server.port)
-        for n in range(1, 400):
+        for n in range(1, 150):
             for part, text in enumerate(commands(drawn, n, server.port)):
                 (reply,) = sent(server.port, f"t{n}-{part},{text}")
                 if not reply.startswith("done,"):
@@ -443,6 +443,21 @@ def test_what_psql_got_in_part_changes_nothing(postgres, inventory, tmp_path):
     after = snapshot(postgres, database, "north")
     assert after != before and follow(postgres, database, url) == ("", 0) and snapshot(postgres, database, "north") == after
     are_states([before, after], log_of(inventory.port))
+
+
+def test_what_does_not_answer_is_told_and_tried_again(postgres, inventory, tmp_path):
+    """Neither changes anything: no program, another server's path, no PostgreSQL, no psql."""
+    database, url = postgres.fresh("silent"), urls(north=inventory.port)
+    for name, given, environment in [
+        ("Inventory", (database, urls(north=free_port())), {}),
+        ("Inventory", (database, {"north": f"{url['north']}/east"}), {}),
+        ("Database", (database.replace("dbname=", "dbname=no"), url), {}),
+        ("Database", (database, url), {"PATH": str(tmp_path)}),
+    ]:
+        said, status = follow(postgres, *given, **environment)
+        assert status == 3 and said.startswith(f"follow: north: fault {name}: ") and said.count("\n") == 1, said
+    assert snapshot(postgres, database, "north")[0] == 0
+    assert follow(postgres, database, url) == ("", 0)
 
 
 @contextlib.contextmanager

@@ -55,7 +55,7 @@ VERBS = {
 }
 
 COLUMNS = {
-    "followed": "inventory, edits, total, record",
+    "followed": "inventory, edits, sum, record",
     "links": "inventory, link, length",
     "classes": "inventory, class, kind",
     "routes": "inventory, route, length",
@@ -278,7 +278,7 @@ class Inventory:
 
     def found(self):
         """How far PostgreSQL has it."""
-        printed = psql(self.database, "-c", f"SELECT edits, total, record FROM roadlrs.followed WHERE inventory = '{self.name}'")
+        printed = psql(self.database, "-c", f"SELECT edits, sum, record FROM roadlrs.followed WHERE inventory = '{self.name}'")
         if not printed:
             return Place()
         edits, total, record = printed.rstrip("\n").split("\t")
@@ -289,7 +289,7 @@ class Inventory:
         mine = f"WHERE inventory = '{self.name}'"
         yield "BEGIN;\n"
         # another program that follows this inventory waits here, and then cannot put its line beside ours
-        yield f"DELETE FROM roadlrs.followed {mine} AND edits = {self.place.edits} AND total = '{self.place.total}';\n"
+        yield f"DELETE FROM roadlrs.followed {mine} AND edits = {self.place.edits} AND sum = '{self.place.total}';\n"
         yield from copy("followed", [answers.line(place.edits, place.total, place.record)])
         if answers.everything:
             yield from (f"DELETE FROM roadlrs.{table} {mine};\n" for table in COLUMNS if table != "followed")
@@ -322,6 +322,8 @@ def round_of(inventories):
                 print(f"{it.name}: {edits} edits, up to {it.place.edits}", flush=True)
         except Fault as error:
             fault = error
+        except FileNotFoundError as error:
+            fault = Fault("Database", error)
         except (OSError, http.client.HTTPException, ValueError, LookupError, TypeError) as error:
             fault = Fault("Inventory", f"{type(error).__name__}: {error}")
         if fault:

@@ -11,7 +11,7 @@ $$ SELECT split_part(measure, '/', 1)::numeric / coalesce(nullif(split_part(meas
 CREATE TABLE roadlrs.followed (
     inventory text PRIMARY KEY,
     edits bigint NOT NULL,
-    total text NOT NULL,
+    sum text NOT NULL,
     record text NOT NULL,
     written timestamptz NOT NULL DEFAULT now()
 );
