@@ -28,6 +28,12 @@ def records(path):
     return path.read_bytes().splitlines(keepends=True)[1:]
 
 
+def seconds_of(pid):
+    """Seconds of a processor that a process has used, and those of its children that have ended."""
+    fields = pathlib.Path(f"/proc/{pid}/stat").read_text().rpartition(")")[2].split()
+    return sum(map(int, fields[11:15])) / os.sysconf("SC_CLK_TCK")
+
+
 class Country:
     """An inventory that is served, and what it has not been sent yet."""
 
@@ -79,16 +85,21 @@ class Loader:
     def wal(self):
         return self.value("SELECT pg_current_wal_lsn() - '0/0'")
 
+    def used(self):
+        """Seconds of a processor of PostgreSQL's first process and of those that it has seen end, as each connection's."""
+        pid = (self.postgres.room / "data" / "postmaster.pid").read_text().split()[0]
+        return seconds_of(pid)
+
     def once(self, what, *options):
-        wal, started = self.wal(), time.monotonic()
+        wal, used, started = self.wal(), self.used(), time.monotonic()
         child = subprocess.Popen(self.words("--once", *options), env=self.environment, stdout=subprocess.DEVNULL)
         _, status, usage = os.wait4(child.pid, 0)
         passed = time.monotonic() - started
         if status:
             sys.exit("the loader failed")
         print(
-            f"{what}: {passed:.2f} s, the loader and psql {usage.ru_utime + usage.ru_stime:.2f} s of a processor and {usage.ru_maxrss / 1e3:.0f} MB, "
-            f"{(self.wal() - wal) / 1e6:.2f} MB of PostgreSQL's log",
+            f"{what}: {passed:.2f} s; of a processor the loader and psql {usage.ru_utime + usage.ru_stime:.2f} s, PostgreSQL {self.used() - used:.2f} s; "
+            f"{usage.ru_maxrss / 1e3:.0f} MB of memory, {(self.wal() - wal) / 1e6:.2f} MB of PostgreSQL's log",
             flush=True,
         )
 
@@ -105,7 +116,7 @@ def sizes(loader, countries):
 def followed(loader, countries, count):
     """Edits one after the other, while the loader looks each second: how long until the last is there."""
     edits = sum(it.count() for it in countries)
-    wal = loader.wal()
+    wal, before = loader.wal(), loader.used()
     child = subprocess.Popen(loader.words("--every", "1", "--quick"), env=loader.environment, stdout=subprocess.PIPE, text=True)
     try:
         started, done = time.monotonic(), 0
@@ -116,14 +127,14 @@ def followed(loader, countries, count):
         while loader.value("SELECT sum(edits) FROM roadlrs.followed") < edits + done:
             time.sleep(0.02)
         ended = time.monotonic()
-        usage = pathlib.Path(f"/proc/{child.pid}/stat").read_text().rpartition(")")[2].split()
+        used = seconds_of(child.pid)
     finally:
         child.terminate()
         commits = child.communicate()[0].count("\n")
-    used = sum(map(int, usage[11:15])) / os.sysconf("SC_CLK_TCK")
     print(
         f"{done} route edits one by one in {sent - started:.1f} s, looked at each second: the last is there {ended - sent:.2f} s later, "
-        f"{commits} transactions, {used:.1f} s of a processor, {(loader.wal() - wal) / 1e6:.2f} MB of PostgreSQL's log",
+        f"{commits} transactions; of a processor the loader and psql {used:.2f} s, PostgreSQL {loader.used() - before:.2f} s; "
+        f"{(loader.wal() - wal) / 1e6:.2f} MB of PostgreSQL's log",
         flush=True,
     )
 

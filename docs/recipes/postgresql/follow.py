@@ -204,6 +204,14 @@ class Answers:
         marks = "".join(self.line(name, *mark) for mark in answer["marks"])
         self.routes[name] = (self.line(name, answer["length"]), "".join(pieces), marks)
 
+    def lines(self):
+        """The lines of each table."""
+        routes, pieces, marks = zip(*self.routes.values()) if self.routes else ((), (), ())
+        links = [self.line(*link) for link in self.links.items()]
+        classes = [self.line(*kind) for kind in self.classes.items()]
+        tables = {"links": links, "classes": classes, "routes": routes, "pieces": pieces, "marks": marks}
+        return {**tables, "referents": [self.referents or ""], "rows": self.rows.values()}
+
 
 # ---- PostgreSQL, by psql
 
@@ -230,10 +238,20 @@ def psql(database, *words, given=()):
     return printed
 
 
-def copy(table, lines):
-    yield f"COPY roadlrs.{table} ({COLUMNS[table]}) FROM STDIN;\n"
+def copy(table, columns, lines):
+    yield f"COPY {table} ({columns}) FROM STDIN;\n"
     yield from lines
     yield "\\.\n"
+
+
+def replaced(table, lines, condition):
+    """These lines come in the place of those that meet the condition; what is in both stays untouched."""
+    columns = COLUMNS[table]
+    yield f"CREATE TEMPORARY TABLE new_{table} (LIKE roadlrs.{table}) ON COMMIT DROP;\n"
+    yield from copy(f"new_{table}", columns, lines)
+    same = f"({columns}) = (old.{columns.replace(', ', ', old.')})"
+    yield f"DELETE FROM roadlrs.{table} AS old {condition} AND NOT EXISTS (SELECT FROM new_{table} WHERE {same});\n"
+    yield f"INSERT INTO roadlrs.{table} ({columns}) SELECT {columns} FROM new_{table} ON CONFLICT DO NOTHING;\n"
 
 
 def among(routes):
@@ -290,21 +308,21 @@ class Inventory:
         yield "BEGIN;\n"
         # another program that follows this inventory waits here, and then cannot put its line beside ours
         yield f"DELETE FROM roadlrs.followed {mine} AND edits = {self.place.edits} AND sum = '{self.place.total}';\n"
-        yield from copy("followed", [answers.line(place.edits, place.total, place.record)])
+        yield from copy("roadlrs.followed", COLUMNS["followed"], [answers.line(place.edits, place.total, place.record)])
+        lines = answers.lines()
         if answers.everything:
-            yield from (f"DELETE FROM roadlrs.{table} {mine};\n" for table in COLUMNS if table != "followed")
-        elif answers.referents is not None:
-            yield f"DELETE FROM roadlrs.referents {mine};\n"
-        if answers.routes:
-            yield from (f"DELETE FROM roadlrs.{table} {mine} AND {among(answers.routes)};\n" for table in ("routes", "pieces", "marks"))
-        if answers.rows:
-            yield f"DELETE FROM roadlrs.rows {mine} AND {among(answers.rows)};\n"
-        yield from copy("links", [answers.line(*link) for link in answers.links.items()])
-        yield from copy("classes", [answers.line(*kind) for kind in answers.classes.items()])
-        for n, table in enumerate(["routes", "pieces", "marks"]):
-            yield from copy(table, (texts[n] for texts in answers.routes.values()))
-        yield from copy("referents", [answers.referents or ""])
-        yield from copy("rows", answers.rows.values())
+            for table in lines:
+                yield f"DELETE FROM roadlrs.{table} {mine};\n"
+                yield from copy(f"roadlrs.{table}", COLUMNS[table], lines[table])
+        else:
+            for table in ("links", "classes"):
+                yield from copy(f"roadlrs.{table}", COLUMNS[table], lines[table])
+            for table in ("routes", "pieces", "marks") if answers.routes else ():
+                yield from replaced(table, lines[table], f"{mine} AND {among(answers.routes)}")
+            if answers.referents is not None:
+                yield from replaced("referents", lines["referents"], mine)
+            if answers.rows:
+                yield from replaced("rows", lines["rows"], f"{mine} AND {among(answers.rows)}")
         yield "COMMIT;\n\\echo committed\n"
 
 
