@@ -5,6 +5,7 @@ import { known } from "./requests.js";
 import { metres, short } from "./numbers.js";
 import { METHODS, writeAddress } from "./addresses.js";
 import { fill, said, whatLies } from "./positions.js";
+import { linkToEdit } from "./edits.js";
 import { drawMarks, seen, shownDiagram, unitsAt, chainageAt } from "./diagram.js";
 import { go, view } from "./view.js";
 
@@ -40,7 +41,7 @@ function showPlace(found, method, pos) {
 function hitRow(hit, found) {
   const link = linkTo(writeAddress({ ...view.address, asset: hit.asset }), hit.asset);
   link.title = "Mark this asset";
-  return rowOf([link, hit.class, hit.value, SIDES[hit.side] || hit.side, hit.offset, hit.entry, found.link, found.mm]);
+  return rowOf([link, hit.class, hit.value, SIDES[hit.side] || hit.side, hit.offset, linkToEdit(hit.entry), found.link, found.mm]);
 }
 
 // By the nearest referents first.

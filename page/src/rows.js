@@ -5,11 +5,13 @@ import { known } from "./requests.js";
 import { counted, metres, short } from "./numbers.js";
 import { writeAddress } from "./addresses.js";
 import { off, rangeOf, whenSwitched } from "./classes.js";
-import { LongTable } from "./sight.js";
+import { linkToAsset, linkToEdit } from "./edits.js";
+import { LongTable, headsOf } from "./sight.js";
 import { aroundAsset, view } from "./view.js";
 
 // What a column sorts by, and its head.
 const COLUMNS = { class: "Class", value: "Value", side: "Side", from_measure: "From measure", to_measure: "To measure", from: "From, m", to: "To, m", asset: "Asset", offset: "Offset, mm", entered_by: "Edit" };
+const HISTORY = "History";
 const SAVED = ["route", "from", "to", "from_measure", "to_measure", "side", "asset", "class", "value", "offset", "entered_by"];
 
 const sorted = { by: "from", down: false };
@@ -24,7 +26,7 @@ const sorterOf = name => {
 
 export async function loadRows() {
   const { route, from, to } = view;
-  table ||= new LongTable($("rows"), Object.keys(COLUMNS).map(sorterOf), assetRow);
+  table ||= new LongTable($("rows"), [...Object.keys(COLUMNS).map(sorterOf), ...headsOf([HISTORY])], assetRow);
   const all = await rowsOf(view);
   if (view.route !== route || view.from !== from || view.to !== to) return;
   rows = all.filter(row => row.from < to && row.to > from);
@@ -78,8 +80,8 @@ export function listRows() {
 function assetRow(row) {
   const { route, address } = view, link = linkTo(writeAddress(aroundAsset(route.name, row.from, row.to, row.asset, route.length)), row.asset);
   if (address.asset === String(row.asset)) link.setAttribute("aria-current", "true");
-  const made = rowOf([row.class, row.value, SIDES[row.side], short(row.from_measure), short(row.to_measure), metres(row.from), metres(row.to), link, row.offset, row.entered_by]);
-  for (const at of [3, 4, 5, 6, 7]) made.cells[at].className = "number";
+  const made = rowOf([row.class, row.value, SIDES[row.side], short(row.from_measure), short(row.to_measure), metres(row.from), metres(row.to), link, row.offset, linkToEdit(row.entered_by), linkToAsset(row.asset, HISTORY)]);
+  for (const at of [3, 4, 5, 6, 7, 9]) made.cells[at].className = "number";
   return made;
 }
 

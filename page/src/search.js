@@ -2,13 +2,13 @@
 
 import { $, SIDES, attempt, linkTo, make, say } from "./parts.js";
 import { askHealth } from "./health.js";
-import { get, known } from "./requests.js";
+import { known } from "./requests.js";
 import { counted, metres, short } from "./numbers.js";
 import { aroundAsset } from "./view.js";
 import { writeAddress } from "./addresses.js";
-import { fieldsOf, recordsOf } from "./network.js";
+import { fieldsOf, findEdit, linkToAsset, linkToEdit, routeNames } from "./edits.js";
 
-const MOST_FOUND = 200, MOST_SEARCHED = 100000;
+const MOST_FOUND = 200;
 const upper = text => text.toUpperCase();
 
 // What each kind of search finds: a sentence and items.
@@ -34,7 +34,7 @@ function item(...parts) {
 
 function stretchItem({ route, from, to, from_measure: start, to_measure: end, side, asset, class: name, value }, length) {
   const link = linkTo(writeAddress(aroundAsset(route, from, to, asset, length)), `${route}: measures ${short(start)} to ${short(end)}`);
-  return item(link, ` (${metres(from)} to ${metres(to)} m), ${SIDES[side]}: ${name} ${value}, asset ${asset}`);
+  return item(link, ` (${metres(from)} to ${metres(to)} m), ${SIDES[side]}: ${name} ${value}, `, linkToAsset(asset, `asset ${asset}`));
 }
 
 async function stretchItems(rows) {
@@ -45,7 +45,7 @@ async function stretchItems(rows) {
 async function findAsset(text) {
   const { rows } = await known("v1/rows", [["asset", text]]);
   const told = rows.length ? `Asset ${text} holds ${rows.length === 1 ? "one stretch" : `${rows.length} stretches`}.` : `Asset ${text} is known, and lies on no route now.`;
-  return { told, items: await stretchItems(rows) };
+  return { told, items: rows.length ? await stretchItems(rows) : [item(linkToAsset(text, `The history of asset ${text}`))] };
 }
 
 async function findClass(text) {
@@ -60,12 +60,10 @@ async function findValue(text) {
   return { told: rows.length ? `${counted(rows.length, "row")} ${rows.length === 1 ? "has" : "have"} the value ${text}.` : `No row has the value ${text}.`, items: await stretchItems(rows) };
 }
 
-// The log is asked from some edit on, and looked through from its end.
-async function findKey(text, edits = 0) {
-  const first = Math.max(edits - MOST_SEARCHED + 1, 1);
-  const records = edits ? recordsOf(await known("v1/log", [["from", first]], get)) : [], at = records.findIndex(record => record.key === text);
-  if (at < 0) return { told: `No edit has the key ${text}${first > 1 ? `, of the last ${MOST_SEARCHED}` : ""}.`, items: [] };
-  return { told: `Key ${text} is edit ${first + at}.`, items: [item(`${records[at].verb} `, fieldsOf(records[at]))] };
+async function findKey(text, edits) {
+  const { edit, record, within } = await findEdit(edits, key => key === text);
+  if (!edit) return { told: `No edit has the key ${text}${within}.`, items: [] };
+  return { told: `Key ${text} is edit ${edit}.`, items: [item(linkToEdit(edit, `Edit ${edit}`), `: ${record.verb} `, fieldsOf(record, await routeNames()))] };
 }
 
 async function findRef(text) {

@@ -6,6 +6,8 @@ const SPARE = 10, MOST_PRINTED = 2000;
 const tables = [];
 let isPrinting = false;
 
+export const headsOf = (names, widths = []) => names.map((name, at) => make("th", name, { scope: "col", className: widths[at] || "" }));
+
 export class LongTable {
   // A box that scrolls, the heads of the columns, and what makes the row of an item.
   constructor(box, heads, makeRow) {
@@ -24,16 +26,16 @@ export class LongTable {
     tables.push(this);
   }
 
-  // Whoever was at a row is at the row of the same name, or at the table.
+  // Whoever was at a link is at the same link, or at the table.
   show(items) {
-    const at = this.body.contains(document.activeElement) && document.activeElement.textContent;
+    const at = this.body.contains(document.activeElement) && document.activeElement.href;
     this.items = items;
     this.rows.clear();
     this.body.replaceChildren();
     this.box.scrollTop = 0;
     this.table.setAttribute("aria-rowcount", items.length + 1);
     this.draw();
-    if (at) ([...this.body.querySelectorAll("a")].find(link => link.textContent === at) || this.box).focus({ preventScroll: true });
+    if (at) ([...this.body.querySelectorAll("a")].find(link => link.href === at) || this.box).focus({ preventScroll: true });
   }
 
   draw() {

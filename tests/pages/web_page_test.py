@@ -466,7 +466,7 @@ def test_the_rows_are_sorted_filtered_and_saved(page):
     assert firsts() == [rail, sign, speed]
     browser.clicks("#rows button[value=to]")
     assert firsts() == [speed, rail, sign]
-    assert browser.runs("return [...document.querySelectorAll('#rows th')].map(h => h.getAttribute('aria-sort')).filter(s => s !== 'none')") == ["descending"]
+    assert browser.runs("return [...document.querySelectorAll('#rows th')].map(h => h.getAttribute('aria-sort')).filter(s => s && s !== 'none')") == ["descending"]
     browser.types("#row-filter", "s to")
     browser.shows("#rows-said", "1 of 3 rows")
     assert firsts() == [sign]
@@ -539,7 +539,7 @@ FOUND = [
     ("value", "none", "No row has the value none.", ""),
     ("class", "sign", "SIGN has 2 rows.", "A1: measures ≈ 5998.800 to 6000 (4.999 to 5.000 m), right: SIGN STOP, asset 12"),
     ("class", "NONE", "Error: NoClass: there is no class of this name.", ""),
-    ("key", "e3", "Key e3 is edit 164.", "enter 12 SIGN A1 R int 4999/8000 STOP 1500"),
+    ("key", "e3", "Key e3 is edit 164.", "Edit 164: enter 12 SIGN A1 R int 4999/8000 STOP 1500"),
     ("key", "e9", "No edit has the key e9.", ""),
     ("ref", "km", "1 referent of this name or part of a name.", "KM2 on A1, at 0.002 m"),
     ("route", "lo", "1 route of this name or part of a name.", "LONG 6000.000 m"),

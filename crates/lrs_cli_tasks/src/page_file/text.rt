@@ -7,7 +7,7 @@ pub static PAGE: &str = r##"<!doctype html>
 <meta charset="utf-8">
 <meta name="viewport" content="width=device-width, initial-scale=1">
 <meta name="color-scheme" content="light dark">
-<meta http-equiv="Content-Security-Policy" content="default-src 'none'; style-src 'unsafe-inline'; script-src 'sha256-/YZ4K/Lni/CDEl5ro5kzflZvXN+z6FvqwO7NdxKRX24='; img-src data:; connect-src 'self'; form-action 'none'; base-uri 'none'">
+<meta http-equiv="Content-Security-Policy" content="default-src 'none'; style-src 'unsafe-inline'; script-src 'sha256-R0cxirTM33Z7NeeiB7cLzykqXd+e2/zfjeafsXiW8pU='; img-src data:; connect-src 'self'; form-action 'none'; base-uri 'none'">
 <title>Road inventory</title>
 <link rel="icon" href="data:,">
 <style>
@@ -17,15 +17,16 @@ pub static PAGE: &str = r##"<!doctype html>
 --bad:#ffb3b3;--bad-ground:#401a1a;--good:#a8e6b4;--good-ground:#12331a;--known:#b3ccff;--known-ground:#16284a;}#diagram svg,.swatch{filter:invert(1) hue-rotate(180deg);}}*{box-sizing:border-box;}[hidden]{display:none !important;}
 body{margin:0;font:16px/1.4 system-ui,"DejaVu Sans",sans-serif;color:var(--text);background:var(--ground);}header{display:flex;flex-wrap:wrap;gap:.4rem 1.5rem;align-items:end;padding:.6rem 1rem;background:var(--head);color:#fff;}
 header p{margin:0 0 0 auto;}header .bad{color:var(--bad);}h1{margin:0 auto 0 0;font-size:1.2rem;}h1 a{color:inherit;text-decoration:none;}h2{margin:0 0 .5rem;font-size:1.05rem;}h3{margin:.6rem 0 .2rem;font-size:1rem;}p{margin:0 0 .5rem;}
-a{color:var(--link);}main{display:grid;gap:.8rem;padding:.8rem;grid-template-columns:minmax(0,1fr);}[tabindex="-1"]:focus{outline:none;}#network,#route{display:grid;gap:.8rem;grid-template-columns:minmax(0,1fr);}
+a{color:var(--link);}main{display:grid;gap:.8rem;padding:.8rem;grid-template-columns:minmax(0,1fr);}[tabindex="-1"]:focus{outline:none;}#network,#route,#edit,#asset{display:grid;gap:.8rem;grid-template-columns:minmax(0,1fr);}
 section,details{padding:.8rem;background:var(--paper);border:1px solid var(--line);border-radius:4px;min-width:0;}summary{cursor:pointer;font-weight:bold;min-height:1.5rem;}
 form,.buttons{display:flex;flex-wrap:wrap;gap:.5rem;align-items:end;margin:0 0 .5rem;}label{display:inline-flex;flex-direction:column;font-size:.85rem;}
 input,select,button{font:inherit;padding:.25rem .5rem;border:1px solid var(--field);border-radius:3px;background:var(--paper);color:var(--text);max-width:100%;min-height:1.9rem;}button{background:var(--press);cursor:pointer;}
 button:hover{background:var(--over);}:focus-visible{outline:3px solid var(--focus);outline-offset:1px;}#skip{position:absolute;left:-100rem;}#skip:focus{left:.5rem;top:.5rem;z-index:2;}ul{list-style:none;margin:0;padding:0;}
 #results{max-height:15rem;overflow-y:auto;margin-bottom:.5rem;}li{padding:.1rem 0;}.note{font-size:.9rem;overflow-wrap:anywhere;}.note:empty{display:none;}
-.bad{padding:.3rem .5rem;border:2px solid currentColor;background:var(--bad-ground);color:var(--bad);}.short{width:9rem;}.table,.long{overflow:auto;max-height:24rem;border:1px solid var(--line);}.table:empty{border:0;}
-.long{scroll-padding:2.5rem 0 .5rem;}table{border-collapse:collapse;font-size:.95rem;}th,td{padding:.2rem .6rem;border:1px solid var(--line);text-align:left;font-weight:inherit;}
-thead th{position:sticky;top:0;z-index:1;background:var(--press);font-weight:bold;}td.number{text-align:right;font-variant-numeric:tabular-nums;}.long table{width:100%;white-space:nowrap;}.long tbody tr{height:2rem;}
+.bad{padding:.3rem .5rem;border:2px solid currentColor;background:var(--bad-ground);color:var(--bad);}.short{width:9rem;}.table,.long{overflow:auto;max-height:24rem;border:1px solid var(--line);}
+.table{width:fit-content;max-width:100%;}.table:empty{border:0;}.long{scroll-padding:2.5rem 0 .5rem;}table{border-collapse:collapse;font-size:.95rem;}
+th,td{padding:.2rem .6rem;border:1px solid var(--line);text-align:left;font-weight:inherit;}thead th{position:sticky;top:0;z-index:1;background:var(--press);font-weight:bold;}
+.record th{text-transform:capitalize;vertical-align:top;}.record td{overflow-wrap:anywhere;}td.number{text-align:right;font-variant-numeric:tabular-nums;}.long table{width:100%;white-space:nowrap;}.long tbody tr{height:2rem;}
 .long tbody tr:hover{background:var(--press);}#routes tbody tr{cursor:pointer;}.name{width:9rem;}.length{width:8rem;}td.bar{padding:0 .6rem 0 0;width:70%;}.track{position:relative;height:2rem;overflow:hidden;}
 .track svg{display:block;height:45%;min-width:2px;background:var(--bar);}.track path{stroke:var(--post);stroke-width:1.5px;}.track span{position:absolute;bottom:0;font-size:.75rem;line-height:1.1rem;padding-left:1px;}
 button.plain{border:0;padding:0;background:none;font-weight:bold;min-height:1.5rem;}th[aria-sort=ascending] button::after{content:" \25b2";}th[aria-sort=descending] button::after{content:" \25bc";}
@@ -108,6 +109,33 @@ tr.again td.word{background:var(--known-ground);color:var(--known);border-left:6
 <div id="rows" class="long" role="region" aria-labelledby="rows-title"></div>
 </section>
 </div>
+<div id="edit" hidden>
+<section aria-labelledby="edit-title"><p class="note"><a href="#">&#8592; The network</a></p>
+<h2 id="edit-title" tabindex="-1">Edit</h2>
+<p id="edit-said" class="note" role="status"></p>
+<div id="record" class="table" tabindex="0" role="region" aria-labelledby="edit-title"></div>
+<p id="beside" class="buttons"></p>
+</section>
+<section aria-labelledby="taken-title"><h2 id="taken-title">What it retired or abandoned</h2>
+<p id="taken-said" class="note" role="status"></p>
+<div id="taken" class="long" role="region" aria-labelledby="taken-title"></div>
+</section>
+</div>
+<div id="asset" hidden>
+<section aria-labelledby="asset-title"><p class="note"><a href="#">&#8592; The network</a></p>
+<h2 id="asset-title" tabindex="-1">Asset</h2>
+<p id="asset-said" class="note" role="status"></p>
+<div id="lies" class="table" tabindex="0" role="region" aria-labelledby="asset-title"></div>
+</section>
+<section aria-labelledby="entered-title"><h2 id="entered-title">The edit that entered it</h2>
+<p id="entered-said" class="note" role="status"></p>
+<div id="entered" class="table" tabindex="0" role="region" aria-labelledby="entered-title"></div>
+</section>
+<section aria-labelledby="lost-title"><h2 id="lost-title">What was taken away of it since</h2>
+<p id="lost-said" class="note" role="status"></p>
+<div id="lost" class="long" role="region" aria-labelledby="lost-title"></div>
+</section>
+</div>
 <details id="sheets"><summary>Send a sheet</summary>
 <div id="drop"><p>Drop an edit sheet or a survey on this page. You see what it has before it is sent.</p>
 <label>Or choose a file <input id="file" type="file" accept=".csv,text/csv,text/plain" multiple></label></div>
@@ -149,12 +177,17 @@ function sentence(cause) {const [name, argument] = cause.split(":"), known = CAU
 function causeOf(text) {try {return JSON.parse(text).error;} catch {return undefined;}
 }
 function reason(status, text) {const cause = causeOf(text);return cause ? `${sentence(cause)}.` : `${STATUSES[status] || "The request failed."} (Status ${status}.)`;}
-const MOST_KEPT = 30;const kept = new Map();let edits;const query = pairs => "?" + new URLSearchParams(pairs);async function send(path, settings) {try {const reply = await fetch(path, { cache: "no-store", ...settings });
-return { status: reply.status, text: await reply.text() };} catch {throw new Error(LOST);}
+const MOST_KEPT = 100000000;const kept = new Map(), lengths = new WeakMap();let edits;const query = pairs => "?" + new URLSearchParams(pairs);async function send(path, settings) {try {
+const reply = await fetch(path, { cache: "no-store", ...settings });return { status: reply.status, text: await reply.text() };} catch {throw new Error(LOST);}
 }
 async function get(path, pairs = []) {const { status, text } = await send(pairs.length ? path + query(pairs) : path);if (status !== 200) throw new Error(reason(status, text), { cause: causeOf(text) });return text;}
-const answer = async (path, pairs) => JSON.parse(await get(path, pairs));function known(path, pairs = [], asking = answer) {const name = path + query(pairs), found = kept.get(name) || asking(path, pairs);kept.delete(name);
-kept.set(name, found);if (kept.size > MOST_KEPT) kept.delete(kept.keys().next().value);found.catch(() => kept.get(name) === found && kept.delete(name));return found;}
+async function answer(path, pairs) {const text = await get(path, pairs), value = JSON.parse(text);lengths.set(value, text.length);return value;}
+async function firstLines(path, pairs) {const reply = await fetch(path + query(pairs), { cache: "no-store" }).catch(() => { throw new Error(LOST); });if (reply.status !== 200) throw new Error(reason(reply.status, await reply.text()));
+const reader = reply.body.pipeThrough(new TextDecoderStream()).getReader(), ends = /^.*\n.*\n/;let text = "";for (let piece = await reader.read(); !piece.done && !ends.test((text += piece.value)); ) piece = await reader.read();
+reader.cancel();return ends.exec(text)?.[0] ?? text;}
+function known(path, pairs = [], asking = answer) {const name = `${asking.name} ${path}${query(pairs)}`, entry = kept.get(name) || { found: asking(path, pairs), length: 0 };kept.delete(name);kept.set(name, entry);entry.found.then(
+value => (entry.length = lengths.get(value) ?? value.length, forgetOldest()),() => kept.get(name) === entry && kept.delete(name),);return entry.found;}
+function forgetOldest() {let length = 0;for (const entry of kept.values()) length += entry.length;for (const [name, entry] of kept) if (length > MOST_KEPT) kept.delete(name), (length -= entry.length);}
 async function renew() {const health = await answer("health").catch(error => ({ error }));if (health.error || health.edits !== edits) kept.clear();edits = health.edits;if (health.error) throw health.error;return edits;}
 const metres = mm => `${Math.floor(mm / 1000)}.${String(mm % 1000).padStart(3, "0")}`;function millimetres(text) {const parts = /^(\d{1,9})(?:\.(\d{0,3}))?$/.exec(text.trim());
 return parts && Number(parts[1]) * 1000 + Number((parts[2] || "").padEnd(3, "0"));}
@@ -167,11 +200,47 @@ function short(measure) {const [n, d] = measure.split("/");return d ? `\u2248 ${
 const counted = (count, one, more = `${one}s`) => `${count} ${count === 1 ? one : more}`;
 async function askHealth() {try {const edits = await renew();say("health", `${counted(edits, "edit")}. The program answers.`);return edits;} catch (error) {return void say("health", error.message, true);}
 }
-const SPARE = 10, MOST_PRINTED = 2000;const tables = [];let isPrinting = false;class LongTable {constructor(box, heads, makeRow) {Object.assign(this, { box, makeRow, items: [], rows: new Map(), height: 30 });this.table = make("table");
-this.head = this.table.createTHead().insertRow();this.head.append(...heads);this.above = this.table.createTBody();this.body = this.table.createTBody();this.below = this.table.createTBody();box.replaceChildren(this.table);box.tabIndex = -1;
-box.onscroll = () => this.draw();box.addEventListener("keydown", event => this.step(event));new ResizeObserver(() => this.draw()).observe(box);tables.push(this);}
-show(items) {const at = this.body.contains(document.activeElement) && document.activeElement.textContent;this.items = items;this.rows.clear();this.body.replaceChildren();this.box.scrollTop = 0;
-this.table.setAttribute("aria-rowcount", items.length + 1);this.draw();if (at) ([...this.body.querySelectorAll("a")].find(link => link.textContent === at) || this.box).focus({ preventScroll: true });}
+const METHODS = { abs: "measure", rel: "from a referent", int: "proportion", chainage: "chainage, in metres" };const ROUTE = /^[A-Z0-9][A-Z0-9-]{0,11}$/;function readAddress(text) {
+if (text.startsWith("route=")) return readOlder(new URLSearchParams(text));const [, kind, number] = /^(edit|asset)\/(\d{1,13})$/.exec(text) || [];if (kind) return { [kind]: number };
+const [route, ...parts] = decoded(text).split(/\/(?=(?:abs|rel|int|chainage|asset):)/);const address = { route: ROUTE.test(route) ? route : undefined };for (const part of parts) Object.assign(address, readPart(part));
+return route ? address : null;}
+function readPart(part) {const [, method, said] = /^(\w+):(.*)$/s.exec(part), [from, to] = said.split("..");if (method === "asset") return { asset: said };
+return to === undefined ? { place: { method, pos: said } } : { stretch: { method, from, to } };}
+function decoded(text) {try {return decodeURIComponent(text);} catch {return text;}
+}
+function readOlder(pairs) {const [from, to] = ["from", "to"].map(name => (/^\d+$/.test(pairs.get(name)) ? metres(Number(pairs.get(name))) : ""));
+return { route: pairs.get("route"), ...((from || to) && { stretch: { method: "chainage", from, to } }) };}
+function writeAddress({ route, stretch, place, asset, edit }) {if (!route) return edit ? `edit/${edit}` : `asset/${asset}`;let text = route;if (stretch) text += `/${stretch.method}:${stretch.from}..${stretch.to}`;
+if (place) text += `/${place.method}:${place.pos}`;return asset ? `${text}/asset:${asset}` : text;}
+const chainages = (from, to) => ({ method: "chainage", from: metres(from), to: metres(to) });
+const MOST_SEARCHED = 100000;const ENTERED = ["asset", "class", "route", "side", "method", "from", "to", "value", "offset"];const VERBS = {
+link: ["makes a link", "link", "length"], class: ["makes a class", "class", "kind"], route: ["makes a route", "route", "pieces", "marks"],
+ref: ["names a place on a route", "referent", "route", "method", "position"], unref: ["removes a referent", "referent"],
+enter: ["enters an asset", ...ENTERED], retire: ["takes an asset away over a stretch", "asset", "route", "method", "from", "to"],supersede: ["enters an asset, and retires what lay there of its class", ...ENTERED],
+split: ["divides a route", "route", "chainage", "new route"], renumber: ["gives a route another name", "route", "new route"],
+recalibrate: ["gives a route new marks", "route", "marks"], join: ["appends a second route to a first one", "first", "second"],
+turn: ["reverses a route", "route"], realign: ["replaces a stretch of a route", "route", "from", "to", "pieces", "marks"], close: ["ends a route", "route"],};
+const NAMES_ROUTE = /^(route|new route|first|second)$/, MILLIMETRES = /^(length|chainage)$/;const linkToEdit = (edit, text = edit) => linkTo(writeAddress({ edit }), text);
+const linkToAsset = (asset, text = asset) => linkTo(writeAddress({ asset }), text);function recordsOf(log) {return log.split("\n").slice(1).filter(Boolean).map(recordOf);}
+function recordOf(line) {const [key, verb, ...fields] = line.split(",");return { key, verb, fields };}
+async function recordAt(edit) {const [record] = recordsOf(await known("v1/log", [["from", edit]], firstLines));if (!record) throw new Error(`${sentence("NoEdit")}.`);return record;}
+async function findEdit(edits, passes) {const first = Math.max(edits - MOST_SEARCHED + 1, 1);const lines = edits ? (await known("v1/log", [["from", first]], get)).split("\n").slice(1) : [];for (let at = lines.length - 1; at >= 0; at--)
+if (passes(...lines[at].split(",", 3))) return { edit: first + at, record: recordOf(lines[at]) };return { edit: 0, within: first > 1 ? `, of the last ${MOST_SEARCHED}` : "" };}
+async function routeNames() {const { routes } = await known("v1/routes");return new Set(routes.map(route => route.name));}
+function fieldsOf({ verb, fields }, names) {const part = make("span");fields.forEach((field, at) => field && part.append(linked(VERBS[verb]?.[at + 1], field, names), " "));return part;}
+function linked(name, field, names) {if (name === "asset") return linkToAsset(field);return NAMES_ROUTE.test(name) && names.has(field) ? linkTo(field, field) : field;}
+function recordTable({ key, verb, fields }, names, edit) {const table = make("table", "", { className: "record" }), [does, ...heads] = VERBS[verb] || [""];
+const pairs = [["edit", edit && linkToEdit(edit)], ["key", key], ["verb", does ? `${verb}: ${does}` : verb], ...fields.map((field, at) => [heads[at] ?? "", inWords(verb, heads[at], field, names)])];
+table.createTBody().append(...pairs.filter(([, field]) => field).map(pairRow));return table;}
+function pairRow([name, field]) {const row = rowOf(["", field]);row.cells[0].replaceWith(make("th", name, { scope: "row" }));return row;}
+function inWords(verb, name, field, names) {if (!field) return "";if (name === "side") return SIDES[field];if (name === "method") return METHODS[field];if (name === "offset") return `${field} mm`;
+if (MILLIMETRES.test(name) || (verb === "realign" && /^(from|to)$/.test(name))) return `${metres(Number(field))} m`;return linked(name, field, names);}
+const SPARE = 10, MOST_PRINTED = 2000;const tables = [];let isPrinting = false;const headsOf = (names, widths = []) => names.map((name, at) => make("th", name, { scope: "col", className: widths[at] || "" }));class LongTable {
+constructor(box, heads, makeRow) {Object.assign(this, { box, makeRow, items: [], rows: new Map(), height: 30 });this.table = make("table");this.head = this.table.createTHead().insertRow();this.head.append(...heads);
+this.above = this.table.createTBody();this.body = this.table.createTBody();this.below = this.table.createTBody();box.replaceChildren(this.table);box.tabIndex = -1;box.onscroll = () => this.draw();
+box.addEventListener("keydown", event => this.step(event));new ResizeObserver(() => this.draw()).observe(box);tables.push(this);}
+show(items) {const at = this.body.contains(document.activeElement) && document.activeElement.href;this.items = items;this.rows.clear();this.body.replaceChildren();this.box.scrollTop = 0;
+this.table.setAttribute("aria-rowcount", items.length + 1);this.draw();if (at) ([...this.body.querySelectorAll("a")].find(link => link.href === at) || this.box).focus({ preventScroll: true });}
 draw() {const first = isPrinting ? 0 : Math.max(Math.floor(this.box.scrollTop / this.height) - SPARE, 0);
 const last = Math.min(isPrinting ? MOST_PRINTED : first + Math.ceil(this.box.clientHeight / this.height) + 2 * SPARE, this.items.length);
 for (const [at, row] of this.rows) if ((at < first || at >= last) && !row.contains(document.activeElement)) this.rows.delete(at), row.remove();let behind = null;for (let at = last - 1; at >= first; at--) {
@@ -186,13 +255,12 @@ const next = by > 0 ? row.nextSibling : row.previousSibling, target = next && ne
 }
 function prints(now) {isPrinting = now;for (const table of tables) table.draw();}
 window.onbeforeprint = () => prints(true);window.onafterprint = () => prints(false);
-const LAST_EDITS = 10, LEAST_GAP = 8, LETTER = 8;const ROUTE_FIELDS = { route: 0, ref: 1, enter: 2, supersede: 2, retire: 1, split: 0, renumber: 1, recalibrate: 0, join: 0, turn: 0, realign: 0 };
-const network = { routes: [], names: new Set(), longest: 1, posts: new Map(), edits: undefined };let bars, drawnFor = {};const headOf = (name, width) => make("th", name, { scope: "col", className: width });async function loadNetwork() {
-bars ||= new LongTable($("routes"), [headOf("Route", "name"), headOf("Length, m", "length"), headOf("Posts, to one scale", "bar")], routeRow);network.edits = await askHealth();
+const LAST_EDITS = 10, LEAST_GAP = 8, LETTER = 8;const network = { routes: [], longest: 1, posts: new Map(), edits: undefined };let bars, drawnFor = {};async function loadNetwork() {
+bars ||= new LongTable($("routes"), headsOf(["Route", "Length, m", "Posts, to one scale"], ["name", "length", "bar"]), routeRow);network.edits = await askHealth();
 await Promise.all([attempt("routes-said", loadRoutes), attempt("totals-said", loadTotals), attempt("edits-said", loadEdits)]);}
 function isNew(name, value) {const before = drawnFor[name];drawnFor[name] = value;return before !== value;}
 async function loadRoutes() {const lists = await Promise.all(["routes", "marks", "refs"].map(name => known(`v1/${name}`)));if (!isNew("routes", lists[0]) && !isNew("refs", lists[2])) return;network.routes = lists[0].routes;
-network.names = new Set(network.routes.map(route => route.name));network.longest = network.routes.reduce((most, route) => Math.max(most, route.length), 1);network.posts = postsOf(lists[1].marks, lists[2].refs);listRoutes();}
+network.longest = network.routes.reduce((most, route) => Math.max(most, route.length), 1);network.posts = postsOf(lists[1].marks, lists[2].refs);listRoutes();}
 function postsOf(marks, refs) {const posts = new Map();for (const { route, chainage, ref } of refs) (posts.get(route) || posts.set(route, []).get(route)).push([chainage, ref]);const named = new Set(posts.keys());
 for (const { route, chainage, measure } of marks)
 if (!named.has(route)) (posts.get(route) || posts.set(route, []).get(route)).push([chainage, String(measure)]);for (const list of posts.values()) list.sort(([a], [b]) => a - b);return posts;}
@@ -211,24 +279,11 @@ return [total.class, kind, ...["present", "entered", "retired", "abandoned"].map
 $("totals").replaceChildren(tableOf(["Class", "Kind", "Present", "Entered", "Retired", "Abandoned"], rows.map(numbersBehind(2))));
 say("totals-said", totals.length ? "Both sides are added; of points they are counted." : "There is no class yet.");}
 const numbersBehind = count => cells => {const row = rowOf(cells);for (const cell of [...row.cells].slice(count)) cell.className = "number";return row;};async function loadEdits() {
-if (!network.edits) return say("edits-said", "There is no edit yet."), $("edits").replaceChildren();const first = Math.max(network.edits - LAST_EDITS + 1, 1), log = await known("v1/log", [["from", first]], get);
-if (!isNew("edits", log)) return;const records = recordsOf(log).map((record, at) => [first + at, record]).reverse();
-$("edits").replaceChildren(tableOf(["Edit", "Key", "Verb", "Fields"], records.map(([edit, record]) => rowOf([edit, record.key, record.verb, fieldsOf(record)]))));say("edits-said", "");}
-function recordsOf(log) {const rows = log.split("\n").slice(1).filter(Boolean);return rows.map(row => row.split(",")).map(([key, verb, ...fields]) => ({ key, verb, fields }));}
-function fieldsOf({ verb, fields }) {const part = make("span");fields.forEach((field, at) => {if (!field) return;part.append(ROUTE_FIELDS[verb] === at && network.names.has(field) ? linkTo(field, field) : field, " ");});return part;}
-const firstRoute = () => $("routes").querySelector("tbody a");
-const METHODS = { abs: "measure", rel: "from a referent", int: "proportion", chainage: "chainage, in metres" };const ROUTE = /^[A-Z0-9][A-Z0-9-]{0,11}$/;function readAddress(text) {
-if (text.startsWith("route=")) return readOlder(new URLSearchParams(text));const [route, ...parts] = decoded(text).split(/\/(?=(?:abs|rel|int|chainage|asset):)/);const address = { route: ROUTE.test(route) ? route : undefined };
-for (const part of parts) Object.assign(address, readPart(part));return route ? address : null;}
-function readPart(part) {const [, method, said] = /^(\w+):(.*)$/s.exec(part), [from, to] = said.split("..");if (method === "asset") return { asset: said };
-return to === undefined ? { place: { method, pos: said } } : { stretch: { method, from, to } };}
-function decoded(text) {try {return decodeURIComponent(text);} catch {return text;}
+if (!network.edits) return say("edits-said", "There is no edit yet."), $("edits").replaceChildren();
+const first = Math.max(network.edits - LAST_EDITS + 1, 1), [log, names] = await Promise.all([known("v1/log", [["from", first]], get), routeNames()]);if (!isNew("edits", log)) return;
+const rows = recordsOf(log).map((record, at) => rowOf([linkToEdit(first + at), record.key, record.verb, fieldsOf(record, names)]));$("edits").replaceChildren(tableOf(["Edit", "Key", "Verb", "Fields"], rows.reverse()));say("edits-said", "");
 }
-function readOlder(pairs) {const [from, to] = ["from", "to"].map(name => (/^\d+$/.test(pairs.get(name)) ? metres(Number(pairs.get(name))) : ""));
-return { route: pairs.get("route"), ...((from || to) && { stretch: { method: "chainage", from, to } }) };}
-function writeAddress({ route, stretch, place, asset }) {let text = route;if (stretch) text += `/${stretch.method}:${stretch.from}..${stretch.to}`;if (place) text += `/${place.method}:${place.pos}`;
-return asset ? `${text}/asset:${asset}` : text;}
-const chainages = (from, to) => ({ method: "chainage", from: metres(from), to: metres(to) });
+const firstRoute = () => $("routes").querySelector("tbody a");
 async function locate(route, method, pos, end) {try {if (method === "chainage") return typedChainage(pos, route.length);const found = await known("v1/translate", [["route", route.name], ["method", method], ["pos", pos], ["to", "int"]]);
 return chainageOf(found.pos, route.length);} catch (error) {throw new Error(`${end}: ${error.message}${error.cause === "OffRoute" ? ` ${extentOf(route)}` : ""}`);}
 }
@@ -301,11 +356,11 @@ for (const listener of whenSwitched) listener();}
 const switchAll = on => switchClasses(classes, on);function hideClasses() {for (const group of $("diagram").querySelectorAll("g[data-class]")) group.style.display = off.has(group.dataset.class) ? "none" : "";if (!view.route) return;
 const on = classes.filter(name => !off.has(name)), chosen = on.length < classes.length ? on.map(name => ["class", name]) : [];$("plain").href = "v1/diagram" + query([["route", view.route.name], ...rangeOf(view), ...chosen]);}
 function rangeOf({ route, from, to }) {return from === 0 && to === route.length ? [] : [["from", from], ["to", to]];}
-const COLUMNS = { class: "Class", value: "Value", side: "Side", from_measure: "From measure", to_measure: "To measure", from: "From, m", to: "To, m", asset: "Asset", offset: "Offset, mm", entered_by: "Edit" };
+const COLUMNS = { class: "Class", value: "Value", side: "Side", from_measure: "From measure", to_measure: "To measure", from: "From, m", to: "To, m", asset: "Asset", offset: "Offset, mm", entered_by: "Edit" };const HISTORY = "History";
 const SAVED = ["route", "from", "to", "from_measure", "to_measure", "side", "asset", "class", "value", "offset", "entered_by"];const sorted = { by: "from", down: false };let table, rows = [], chosen = [];const sorterOf = name => {
 const head = make("th", "", { scope: "col" }), button = make("button", COLUMNS[name], { type: "button", className: "plain", value: name });button.onclick = () => sortBy(name);head.append(button);return head;};async function loadRows() {
-const { route, from, to } = view;table ||= new LongTable($("rows"), Object.keys(COLUMNS).map(sorterOf), assetRow);const all = await rowsOf(view);if (view.route !== route || view.from !== from || view.to !== to) return;
-rows = all.filter(row => row.from < to && row.to > from);listRows();}
+const { route, from, to } = view;table ||= new LongTable($("rows"), [...Object.keys(COLUMNS).map(sorterOf), ...headsOf([HISTORY])], assetRow);const all = await rowsOf(view);
+if (view.route !== route || view.from !== from || view.to !== to) return;rows = all.filter(row => row.from < to && row.to > from);listRows();}
 function rowsOf({ route, from, to }) {return known("v1/rows", [["route", route.name]])
 .catch(error => (rangeOf({ route, from, to }).length ? known("v1/rows", [["route", route.name], ["from", from], ["to", to]]) : Promise.reject(error)))
 .then(found => found.rows);}
@@ -319,8 +374,8 @@ const way = button.value === sorted.by ? (sorted.down ? "descending" : "ascendin
 table.show(chosen);say("rows-said", `${chosen.length} of ${counted(rows.length, "row")} of this stretch.`);}
 function assetRow(row) {const { route, address } = view, link = linkTo(writeAddress(aroundAsset(route.name, row.from, row.to, row.asset, route.length)), row.asset);
 if (address.asset === String(row.asset)) link.setAttribute("aria-current", "true");
-const made = rowOf([row.class, row.value, SIDES[row.side], short(row.from_measure), short(row.to_measure), metres(row.from), metres(row.to), link, row.offset, row.entered_by]);
-for (const at of [3, 4, 5, 6, 7]) made.cells[at].className = "number";return made;}
+const made = rowOf([row.class, row.value, SIDES[row.side], short(row.from_measure), short(row.to_measure), metres(row.from), metres(row.to), link, row.offset, linkToEdit(row.entered_by), linkToAsset(row.asset, HISTORY)]);
+for (const at of [3, 4, 5, 6, 7, 9]) made.cells[at].className = "number";return made;}
 function saveRows() {const lines = chosen.map(row => SAVED.map(name => row[name]).join(","));$("csv").download = `${view.route.name}.csv`;offer($("csv"), [[SAVED.join(","), ...lines, ""].join("\n")], "text/csv");}
 whenSwitched.push(() => table && listRows());
 const MOST_WAYS = 12;let asks = 0;const markAll = () => drawMarks([...view.asset, ...view.place]);const clearPlace = () => (asks++, (view.place = []), $("hits").replaceChildren(), $("ways").replaceChildren(), say("at-said", ""));
@@ -332,7 +387,7 @@ if (found.hits.length) $("hits").append(tableOf(["Asset", "Class", "Value", "Sid
 $("ways").append(make("h3", "The same millimetre begins at"), waysOf(found, route));if (method === "chainage") fill($("pos"), route, $("method").value, found.at);
 else Object.assign($("method"), { value: method }), ($("pos").value = pos), delete $("pos").dataset.chainage;view.place = [{ from: found.at, to: found.at + 1, text: "asked" }];markAll();}
 function hitRow(hit, found) {const link = linkTo(writeAddress({ ...view.address, asset: hit.asset }), hit.asset);link.title = "Mark this asset";
-return rowOf([link, hit.class, hit.value, SIDES[hit.side] || hit.side, hit.offset, hit.entry, found.link, found.mm]);}
+return rowOf([link, hit.class, hit.value, SIDES[hit.side] || hit.side, hit.offset, linkToEdit(hit.entry), found.link, found.mm]);}
 function waysOf({ at, link, mm, positions }, { name }) {const list = make("ul", "", { className: "ways" }), distance = ({ method, pos }) => (method === "rel" ? Number(/\d+$/.exec(pos)[0]) : -1);
 const ways = [...positions].sort((a, b) => distance(a) - distance(b)).slice(0, MOST_WAYS);for (const { method, pos } of [{ method: "chainage", pos: metres(at) }, ...ways]) {
 const item = make("li", `${METHODS[method]}: `), canBeAsked = method !== "abs" || !pos.includes("/");item.append(canBeAsked ? linkTo(writeAddress({ route: name, place: { method, pos } }), pos) : `${pos} (${short(pos)})`);list.append(item);}
@@ -372,23 +427,46 @@ const isOne = from.method === to.method, stretch = isOne ? { method: from.method
 async function markAsset(asset) {view.asset = [];if (asset) {const { route } = view, { rows } = await known("v1/find", [["asset", asset]]);if (view.route !== route) return;
 view.asset = rows.filter(row => row.route === route.name).map(({ from, to }) => ({ from, to, text: `asset ${asset}` }));}
 markAll();}
-const MOST_FOUND = 200, MOST_SEARCHED = 100000;const upper = text => text.toUpperCase();const KINDS = { asset: findAsset, value: findValue, class: findClass, key: findKey, ref: findRef, route: findRoute };function search() {
+const PART = ["Link", "From, mm", "To, mm", "Side of the link"];const PLACES = ["Route", "Side", "From measure", "To measure", "From, m", "To, m", "Offset, mm"];let taken, lost, turn = 0;
+const partOf = ({ link, from, to, side }) => [link, from, to, SIDES[side]];const takenRow = part => rowOf([part.reason, linkToAsset(part.asset), part.class, part.value, ...partOf(part)]);
+const lostRow = part => rowOf([part.reason, linkToEdit(part.edit), ...partOf(part)]);function clear(parts, tables) {const mine = ++turn;for (const id of parts) $(id).replaceChildren();for (const table of tables) table.show([]);
+return (id, asking, showing) => {if (mine === turn) say(`${id}-said`, "It is being asked.");return asking.then(found => mine === turn && showing(found)).catch(error => mine === turn && say(`${id}-said`, error.message, true));};}
+async function showEdit({ edit }) {taken ||= new LongTable($("taken"), headsOf(["Why", "Asset", "Class", "Value", ...PART]), takenRow);const shows = clear(["record", "beside"], [taken]);
+$("edit-title").textContent = document.title = `Edit ${edit}`;const edits = await askHealth();return Promise.all([
+shows("edit", Promise.all([recordAt(edit), routeNames()]), found => showRecord(Number(edit), edits, ...found)),shows("taken", known("v1/gone", [["edit", edit]]), ({ gone }) => {taken.show(gone);
+say("taken-said", gone.length ? `${counted(gone.length, "part")}.` : "It took nothing away.");}),]);}
+function showRecord(edit, edits, record, names) {say("edit-said", edits ? `Of ${counted(edits, "edit")}.` : "");$("record").replaceChildren(recordTable(record, names));
+if (edit > 1) $("beside").append(linkToEdit(edit - 1, `Edit ${edit - 1}`));if (edit < edits) $("beside").append(linkToEdit(edit + 1, `Edit ${edit + 1}`));}
+async function showAsset({ asset }) {lost ||= new LongTable($("lost"), headsOf(["Why", "By edit", ...PART]), lostRow);const shows = clear(["lies", "entered"], [lost]);$("asset-title").textContent = document.title = `Asset ${asset}`;
+const edits = await askHealth(), rows = known("v1/rows", [["asset", asset]]);return Promise.all([
+shows("asset", Promise.all([rows, known("v1/routes")]), ([found, { routes }]) => showPlaces(found.rows, new Map(routes.map(route => [route.name, route.length])))),
+shows("entered", Promise.all([rows.then(found => entryOf(asset, found.rows, edits)), routeNames()]), ([found, names]) => showEntry(found, names)),shows("lost", rows.then(() => known("v1/gone")), ({ gone }) => showLost(asset, gone)),]);}
+function showPlaces(rows, lengths) {const [row] = rows, holds = rows.length === 1 ? "one stretch" : `${rows.length} stretches`;say("asset-said", row ? `${row.class} ${row.value}. It holds ${holds} today.` : "It lies on no route today.");
+if (row) $("lies").replaceChildren(tableOf(PLACES, rows.map(found => heldRow(found, lengths.get(found.route)))));}
+function heldRow({ route, from, to, from_measure: start, to_measure: end, side, asset, offset }, length) {const link = linkTo(writeAddress(aroundAsset(route, from, to, asset, length)), route);
+const row = rowOf([link, SIDES[side], short(start), short(end), metres(from), metres(to), offset]);for (const cell of [...row.cells].slice(2)) cell.className = "number";return row;}
+async function entryOf(asset, rows, edits = 0) {if (rows.length) return { edit: rows[0].entered_by, record: await recordAt(rows[0].entered_by) };
+return findEdit(edits, (_, verb, first) => first === asset && /^(enter|supersede)$/.test(verb));}
+function showEntry({ edit, record, within }, names) {say("entered-said", edit ? "" : `No edit entered it${within}.`);if (edit) $("entered").replaceChildren(recordTable(record, names, edit));}
+function showLost(asset, gone) {const parts = gone.filter(part => String(part.asset) === asset);lost.show(parts);say("lost-said", `${counted(parts.length, "part")}. In all ${counted(gone.length, "part is", "parts are")} gone.`);}
+const MOST_FOUND = 200;const upper = text => text.toUpperCase();const KINDS = { asset: findAsset, value: findValue, class: findClass, key: findKey, ref: findRef, route: findRoute };function search() {
 const kind = $("kind").value, text = $("wanted").value.trim();$("found").hidden = false;$("results").replaceChildren();say("find-said", "It is being sought.");return attempt("find-said", async () => {
 const edits = await askHealth(), { told, items } = await KINDS[kind](text, edits);$("results").replaceChildren(...items.slice(0, MOST_FOUND));say("find-said", items.length > MOST_FOUND ? `${told} The first ${MOST_FOUND} are shown.` : told);
 });}
 function item(...parts) {const made = make("li");made.append(...parts);return made;}
 function stretchItem({ route, from, to, from_measure: start, to_measure: end, side, asset, class: name, value }, length) {
 const link = linkTo(writeAddress(aroundAsset(route, from, to, asset, length)), `${route}: measures ${short(start)} to ${short(end)}`);
-return item(link, ` (${metres(from)} to ${metres(to)} m), ${SIDES[side]}: ${name} ${value}, asset ${asset}`);}
+return item(link, ` (${metres(from)} to ${metres(to)} m), ${SIDES[side]}: ${name} ${value}, `, linkToAsset(asset, `asset ${asset}`));}
 async function stretchItems(rows) {const { routes } = await known("v1/routes"), lengths = new Map(routes.map(route => [route.name, route.length]));return rows.map(row => stretchItem(row, lengths.get(row.route)));}
 async function findAsset(text) {const { rows } = await known("v1/rows", [["asset", text]]);
-const told = rows.length ? `Asset ${text} holds ${rows.length === 1 ? "one stretch" : `${rows.length} stretches`}.` : `Asset ${text} is known, and lies on no route now.`;return { told, items: await stretchItems(rows) };}
+const told = rows.length ? `Asset ${text} holds ${rows.length === 1 ? "one stretch" : `${rows.length} stretches`}.` : `Asset ${text} is known, and lies on no route now.`;
+return { told, items: rows.length ? await stretchItems(rows) : [item(linkToAsset(text, `The history of asset ${text}`))] };}
 async function findClass(text) {const { rows } = await known("v1/rows", [["class", upper(text)]]);return { told: `${upper(text)} has ${counted(rows.length, "row")}.`, items: await stretchItems(rows) };}
 async function findValue(text) {const { lengths } = await known("v1/lengths"), names = lengths.filter(entry => entry.value === text).map(entry => entry.class);
 const lists = await Promise.all(names.map(name => known("v1/rows", [["class", name]])));const rows = lists.flatMap(list => list.rows).filter(row => row.value === text);
 return { told: rows.length ? `${counted(rows.length, "row")} ${rows.length === 1 ? "has" : "have"} the value ${text}.` : `No row has the value ${text}.`, items: await stretchItems(rows) };}
-async function findKey(text, edits = 0) {const first = Math.max(edits - MOST_SEARCHED + 1, 1);const records = edits ? recordsOf(await known("v1/log", [["from", first]], get)) : [], at = records.findIndex(record => record.key === text);
-if (at < 0) return { told: `No edit has the key ${text}${first > 1 ? `, of the last ${MOST_SEARCHED}` : ""}.`, items: [] };return { told: `Key ${text} is edit ${first + at}.`, items: [item(`${records[at].verb} `, fieldsOf(records[at]))] };}
+async function findKey(text, edits) {const { edit, record, within } = await findEdit(edits, key => key === text);if (!edit) return { told: `No edit has the key ${text}${within}.`, items: [] };
+return { told: `Key ${text} is edit ${edit}.`, items: [item(linkToEdit(edit, `Edit ${edit}`), `: ${record.verb} `, fieldsOf(record, await routeNames()))] };}
 async function findRef(text) {const { refs } = await known("v1/refs"), found = refs.filter(entry => entry.ref.includes(upper(text)));
 const link = ({ ref, route }) => linkTo(writeAddress({ route, place: { method: "rel", pos: `${ref}+0` } }), ref);const items = found.map(entry => item(link(entry), ` on ${entry.route}, at ${metres(entry.chainage)} m`));
 return { told: `${counted(found.length, "referent")} of this name or part of a name.`, items };}
@@ -458,9 +536,10 @@ if (event.key === "Enter") askChainage(Math.floor((seen.from + seen.to) / 2));}
 function watch() {const box = $("diagram");box.addEventListener("wheel", wheel, { passive: false });for (const name of ["touchstart", "touchmove"]) box.addEventListener(name, touch, { passive: false });
 for (const name of ["touchend", "touchcancel"]) box.addEventListener(name, endTouch);Object.assign(box, { onpointerdown: startDrag, onpointermove: dragOn, onpointerup: endDrag, onpointercancel: endDrag, onclick: click, onkeydown: press });
 $("in").onclick = () => zoom(0.5);$("out").onclick = () => zoom(2);$("back").onclick = () => move(-0.5);$("on").onclick = () => move(0.5);$("whole").onclick = () => showRange(0, view.route.length);}
-let isFirst = true;function show(address) {const isRoute = Boolean(address && address.route), changes = $("route").hidden === isRoute && !isFirst;isFirst = false;$("route").hidden = !isRoute;$("network").hidden = isRoute;
-if (changes) $(isRoute ? "route-title" : "network-title").focus({ preventScroll: true }), scrollTo(0, 0);if (isRoute) return showRoute(address);leaveRoute();document.title = "Road inventory";
-say("address-said", address ? "The address names no route." : "", Boolean(address));return loadNetwork();}
+let shownBefore;const SHOWN = { network: showNetwork, route: showRoute, edit: showEdit, asset: showAsset };const viewOf = address => ["route", "edit", "asset"].find(name => address?.[name]) || "network";function show(address) {
+const name = viewOf(address), now = name === "edit" || name === "asset" ? `${name} ${address[name]}` : name;for (const other of Object.keys(SHOWN)) $(other).hidden = other !== name;
+if (shownBefore && shownBefore !== now) $(`${name}-title`).focus({ preventScroll: true }), scrollTo(0, 0);shownBefore = now;if (name !== "route") leaveRoute();return SHOWN[name](address);}
+function showNetwork(address) {document.title = "Road inventory";say("address-said", address ? "The address names no route." : "", Boolean(address));return loadNetwork();}
 async function refresh() {await askHealth();await showAgain();}
 const submits = (id, work) => ($(id).onsubmit = event => (event.preventDefault(), work()));submits("filtering", () => firstRoute()?.click());submits("finding", search);submits("range", () => attempt("route-said", showTyped));
 submits("asking", askTyped);submits("row-filtering", () => {});$("filter").oninput = listRoutes;$("row-filter").oninput = listRows;$("csv").onclick = saveRows;$("by").onchange = () => changeMethod($("by"), [$("from"), $("to")]);
