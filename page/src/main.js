@@ -1,6 +1,6 @@
 // What the hand does, and what is shown for an address.
 
-import { $, attempt, say } from "./parts.js";
+import { $, attempt, leaving, say } from "./parts.js";
 import { askHealth } from "./health.js";
 import { listRoutes, loadNetwork, firstRoute } from "./network.js";
 import { changeMethod, leaveRoute, showRoute, showTyped } from "./route.js";
@@ -54,11 +54,11 @@ $("method").onchange = () => changeMethod($("method"), [$("pos")]);
 for (const id of ["from", "to", "pos"]) $(id).oninput = () => delete $(id).dataset.chainage;
 $("all").onclick = () => switchAll(true);
 $("none").onclick = () => switchAll(false);
-$("close").onclick = () => ($("found").hidden = true);
+$("close").onclick = () => leaving(["found"], "wanted", () => ($("found").hidden = true));
 $("refresh").onclick = refresh;
 $("skip").onclick = () => $("main").focus();
-$("send").onclick = () => sendReady(refresh);
-$("forget").onclick = forget;
+$("send").onclick = () => leaving(["preview"], "file", () => sendReady(refresh));
+$("forget").onclick = () => leaving(["preview"], "file", forget);
 $("resume").onclick = () => goOn(refresh);
 $("file").onchange = () => {
   const files = [...$("file").files];

@@ -63,7 +63,7 @@ function routeRow({ name, length }) {
 
 function barOf(name, length) {
   const track = make("div", "", { className: "track" }), posts = network.posts.get(name) || [];
-  const share = length / network.longest, whole = $("routes").clientWidth * 0.65, wide = whole * share;
+  const share = length / network.longest, whole = bars.width * 0.65, wide = whole * share;
   const bar = drawn("svg", { viewBox: `0 0 ${length} 1`, preserveAspectRatio: "none", "aria-hidden": "true" });
   bar.append(drawn("path", { d: posts.map(([at]) => `M${at} 0v1`).join("") || "M0 0v1", "vector-effect": "non-scaling-stroke" }));
   bar.style.width = `${share * 100}%`;

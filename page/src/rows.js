@@ -14,7 +14,7 @@ const COLUMNS = { class: "Class", value: "Value", side: "Side", from_measure: "F
 const HISTORY = "History";
 const SAVED = ["route", "from", "to", "from_measure", "to_measure", "side", "asset", "class", "value", "offset", "entered_by"];
 
-const sorted = { by: "from", down: false };
+const sorted = { by: "from", down: false }, listed = {};
 let table, rows = [], chosen = [];
 
 const sorterOf = name => {
@@ -29,12 +29,15 @@ export async function loadRows() {
   table ||= new LongTable($("rows"), [...Object.keys(COLUMNS).map(sorterOf), ...headsOf([HISTORY])], assetRow);
   const all = await rowsOf(view);
   if (view.route !== route || view.from !== from || view.to !== to) return;
+  const name = `${from} ${to}`;
+  if (listed.all === all && listed.name === name) return table.show(chosen);
+  Object.assign(listed, { all, name });
   rows = all.filter(row => row.from < to && row.to > from);
   listRows();
 }
 
 // All rows of a route are asked once; where they are too many for one reply, those of the stretch.
-function rowsOf({ route, from, to }) {
+export function rowsOf({ route, from, to }) {
   return known("v1/rows", [["route", route.name]])
     .catch(error => (rangeOf({ route, from, to }).length ? known("v1/rows", [["route", route.name], ["from", from], ["to", to]]) : Promise.reject(error)))
     .then(found => found.rows);
@@ -42,16 +45,13 @@ function rowsOf({ route, from, to }) {
 
 // Numbers by their size, texts by their letters; measures are fractions.
 function keyOf(row, name) {
-  const key = row[name];
-  if (!name.endsWith("measure")) return key;
-  const [n, d = 1] = key.split("/").map(Number);
-  return n / d;
+  const key = row[name], [n, d = 1] = name.endsWith("measure") ? key.split("/").map(Number) : [Number(key)];
+  return Number.isNaN(n) ? key : n / d;
 }
 
 function compared(a, b) {
-  if (typeof a === "number") return a - b;
-  const [x, y] = [Number(a), Number(b)];
-  return Number.isNaN(x) || Number.isNaN(y) ? (a < b ? -1 : Number(a > b)) : x - y;
+  if (typeof a === typeof b) return a < b ? -1 : Number(a > b);
+  return typeof a === "number" ? -1 : 1;
 }
 
 function sortBy(name) {
@@ -67,8 +67,8 @@ function matches(row, words) {
 
 export function listRows() {
   const words = $("row-filter").value.toLowerCase().split(/\s+/).filter(Boolean), sign = sorted.down ? -1 : 1;
-  chosen = rows.filter(row => !off.has(row.class) && matches(row, words));
-  chosen.sort((a, b) => sign * compared(keyOf(a, sorted.by), keyOf(b, sorted.by)) || a.from - b.from);
+  const keyed = rows.filter(row => !off.has(row.class) && matches(row, words)).map(row => [keyOf(row, sorted.by), row]);
+  chosen = keyed.sort(([a, x], [b, y]) => sign * compared(a, b) || x.from - y.from).map(([, row]) => row);
   for (const button of table.head.querySelectorAll("button")) {
     const way = button.value === sorted.by ? (sorted.down ? "descending" : "ascending") : "none";
     button.parentNode.setAttribute("aria-sort", way);

@@ -1,4 +1,4 @@
-// Long tables: only the rows in sight, and some around them, are made.
+// Long tables: only the rows in sight, and some around them, are made. By keys a table is one stop, at one of its rows.
 
 import { make, rowOf } from "./parts.js";
 
@@ -11,7 +11,7 @@ export const headsOf = (names, widths = []) => names.map((name, at) => make("th"
 export class LongTable {
   // A box that scrolls, the heads of the columns, and what makes the row of an item.
   constructor(box, heads, makeRow) {
-    Object.assign(this, { box, makeRow, items: [], rows: new Map(), height: 30 });
+    Object.assign(this, { box, makeRow, items: [], rows: new Map(), height: 30, stop: 0 });
     this.table = make("table");
     this.head = this.table.createTHead().insertRow();
     this.head.append(...heads);
@@ -22,23 +22,28 @@ export class LongTable {
     box.tabIndex = -1;
     box.onscroll = () => this.draw();
     box.addEventListener("keydown", event => this.step(event));
+    this.body.addEventListener("focusin", event => this.stopAt(Number(event.target.closest("tr").ariaRowIndex) - 2));
     new ResizeObserver(() => this.draw()).observe(box);
     tables.push(this);
   }
 
-  // Whoever was at a link is at the same link, or at the table.
+  // Whoever was at a link is at the same link, or at the table; what is shown again stays where it was.
   show(items) {
-    const at = this.body.contains(document.activeElement) && document.activeElement.href;
+    const at = this.body.contains(document.activeElement) && document.activeElement.href, top = items === this.items ? this.box.scrollTop : 0;
+    if (items !== this.items) this.stop = 0;
     this.items = items;
     this.rows.clear();
     this.body.replaceChildren();
-    this.box.scrollTop = 0;
+    this.box.scrollTop = top;
     this.table.setAttribute("aria-rowcount", items.length + 1);
     this.draw();
     if (at) ([...this.body.querySelectorAll("a")].find(link => link.href === at) || this.box).focus({ preventScroll: true });
   }
 
+  // A table that is hidden is drawn once it is shown.
   draw() {
+    this.width = this.box.clientWidth;
+    if (!this.width) return;
     const first = isPrinting ? 0 : Math.max(Math.floor(this.box.scrollTop / this.height) - SPARE, 0);
     const last = Math.min(isPrinting ? MOST_PRINTED : first + Math.ceil(this.box.clientHeight / this.height) + 2 * SPARE, this.items.length);
     for (const [at, row] of this.rows) if ((at < first || at >= last) && !row.contains(document.activeElement)) this.rows.delete(at), row.remove();
@@ -48,6 +53,7 @@ export class LongTable {
       if (row.nextSibling !== behind || !row.isConnected) this.body.insertBefore(row, behind);
       behind = row;
     }
+    if (!this.rows.has(this.stop)) this.stopAt(Math.min(first + (first && SPARE), last - 1));
     this.measure();
     this.spread(this.above, first);
     this.spread(this.below, isPrinting ? 0 : this.items.length - last);
@@ -57,7 +63,18 @@ export class LongTable {
     const row = this.makeRow(this.items[at]);
     row.setAttribute("aria-rowindex", at + 2);
     this.rows.set(at, row);
+    this.reach(at, at === this.stop);
     return row;
+  }
+
+  stopAt(at) {
+    this.reach(this.stop, false);
+    this.stop = at;
+    this.reach(at, true);
+  }
+
+  reach(at, can) {
+    for (const link of this.rows.get(at)?.querySelectorAll("a") || []) link.tabIndex = can ? 0 : -1;
   }
 
   measure() {
@@ -74,13 +91,13 @@ export class LongTable {
     row.cells[0].style.cssText = `height: ${count * this.height}px; padding: 0; border: 0`;
   }
 
-  // The arrow keys go from row to row.
+  // The arrow keys go from row to row, and stay in their column.
   step(event) {
     const by = { ArrowDown: 1, ArrowUp: -1 }[event.key], row = event.target.closest("tr");
-    if (!by || event.target.matches("input, select") || row?.parentNode !== this.body) return;
-    const next = by > 0 ? row.nextSibling : row.previousSibling, target = next && next.querySelector("a, button");
+    if (!by || row?.parentNode !== this.body) return;
     event.preventDefault();
-    if (target) target.focus();
+    const next = by > 0 ? row.nextSibling : row.previousSibling, column = [...row.querySelectorAll("a")].indexOf(event.target);
+    next?.querySelectorAll("a")[column]?.focus();
   }
 }
 

@@ -39,7 +39,7 @@ def test_the_page_is_one_file_and_fits_a_telephone(page):
 
 
 PARTS = """[...svg.querySelectorAll('*')].filter(e => !e.dataset.count).map(e => e.localName + [...e.attributes]
-  .filter(a => !/^shade-/.test(a.value)).map(a => ' ' + a.name + '=' + a.value) + (e.children.length ? '' : e.textContent.trim()))"""
+  .filter(a => !/^shade-/.test(a.value) && a.name !== 'data-side').map(a => ' ' + a.name + '=' + a.value) + (e.children.length ? '' : e.textContent.trim()))"""
 
 
 def test_the_diagrams_of_the_program_are_shown_whole(page):

@@ -76,28 +76,6 @@ def test_what_has_not_changed_is_asked_once(page):
     browser.shows("#health", "167 edits.")
 
 
-def many_routes(count):
-    return sheet_of(
-        *(f"l{n},link,{n},{1000 * n}" for n in range(1, count + 1)), *(f"r{n},route,R{n:05},{n}:0:{1000 * n}:+,0:0 {1000 * n}:{n}" for n in range(1, count + 1))
-    )
-
-
-def test_ten_thousand_routes_are_looked_through(browser, tmp_path):
-    ends(run("edit", str(tmp_path / "roads.db"), "stdin", given=many_routes(9_999), stdout=None), b"", 0)
-    with service(browser, tmp_path) as page:
-        before = page.work()
-        page.goes_to()
-        browser.shows("#routes-said", "9999 of 9999 routes.")
-        browser.shows("#edits", "r9999")
-        assert page.work() - before < 1
-        assert len(page.rows("#routes")) < 60
-        browser.runs("document.querySelector('#routes').scrollTop = 1e9")
-        browser.shows("#routes", "R09999")
-        assert len(page.rows("#routes")) < 60
-        browser.types("#filter", "0500")
-        browser.shows("#routes-said", "11 of 9999 routes.")
-
-
 # ---- two: the diagram of a route
 
 
@@ -492,22 +470,6 @@ def test_the_rows_are_those_of_the_stretch(page):
     browser.waits_for("a mark", lambda browser: browser.runs("return document.querySelectorAll('[data-mark=\"asset 11\"] rect').length") == 1)
     browser.shows("#rows-said", "3 of 3 rows")
     assert browser.runs("return [document.activeElement.textContent, document.activeElement.getAttribute('aria-current')]") == ["11", "true"]
-
-
-def test_twenty_thousand_rows_of_a_route(browser, tmp_path):
-    many = ["c1,class,LANE,stretch", "l1,link,1,20000000", "r1,route,WIDE,1:0:20000000:+,0:0 20000000:20000"]
-    many += [f"e{n},enter,{n + 1},LANE,WIDE,{'LR'[n % 2]},abs,{n},{n + 1},{n % 5},0" for n in range(20_000)]
-    ends(edit(tmp_path / "roads.db", sheet_of(*many), stdout=None), b"", 0)
-    with service(browser, tmp_path) as page:
-        before = page.work()
-        page.opens_route("WIDE")
-        browser.shows("#rows-said", "20000 of 20000 rows")
-        assert page.work() - before < 4
-        assert len(page.rows("#rows")) < 60
-        browser.types("#row-filter", "19999")
-        browser.shows("#rows-said", "1 of 20000 rows")
-        browser.clicks("#in")
-        page.draws("WIDE", 5_000_000, 15_000_000)
 
 
 # ---- eight: what is found

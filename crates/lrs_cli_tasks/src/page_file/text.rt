@@ -7,22 +7,22 @@ pub static PAGE: &str = r##"<!doctype html>
 <meta charset="utf-8">
 <meta name="viewport" content="width=device-width, initial-scale=1">
 <meta name="color-scheme" content="light dark">
-<meta http-equiv="Content-Security-Policy" content="default-src 'none'; style-src 'unsafe-inline'; script-src 'sha256-R0cxirTM33Z7NeeiB7cLzykqXd+e2/zfjeafsXiW8pU='; img-src data:; connect-src 'self'; form-action 'none'; base-uri 'none'">
+<meta http-equiv="Content-Security-Policy" content="default-src 'none'; style-src 'unsafe-inline'; script-src 'sha256-c3pg2d3JwGyCmMvj5XhqZFB+9AWv0wf9dyvZt5hJ1iI='; img-src data:; connect-src 'self'; form-action 'none'; base-uri 'none'">
 <title>Road inventory</title>
 <link rel="icon" href="data:,">
 <style>
-:root{--text:#1a1a1a;--paper:#fff;--ground:#f3f4f6;--line:#8a93a0;--field:#59626f;--press:#e8ecf2;--over:#d5dce6;--head:#1d3557;--link:#1d4f91;--focus:#b35900;--bar:#5b83b8;--post:#12263f;
---bad:#7a1414;--bad-ground:#fdeaea;--good:#0b4d1a;--good-ground:#e3f4e6;--known:#173f85;--known-ground:#e6eefb;}@media screen and (prefers-color-scheme:dark){:root{
---text:#e8e8e8;--paper:#1b1f26;--ground:#101318;--line:#6d7685;--field:#9aa4b2;--press:#2c333e;--over:#3a4350;--head:#16283f;--link:#9cc4ff;--focus:#ffb04d;--bar:#5b83b8;--post:#fff;
---bad:#ffb3b3;--bad-ground:#401a1a;--good:#a8e6b4;--good-ground:#12331a;--known:#b3ccff;--known-ground:#16284a;}#diagram svg,.swatch{filter:invert(1) hue-rotate(180deg);}}*{box-sizing:border-box;}[hidden]{display:none !important;}
-body{margin:0;font:16px/1.4 system-ui,"DejaVu Sans",sans-serif;color:var(--text);background:var(--ground);}header{display:flex;flex-wrap:wrap;gap:.4rem 1.5rem;align-items:end;padding:.6rem 1rem;background:var(--head);color:#fff;}
-header p{margin:0 0 0 auto;}header .bad{color:var(--bad);}h1{margin:0 auto 0 0;font-size:1.2rem;}h1 a{color:inherit;text-decoration:none;}h2{margin:0 0 .5rem;font-size:1.05rem;}h3{margin:.6rem 0 .2rem;font-size:1rem;}p{margin:0 0 .5rem;}
-a{color:var(--link);}main{display:grid;gap:.8rem;padding:.8rem;grid-template-columns:minmax(0,1fr);}[tabindex="-1"]:focus{outline:none;}#network,#route,#edit,#asset{display:grid;gap:.8rem;grid-template-columns:minmax(0,1fr);}
-section,details{padding:.8rem;background:var(--paper);border:1px solid var(--line);border-radius:4px;min-width:0;}summary{cursor:pointer;font-weight:bold;min-height:1.5rem;}
-form,.buttons{display:flex;flex-wrap:wrap;gap:.5rem;align-items:end;margin:0 0 .5rem;}label{display:inline-flex;flex-direction:column;font-size:.85rem;}
+:root{--text:#1a1a1a;--paper:#fff;--ground:#f3f4f6;--line:#7d8794;--field:#59626f;--press:#e8ecf2;--over:#d5dce6;--head:#1d3557;--link:#1d4f91;--focus:#b35900;--on-head:#ffb04d;--bar:#5b83b8;--post:#12263f;
+--ink:#000;--sheet:#fff;--depth-0:58.5%;--depth-1:65%;--piece-0:#7b7b7b;--piece-1:#8d8d8d;--point:#b3540a;--mark:#8f1616;--bad:#7a1414;--bad-ground:#fdeaea;--good:#0b4d1a;--good-ground:#e3f4e6;--known:#173f85;--known-ground:#e6eefb;}
+@media screen and (prefers-color-scheme:dark){:root{--text:#e8e8e8;--paper:#1b1f26;--ground:#101318;--line:#7b8594;--field:#9aa4b2;--press:#2c333e;--over:#3a4350;--head:#16283f;--link:#9cc4ff;--focus:#ffb04d;--bar:#5b83b8;--post:#fff;
+--ink:#fff;--sheet:#000;--depth-0:50%;--depth-1:55%;--piece-0:#646464;--piece-1:#727272;--point:#f5a04a;--mark:#ff9c9c;--bad:#ffb3b3;--bad-ground:#401a1a;--good:#a8e6b4;--good-ground:#12331a;--known:#b3ccff;--known-ground:#16284a;}}
+*{box-sizing:border-box;}[hidden]{display:none !important;}body{margin:0;font:16px/1.4 system-ui,"DejaVu Sans",sans-serif;color:var(--text);background:var(--ground);}
+header{display:flex;flex-wrap:wrap;gap:.4rem 1.5rem;align-items:end;padding:.6rem 1rem;background:var(--head);color:#fff;}header p{margin:0 0 0 auto;}header .bad{color:var(--bad);}h1{margin:0 auto 0 0;font-size:1.2rem;}
+h1 a{color:inherit;text-decoration:none;}h2{margin:0 0 .5rem;font-size:1.05rem;}h3{margin:.6rem 0 .2rem;font-size:1rem;}p{margin:0 0 .5rem;}a{color:var(--link);}main{display:grid;gap:.8rem;padding:.8rem;grid-template-columns:minmax(0,1fr);}
+[tabindex="-1"]:focus{outline:none;}#network,#route,#edit,#asset{display:grid;gap:.8rem;grid-template-columns:minmax(0,1fr);}section,details{padding:.8rem;background:var(--paper);border:1px solid var(--line);border-radius:4px;min-width:0;}
+summary{cursor:pointer;font-weight:bold;min-height:1.5rem;}form,.buttons{display:flex;flex-wrap:wrap;gap:.5rem;align-items:end;margin:0 0 .5rem;}label{display:inline-flex;flex-direction:column;font-size:.85rem;}
 input,select,button{font:inherit;padding:.25rem .5rem;border:1px solid var(--field);border-radius:3px;background:var(--paper);color:var(--text);max-width:100%;min-height:1.9rem;}button{background:var(--press);cursor:pointer;}
-button:hover{background:var(--over);}:focus-visible{outline:3px solid var(--focus);outline-offset:1px;}#skip{position:absolute;left:-100rem;}#skip:focus{left:.5rem;top:.5rem;z-index:2;}ul{list-style:none;margin:0;padding:0;}
-#results{max-height:15rem;overflow-y:auto;margin-bottom:.5rem;}li{padding:.1rem 0;}.note{font-size:.9rem;overflow-wrap:anywhere;}.note:empty{display:none;}
+button:hover{background:var(--over);}:focus-visible{outline:3px solid var(--focus);outline-offset:1px;}header :focus-visible,#skip{outline-color:var(--on-head);}#skip{position:absolute;left:-100rem;}
+#skip:focus{left:.5rem;top:.5rem;z-index:2;}ul{list-style:none;margin:0;padding:0;}#results{max-height:15rem;overflow-y:auto;margin-bottom:.5rem;}li{padding:.1rem 0;}.note{font-size:.9rem;overflow-wrap:anywhere;}.note:empty{display:none;}
 .bad{padding:.3rem .5rem;border:2px solid currentColor;background:var(--bad-ground);color:var(--bad);}.short{width:9rem;}.table,.long{overflow:auto;max-height:24rem;border:1px solid var(--line);}
 .table{width:fit-content;max-width:100%;}.table:empty{border:0;}.long{scroll-padding:2.5rem 0 .5rem;}table{border-collapse:collapse;font-size:.95rem;}
 th,td{padding:.2rem .6rem;border:1px solid var(--line);text-align:left;font-weight:inherit;}thead th{position:sticky;top:0;z-index:1;background:var(--press);font-weight:bold;}
@@ -30,18 +30,21 @@ th,td{padding:.2rem .6rem;border:1px solid var(--line);text-align:left;font-weig
 .long tbody tr:hover{background:var(--press);}#routes tbody tr{cursor:pointer;}.name{width:9rem;}.length{width:8rem;}td.bar{padding:0 .6rem 0 0;width:70%;}.track{position:relative;height:2rem;overflow:hidden;}
 .track svg{display:block;height:45%;min-width:2px;background:var(--bar);}.track path{stroke:var(--post);stroke-width:1.5px;}.track span{position:absolute;bottom:0;font-size:.75rem;line-height:1.1rem;padding-left:1px;}
 button.plain{border:0;padding:0;background:none;font-weight:bold;min-height:1.5rem;}th[aria-sort=ascending] button::after{content:" \25b2";}th[aria-sort=descending] button::after{content:" \25bc";}
-#diagram{overflow-x:auto;border:1px solid var(--line);touch-action:pan-x pan-y;}#diagram.moving{overflow:hidden;}#diagram svg{display:block;width:100%;min-width:900px;height:auto;cursor:crosshair;user-select:none;}
-.moving svg{cursor:grabbing;}#under{min-height:1.4em;font-size:.9rem;}fieldset{margin:.5rem 0;padding:.3rem .6rem .5rem;border:1px solid var(--line);max-height:14rem;overflow-y:auto;}
-fieldset label{flex-direction:row;gap:.3rem;align-items:center;font-size:1rem;}input[type=checkbox]{min-height:0;width:1.5rem;height:1.5rem;}.class{display:flex;flex-wrap:wrap;gap:.2rem 1rem;align-items:center;}.class label{min-width:8rem;}
-.values{display:flex;flex-wrap:wrap;gap:.1rem 1rem;font-size:.9rem;}.swatch{display:inline-block;width:1.6rem;height:.9rem;margin-right:.3rem;vertical-align:middle;border:1px solid #59626f;}[aria-current=true]{font-weight:bold;}
+#diagram{overflow-x:auto;border:1px solid var(--line);touch-action:pan-x pan-y;}#diagram text{fill:var(--ink);}#diagram path{stroke:var(--ink);}#diagram svg > rect{fill:var(--sheet);}#diagram .l{stroke:var(--line);}
+#diagram .t path{stroke:var(--point);}#diagram .p path{stroke:var(--piece-0);}#diagram .p path:nth-of-type(even){stroke:var(--piece-1);}
+#diagram [data-mark] rect{fill:none;stroke:var(--mark);}#diagram [data-mark] text{fill:var(--mark);stroke:var(--sheet);}#diagram.moving{overflow:hidden;}
+#diagram svg{display:block;width:100%;min-width:900px;height:auto;cursor:crosshair;user-select:none;}.moving svg{cursor:grabbing;}#under{min-height:1.4em;font-size:.9rem;}
+fieldset{margin:.5rem 0;padding:.3rem .6rem .5rem;border:1px solid var(--line);max-height:14rem;overflow-y:auto;}fieldset label{flex-direction:row;gap:.3rem;align-items:center;font-size:1rem;}
+input[type=checkbox]{min-height:0;width:1.5rem;height:1.5rem;}.class{display:flex;flex-wrap:wrap;gap:.2rem 1rem;align-items:center;}.class label{min-width:8rem;}.values{display:flex;flex-wrap:wrap;gap:.1rem 1rem;font-size:.9rem;}
+.swatch{display:inline-block;width:1.6rem;height:.9rem;margin-right:.3rem;vertical-align:middle;border:1px solid var(--field);}[aria-current=true]{font-weight:bold;}
 pre{overflow:auto;max-height:10rem;padding:.4rem;border:1px solid var(--line);}tr.done td.word{background:var(--good-ground);color:var(--good);border-left:6px solid currentColor;}
 tr.again td.word{background:var(--known-ground);color:var(--known);border-left:6px dashed currentColor;}tr.refused td.word,tr.fault td.word{background:var(--bad-ground);color:var(--bad);border-left:6px double currentColor;font-weight:bold;}
 #drop{padding:.8rem;margin:.5rem 0;border:2px dashed var(--field);}.over #drop{border-style:solid;background:var(--press);}
 @media (min-width:1100px){#network{grid-template-columns:minmax(0,1fr) minmax(0,1fr);}#network > :first-child{grid-column:1 / 3;}}@media (max-width:800px){main{padding:.5rem;}header p,h1{margin:0;}
 .name,.length{width:4rem;}.long thead th{white-space:normal;}td.bar{width:50%;}}
 @media print{body,section{background:#fff;color:#000;border:0;padding:0;}header form,header button,form,.buttons,details,fieldset button,#skip,#under,#route .note a,#found{display:none;}header{background:none;color:#000;padding:0;}
-.table,.long{overflow:visible;max-height:none;height:auto;border:0;}thead th{position:static;}section,tr,#diagram{break-inside:avoid;}#diagram{border:0;overflow:visible;}#diagram svg{min-width:0;filter:none;print-color-adjust:exact;}
-.swatch,.track svg{filter:none;print-color-adjust:exact;}}
+.table,.long{overflow:visible;max-height:none;height:auto;border:0;}thead th{position:static;}section,tr,#diagram{break-inside:avoid;}#diagram{border:0;overflow:visible;}#diagram svg{min-width:0;print-color-adjust:exact;}
+.swatch,.track svg{print-color-adjust:exact;}}
 </style>
 </head>
 <body>
@@ -65,7 +68,7 @@ tr.again td.word{background:var(--known-ground);color:var(--known);border-left:6
 <p id="address-said" class="note" role="status"></p>
 <form id="filtering"><label>Part of a route's name <input id="filter" type="search" autocomplete="off"></label></form>
 <p id="routes-said" class="note" role="status"></p>
-<div id="routes" class="long" role="region" aria-label="Routes"></div>
+<div id="routes" class="long" role="region" aria-label="Routes. The arrow keys go from row to row."></div>
 </section>
 <section aria-labelledby="totals-title"><h2 id="totals-title">Totals by class</h2>
 <p id="totals-said" class="note" role="status"></p>
@@ -95,7 +98,7 @@ tr.again td.word{background:var(--known-ground);color:var(--known);border-left:6
 <fieldset><legend>Classes and values</legend><button type="button" id="all">All</button><button type="button" id="none">None</button><div id="classes"></div></fieldset>
 <p id="classes-said" class="note" role="status"></p></div>
 </section>
-<section id="asked" aria-labelledby="at-title" hidden><h2 id="at-title">What lies at a position</h2>
+<section id="asked" aria-labelledby="at-title" hidden><h2 id="at-title" tabindex="-1">What lies at a position</h2>
 <form id="asking"><label>Said by <select id="method"><option value="abs">measure, as 3000</option><option value="rel">referent and mm, as KM2+500</option>
 <option value="int">proportion, as 1/3</option><option value="chainage">chainage in metres</option></select></label>
 <label>Position <input id="pos" class="short" autocomplete="off"></label> <button>Ask</button></form>
@@ -106,7 +109,7 @@ tr.again td.word{background:var(--known-ground);color:var(--known);border-left:6
 <section id="listed" aria-labelledby="rows-title" hidden><h2 id="rows-title">Rows of this stretch</h2>
 <form id="row-filtering"><label>Words in a row <input id="row-filter" type="search" autocomplete="off"></label> <a id="csv" href="#">Save as CSV</a></form>
 <p id="rows-said" class="note" role="status"></p>
-<div id="rows" class="long" role="region" aria-labelledby="rows-title"></div>
+<div id="rows" class="long" role="region" aria-label="Rows. The arrow keys go from row to row."></div>
 </section>
 </div>
 <div id="edit" hidden>
@@ -118,7 +121,7 @@ tr.again td.word{background:var(--known-ground);color:var(--known);border-left:6
 </section>
 <section aria-labelledby="taken-title"><h2 id="taken-title">What it retired or abandoned</h2>
 <p id="taken-said" class="note" role="status"></p>
-<div id="taken" class="long" role="region" aria-labelledby="taken-title"></div>
+<div id="taken" class="long" role="region" aria-label="Parts. The arrow keys go from row to row."></div>
 </section>
 </div>
 <div id="asset" hidden>
@@ -133,7 +136,7 @@ tr.again td.word{background:var(--known-ground);color:var(--known);border-left:6
 </section>
 <section aria-labelledby="lost-title"><h2 id="lost-title">What was taken away of it since</h2>
 <p id="lost-said" class="note" role="status"></p>
-<div id="lost" class="long" role="region" aria-labelledby="lost-title"></div>
+<div id="lost" class="long" role="region" aria-label="Parts. The arrow keys go from row to row."></div>
 </section>
 </div>
 <details id="sheets"><summary>Send a sheet</summary>
@@ -157,6 +160,7 @@ function linkTo(address, text) {return make("a", text, { href: `#${address}` });
 function rowOf(cells) {const row = make("tr");for (const cell of cells) Object.assign(row.insertCell(), { className: typeof cell === "number" ? "number" : "" }).append(cell);return row;}
 function tableOf(heads, rows) {const table = make("table"), top = table.createTHead().insertRow();for (const head of heads) top.append(make("th", head, { scope: "col" }));table.createTBody().append(...rows);return table;}
 function say(id, text, isBad = false) {$(id).textContent = isBad ? `Error: ${text}` : text;$(id).classList.toggle("bad", isBad);}
+function leaving(ids, next, work) {const wasThere = ids.some(id => $(id).contains(document.activeElement));work();if (wasThere) $(next).focus();}
 const attempt = (id, work) => work().catch(error => say(id, error.message, true));function offer(link, parts, type) {URL.revokeObjectURL(link.href);
 Object.assign(link, { hidden: false, href: URL.createObjectURL(new Blob(parts, { type })) });}
 const CAUSES = {AssetKnown: "the number of the asset was used before", BadCsv: "a record has not as many fields as the header",BadHeader: "the first line is not the header of this kind of sheet",
@@ -236,22 +240,26 @@ function pairRow([name, field]) {const row = rowOf(["", field]);row.cells[0].rep
 function inWords(verb, name, field, names) {if (!field) return "";if (name === "side") return SIDES[field];if (name === "method") return METHODS[field];if (name === "offset") return `${field} mm`;
 if (MILLIMETRES.test(name) || (verb === "realign" && /^(from|to)$/.test(name))) return `${metres(Number(field))} m`;return linked(name, field, names);}
 const SPARE = 10, MOST_PRINTED = 2000;const tables = [];let isPrinting = false;const headsOf = (names, widths = []) => names.map((name, at) => make("th", name, { scope: "col", className: widths[at] || "" }));class LongTable {
-constructor(box, heads, makeRow) {Object.assign(this, { box, makeRow, items: [], rows: new Map(), height: 30 });this.table = make("table");this.head = this.table.createTHead().insertRow();this.head.append(...heads);
+constructor(box, heads, makeRow) {Object.assign(this, { box, makeRow, items: [], rows: new Map(), height: 30, stop: 0 });this.table = make("table");this.head = this.table.createTHead().insertRow();this.head.append(...heads);
 this.above = this.table.createTBody();this.body = this.table.createTBody();this.below = this.table.createTBody();box.replaceChildren(this.table);box.tabIndex = -1;box.onscroll = () => this.draw();
-box.addEventListener("keydown", event => this.step(event));new ResizeObserver(() => this.draw()).observe(box);tables.push(this);}
-show(items) {const at = this.body.contains(document.activeElement) && document.activeElement.href;this.items = items;this.rows.clear();this.body.replaceChildren();this.box.scrollTop = 0;
-this.table.setAttribute("aria-rowcount", items.length + 1);this.draw();if (at) ([...this.body.querySelectorAll("a")].find(link => link.href === at) || this.box).focus({ preventScroll: true });}
-draw() {const first = isPrinting ? 0 : Math.max(Math.floor(this.box.scrollTop / this.height) - SPARE, 0);
+box.addEventListener("keydown", event => this.step(event));this.body.addEventListener("focusin", event => this.stopAt(Number(event.target.closest("tr").ariaRowIndex) - 2));new ResizeObserver(() => this.draw()).observe(box);
+tables.push(this);}
+show(items) {const at = this.body.contains(document.activeElement) && document.activeElement.href, top = items === this.items ? this.box.scrollTop : 0;if (items !== this.items) this.stop = 0;this.items = items;this.rows.clear();
+this.body.replaceChildren();this.box.scrollTop = top;this.table.setAttribute("aria-rowcount", items.length + 1);this.draw();
+if (at) ([...this.body.querySelectorAll("a")].find(link => link.href === at) || this.box).focus({ preventScroll: true });}
+draw() {this.width = this.box.clientWidth;if (!this.width) return;const first = isPrinting ? 0 : Math.max(Math.floor(this.box.scrollTop / this.height) - SPARE, 0);
 const last = Math.min(isPrinting ? MOST_PRINTED : first + Math.ceil(this.box.clientHeight / this.height) + 2 * SPARE, this.items.length);
 for (const [at, row] of this.rows) if ((at < first || at >= last) && !row.contains(document.activeElement)) this.rows.delete(at), row.remove();let behind = null;for (let at = last - 1; at >= first; at--) {
 const row = this.rows.get(at) || this.makeAt(at);if (row.nextSibling !== behind || !row.isConnected) this.body.insertBefore(row, behind);behind = row;}
-this.measure();this.spread(this.above, first);this.spread(this.below, isPrinting ? 0 : this.items.length - last);}
-makeAt(at) {const row = this.makeRow(this.items[at]);row.setAttribute("aria-rowindex", at + 2);this.rows.set(at, row);return row;}
+if (!this.rows.has(this.stop)) this.stopAt(Math.min(first + (first && SPARE), last - 1));this.measure();this.spread(this.above, first);this.spread(this.below, isPrinting ? 0 : this.items.length - last);}
+makeAt(at) {const row = this.makeRow(this.items[at]);row.setAttribute("aria-rowindex", at + 2);this.rows.set(at, row);this.reach(at, at === this.stop);return row;}
+stopAt(at) {this.reach(this.stop, false);this.stop = at;this.reach(at, true);}
+reach(at, can) {for (const link of this.rows.get(at)?.querySelectorAll("a") || []) link.tabIndex = can ? 0 : -1;}
 measure() {const row = this.body.rows[0];if (row && row.offsetHeight) this.height = row.offsetHeight;}
 spread(part, count) {if (!count) return part.replaceChildren();const row = part.rows[0] || part.appendChild(rowOf([""]));row.setAttribute("aria-hidden", "true");row.cells[0].colSpan = this.head.cells.length;
 row.cells[0].style.cssText = `height: ${count * this.height}px; padding: 0; border: 0`;}
-step(event) {const by = { ArrowDown: 1, ArrowUp: -1 }[event.key], row = event.target.closest("tr");if (!by || event.target.matches("input, select") || row?.parentNode !== this.body) return;
-const next = by > 0 ? row.nextSibling : row.previousSibling, target = next && next.querySelector("a, button");event.preventDefault();if (target) target.focus();}
+step(event) {const by = { ArrowDown: 1, ArrowUp: -1 }[event.key], row = event.target.closest("tr");if (!by || row?.parentNode !== this.body) return;event.preventDefault();
+const next = by > 0 ? row.nextSibling : row.previousSibling, column = [...row.querySelectorAll("a")].indexOf(event.target);next?.querySelectorAll("a")[column]?.focus();}
 }
 function prints(now) {isPrinting = now;for (const table of tables) table.draw();}
 window.onbeforeprint = () => prints(true);window.onafterprint = () => prints(false);
@@ -268,7 +276,7 @@ function listRoutes() {const part = $("filter").value.trim().toUpperCase(), foun
 const scale = found.length ? ` The longest has ${metres(network.longest)} m.` : "";say("routes-said", `${found.length} of ${counted(network.routes.length, "route")}.${scale}`);}
 function routeRow({ name, length }) {const row = rowOf(["", metres(length), barOf(name, length)]), head = make("th", "", { scope: "row" });head.append(linkTo(name, name));row.cells[0].replaceWith(head);row.cells[1].className = "number";
 row.cells[2].className = "bar";row.onclick = event => event.target.closest("a") || !getSelection().isCollapsed || (location.hash = name);return row;}
-function barOf(name, length) {const track = make("div", "", { className: "track" }), posts = network.posts.get(name) || [];const share = length / network.longest, whole = $("routes").clientWidth * 0.65, wide = whole * share;
+function barOf(name, length) {const track = make("div", "", { className: "track" }), posts = network.posts.get(name) || [];const share = length / network.longest, whole = bars.width * 0.65, wide = whole * share;
 const bar = drawn("svg", { viewBox: `0 0 ${length} 1`, preserveAspectRatio: "none", "aria-hidden": "true" });bar.append(drawn("path", { d: posts.map(([at]) => `M${at} 0v1`).join("") || "M0 0v1", "vector-effect": "non-scaling-stroke" }));
 bar.style.width = `${share * 100}%`;track.append(bar);let free = 0;for (const [at, text] of posts) {const place = (at / length) * share, long = text.length * LETTER, left = Math.min((at / length) * wide, whole - long);
 if (left < free) continue;const label = make("span", text);label.style.left = `min(${place * 100}%, 100% - ${long}px)`;track.append(label);free = left + long + LEAST_GAP;}
@@ -307,28 +315,31 @@ function addWords(inside, words) {if (!words.trim()) return;if (!inside || (insi
 function withLooks(made, looks) {for (const [, name, value] of looks.matchAll(LOOK)) {if (name === "xmlns" && value === SVG) continue;if (!LOOKS.test(name)) refusePicture();made.setAttribute(name, value);}
 return made;}
 function refusePicture() {throw new Error("The diagram cannot be read.");}
-const SHADES = 24;const classShades = new Map();const shade = at => `hsl(${Math.round(210 + at * 137.5) % 360} ${60 - (at % 3) * 10}% ${[74, 82, 66][at % 3]}%)`;function shadeOf(name, value) {
+const SHADES = 24;const classShades = new Map();const shade = at => `oklch(var(--depth-${at % 2}) 0.09 ${Math.round(25 + at * 137.5) % 360})`;function shadeOf(name, value) {
 const values = classShades.get(name) || classShades.set(name, new Map()).get(name);if (!values.has(value)) values.set(value, values.size % SHADES);return `shade-${values.get(value)}`;}
 function makeShades() {const sheet = new CSSStyleSheet();for (let at = 0; at < SHADES; at++) sheet.insertRule(`#route .shade-${at} { stroke: ${shade(at)}; stroke-opacity: 1; background: ${shade(at)}; }`);
 document.adoptedStyleSheets = [sheet];}
-const NEAR = 60, MOST_UNDER = 12;const seen = { from: 0, to: 0, things: [] };const shownDiagram = () => $("diagram").querySelector("svg");const across = chainage => 1000 + ((chainage - seen.from) * 10000) / (seen.to - seen.from);
-const chainageAt = x => seen.from + ((x - 1000) * (seen.to - seen.from)) / 10000;function putDiagram(text) {const svg = pictureOf(text);
-Object.assign(seen, { from: Number(svg.dataset.from), to: Number(svg.dataset.to), things: thingsOf(svg) });for (const { kind, path, class: name, value } of seen.things) if (kind !== "point") path.setAttribute("class", shadeOf(name, value));
-countPoints(seen.things);$("diagram").replaceChildren(svg);}
-function thingsOf(svg) {const things = [];for (const group of svg.querySelectorAll("g[data-class]")) {const { class: name, kind } = group.dataset;let side = "";for (const part of group.children) {
-if (part.localName === "text") side = part.textContent.slice(name.length + 1);else if (part.localName === "g") for (const path of part.querySelectorAll("path")) things.push({ ...placeOf(path), path, class: name, kind, side });}
-}
-return things;}
-function placeOf(path) {const [, x, wide] = /^M(\d+) -?\d+(?:h(\d+)|v\d+)$/.exec(path.getAttribute("d")) || [], [asset, value] = path.textContent.split(": ");return { x: Number(x), end: Number(x) + Number(wide || 0), asset, value };}
-function countPoints(things) {const lines = new Map();for (const { kind, path, x } of things) {if (kind !== "point") continue;const counts = lines.get(path.parentNode) || lines.set(path.parentNode, new Map()).get(path.parentNode);
-counts.set(x, (counts.get(x) || 0) + 1);}
-for (const [line, counts] of lines)
-for (const [x, count] of counts)
-if (count > 1) line.append(drawn("text", { "data-count": count, x: x - 20, y: -25, "text-anchor": "end" }, `${count}\u00d7`));}
+const NEAR = 60, MOST_UNDER = 12, MOST_SINGLE = 1000, WIDE_COUNT = 250;const ROW = /^<path d='(M(\d+) -?\d+(?:h(\d+)|v\d+))'><title>(\d+): ([\w.-]+)<\/title><\/path>$/;
+const CLASS = /^<g data-class='(?<class>\w+)' data-kind='(?<kind>\w+)'>$/, SIDE = /^<text x='40' y='\d+'>\w+ (?<side>[LR])<\/text>$/;const seen = { from: 0, to: 0, things: [] };let put;
+const shownDiagram = () => $("diagram").querySelector("svg");const across = chainage => 1000 + ((chainage - seen.from) * 10000) / (seen.to - seen.from);const chainageAt = x => seen.from + ((x - 1000) * (seen.to - seen.from)) / 10000;
+function putDiagram(text) {if (text === put && shownDiagram()) return void (shownDiagram().style.transform = "");const [shown, things] = shaded(text), svg = pictureOf(shown);
+Object.assign(seen, { from: Number(svg.dataset.from), to: Number(svg.dataset.to), things });$("diagram").replaceChildren(svg);put = text;}
+function shaded(text) {const things = [], lines = [], line = {}, isMany = text.split("<title>").length > MOST_SINGLE;let run = [];for (const part of text.split("\n")) {const [row, d, x, wide, asset, value] = ROW.exec(part) || [];if (row) {
+run.push({ d, x: Number(x), end: Number(x) + Number(wide || 0), asset, value, ...line });continue;}
+for (const thing of run) things.push(thing);lines.push(...shapesOf(run, isMany), part);run = [];Object.assign(line, CLASS.exec(part)?.groups, SIDE.exec(part)?.groups);}
+return [lines.join("\n"), things];}
+function shapesOf(run, isMany) {const isPoints = run[0]?.kind === "point", joined = new Map();const looks = run.map(({ class: name, value, side }) => (isPoints ? `data-side='${side}'` : `class='${shadeOf(name, value)}'`));
+if (!isMany) return run.map(({ d, asset, value }, at) => `<path ${looks[at]} d='${d}'><title>${asset}: ${value}<\/title><\/path>`).concat(isPoints ? countsOf(run) : []);
+run.forEach(({ d }, at) => (joined.get(looks[at]) || joined.set(looks[at], new Set()).get(looks[at])).add(d));return [...joined].map(([look, parts]) => `<path ${look} d='${[...parts].join("")}'/>`).concat(isPoints ? countsOf(run) : []);}
+function countsOf(points) {const counts = new Map(), texts = [];for (const { x } of points) counts.set(x, (counts.get(x) || 0) + 1);let free = 0;for (const [x, count] of counts) {if (count === 1 || x < free) continue;
+texts.push(`<text data-count='${count}' x='${x - 20}' y='-25' text-anchor='end'>${count}\u00d7<\/text>`);free = x + WIDE_COUNT;}
+return texts;}
+function pointNear(tick, x) {const { side } = tick.dataset, { class: name } = tick.closest("g[data-class]").dataset;const points = seen.things.filter(thing => thing.class === name && thing.side === side);
+return points.reduce((best, thing) => (best && Math.abs(best.x - x) <= Math.abs(thing.x - x) ? best : thing), undefined);}
 function drawMarks(marks) {const svg = shownDiagram();if (!svg) return;for (const old of svg.querySelectorAll("[data-mark]")) old.remove();const tall = svg.viewBox.baseVal.height;for (const { from, to, text } of marks) {
 if (to <= seen.from || from >= seen.to) continue;const left = across(Math.max(from, seen.from)), wide = Math.max(across(Math.min(to, seen.to)) - left, 30);const group = drawn("g", { "data-mark": text, "pointer-events": "none" });
-group.append(drawn("rect", { x: left - 20, y: 20, width: wide + 40, height: tall - 40, fill: "none", stroke: "#9b1c1c", "stroke-width": 30, "stroke-dasharray": "90 45" }),
-drawn("text", { x: Math.min(left + 40, 9800), y: 170, "font-size": 150, fill: "#7a1414", stroke: "#fff", "stroke-width": 40, "paint-order": "stroke" }, text),);svg.append(group);}
+group.append(drawn("rect", { x: left - 20, y: 20, width: wide + 40, height: tall - 40, "stroke-width": 30, "stroke-dasharray": "90 45" }),
+drawn("text", { x: Math.min(left + 40, 9800), y: 170, "font-size": 150, "stroke-width": 40, "paint-order": "stroke" }, text),);svg.append(group);}
 }
 function unitsAt(event) {return new DOMPoint(event.clientX, event.clientY).matrixTransform(shownDiagram().getScreenCTM().inverse()).x;}
 function thingsAt(x, off) {const found = seen.things.filter(thing => !off.has(thing.class) && (thing.kind === "point" ? Math.abs(thing.x - x) <= NEAR : thing.x <= x && x < thing.end));
@@ -357,20 +368,21 @@ const switchAll = on => switchClasses(classes, on);function hideClasses() {for (
 const on = classes.filter(name => !off.has(name)), chosen = on.length < classes.length ? on.map(name => ["class", name]) : [];$("plain").href = "v1/diagram" + query([["route", view.route.name], ...rangeOf(view), ...chosen]);}
 function rangeOf({ route, from, to }) {return from === 0 && to === route.length ? [] : [["from", from], ["to", to]];}
 const COLUMNS = { class: "Class", value: "Value", side: "Side", from_measure: "From measure", to_measure: "To measure", from: "From, m", to: "To, m", asset: "Asset", offset: "Offset, mm", entered_by: "Edit" };const HISTORY = "History";
-const SAVED = ["route", "from", "to", "from_measure", "to_measure", "side", "asset", "class", "value", "offset", "entered_by"];const sorted = { by: "from", down: false };let table, rows = [], chosen = [];const sorterOf = name => {
-const head = make("th", "", { scope: "col" }), button = make("button", COLUMNS[name], { type: "button", className: "plain", value: name });button.onclick = () => sortBy(name);head.append(button);return head;};async function loadRows() {
-const { route, from, to } = view;table ||= new LongTable($("rows"), [...Object.keys(COLUMNS).map(sorterOf), ...headsOf([HISTORY])], assetRow);const all = await rowsOf(view);
-if (view.route !== route || view.from !== from || view.to !== to) return;rows = all.filter(row => row.from < to && row.to > from);listRows();}
+const SAVED = ["route", "from", "to", "from_measure", "to_measure", "side", "asset", "class", "value", "offset", "entered_by"];const sorted = { by: "from", down: false }, listed = {};let table, rows = [], chosen = [];
+const sorterOf = name => {const head = make("th", "", { scope: "col" }), button = make("button", COLUMNS[name], { type: "button", className: "plain", value: name });button.onclick = () => sortBy(name);head.append(button);return head;};
+async function loadRows() {const { route, from, to } = view;table ||= new LongTable($("rows"), [...Object.keys(COLUMNS).map(sorterOf), ...headsOf([HISTORY])], assetRow);const all = await rowsOf(view);
+if (view.route !== route || view.from !== from || view.to !== to) return;const name = `${from} ${to}`;if (listed.all === all && listed.name === name) return table.show(chosen);Object.assign(listed, { all, name });
+rows = all.filter(row => row.from < to && row.to > from);listRows();}
 function rowsOf({ route, from, to }) {return known("v1/rows", [["route", route.name]])
 .catch(error => (rangeOf({ route, from, to }).length ? known("v1/rows", [["route", route.name], ["from", from], ["to", to]]) : Promise.reject(error)))
 .then(found => found.rows);}
-function keyOf(row, name) {const key = row[name];if (!name.endsWith("measure")) return key;const [n, d = 1] = key.split("/").map(Number);return n / d;}
-function compared(a, b) {if (typeof a === "number") return a - b;const [x, y] = [Number(a), Number(b)];return Number.isNaN(x) || Number.isNaN(y) ? (a < b ? -1 : Number(a > b)) : x - y;}
+function keyOf(row, name) {const key = row[name], [n, d = 1] = name.endsWith("measure") ? key.split("/").map(Number) : [Number(key)];return Number.isNaN(n) ? key : n / d;}
+function compared(a, b) {if (typeof a === typeof b) return a < b ? -1 : Number(a > b);return typeof a === "number" ? -1 : 1;}
 function sortBy(name) {Object.assign(sorted, { down: sorted.by === name && !sorted.down, by: name });listRows();}
 function matches(row, words) {const text = `${row.class} ${row.value} ${row.asset} ${SIDES[row.side]}`.toLowerCase();return words.every(word => text.includes(word));}
-function listRows() {const words = $("row-filter").value.toLowerCase().split(/\s+/).filter(Boolean), sign = sorted.down ? -1 : 1;chosen = rows.filter(row => !off.has(row.class) && matches(row, words));
-chosen.sort((a, b) => sign * compared(keyOf(a, sorted.by), keyOf(b, sorted.by)) || a.from - b.from);for (const button of table.head.querySelectorAll("button")) {
-const way = button.value === sorted.by ? (sorted.down ? "descending" : "ascending") : "none";button.parentNode.setAttribute("aria-sort", way);}
+function listRows() {const words = $("row-filter").value.toLowerCase().split(/\s+/).filter(Boolean), sign = sorted.down ? -1 : 1;
+const keyed = rows.filter(row => !off.has(row.class) && matches(row, words)).map(row => [keyOf(row, sorted.by), row]);chosen = keyed.sort(([a, x], [b, y]) => sign * compared(a, b) || x.from - y.from).map(([, row]) => row);
+for (const button of table.head.querySelectorAll("button")) {const way = button.value === sorted.by ? (sorted.down ? "descending" : "ascending") : "none";button.parentNode.setAttribute("aria-sort", way);}
 table.show(chosen);say("rows-said", `${chosen.length} of ${counted(rows.length, "row")} of this stretch.`);}
 function assetRow(row) {const { route, address } = view, link = linkTo(writeAddress(aroundAsset(route.name, row.from, row.to, row.asset, route.length)), row.asset);
 if (address.asset === String(row.asset)) link.setAttribute("aria-current", "true");
@@ -378,7 +390,8 @@ const made = rowOf([row.class, row.value, SIDES[row.side], short(row.from_measur
 for (const at of [3, 4, 5, 6, 7, 9]) made.cells[at].className = "number";return made;}
 function saveRows() {const lines = chosen.map(row => SAVED.map(name => row[name]).join(","));$("csv").download = `${view.route.name}.csv`;offer($("csv"), [[SAVED.join(","), ...lines, ""].join("\n")], "text/csv");}
 whenSwitched.push(() => table && listRows());
-const MOST_WAYS = 12;let asks = 0;const markAll = () => drawMarks([...view.asset, ...view.place]);const clearPlace = () => (asks++, (view.place = []), $("hits").replaceChildren(), $("ways").replaceChildren(), say("at-said", ""));
+const MOST_WAYS = 12;let asks = 0;const markAll = () => drawMarks([...view.asset, ...view.place]);function clearPlace() {asks++;view.place = [];
+leaving(["hits", "ways"], "at-title", () => ($("hits").replaceChildren(), $("ways").replaceChildren()));say("at-said", "");}
 function askPlace({ method, pos }) {return attempt("at-said", async () => {clearPlace();const mine = asks, { route } = view;say("at-said", "The position is being asked.");const found = await whatLies(route, method, pos);
 if (mine === asks) showPlace(found, method, pos);});}
 function showPlace(found, method, pos) {const { route } = view, way = found.dir === "+" ? "along the link" : "against the link", few = found.hits.length ? "" : " No asset lies there.";
@@ -394,18 +407,18 @@ const item = make("li", `${METHODS[method]}: `), canBeAsked = method !== "abs" |
 list.append(make("li", `on link ${link}: ${mm} mm`));return list;}
 function askTyped() {const place = said($("pos"), $("method").value);return place.pos ? go({ ...view.address, place }) : say("at-said", "Type a position.", true);}
 const askChainage = mm => go({ ...view.address, place: { method: "chainage", pos: metres(mm) } });async function askClick(event) {const x = shownDiagram() ? unitsAt(event) : 0;if (x < 950 || x > 11050) return;
-const clicked = Math.floor(chainageAt(x));return askChainage((await pointAt(event.target, clicked)) ?? Math.min(Math.max(clicked, seen.from), seen.to - 1));}
-async function pointAt(target, clicked) {const tick = target.closest("g[data-kind=point] path"), title = tick && tick.querySelector("title");if (!title) return null;
-const { rows } = await known("v1/find", [["asset", title.textContent.split(":")[0]]]);const near = rows.filter(row => row.route === view.route.name).map(row => row.from);
-return near.sort((a, b) => Math.abs(a - clicked) - Math.abs(b - clicked))[0] ?? null;}
+const clicked = Math.floor(chainageAt(x)), tick = event.target.closest("g[data-kind=point] .t path"), point = tick && pointNear(tick, x);
+return askChainage((point && (await placeOfPoint(point, clicked))) ?? Math.min(Math.max(clicked, seen.from), seen.to - 1));}
+async function placeOfPoint({ asset }, clicked) {const { rows } = await known("v1/find", [["asset", asset]]);const near = rows.filter(row => row.route === view.route.name).map(row => row.from);
+return near.sort((a, b) => Math.abs(a - clicked) - Math.abs(b - clicked))[0];}
 const PARTS = ["view", "asked", "listed"];let shown = 0;async function showRoute(address) {const isNew = !view.route || view.route.name !== address.route;$("route-title").textContent = document.title = `Route ${address.route}`;
 say("route-said", "The diagram is being drawn.");if (isNew) leaveRoute();const mine = ++shown;try {const drawn = await drawingOf(address, isNew);if (mine === shown) putRoute(address, drawn, isNew);} catch (error) {
-if (mine !== shown) return;leaveRoute();say("route-said", error.message, true);}
+if (mine !== shown) return;leaving(PARTS, "route-title", leaveRoute);say("route-said", error.message, true);}
 }
 function leaveRoute() {shown++;Object.assign(view, { route: null, address: {}, asset: [] });clearPlace();$("pos").value = "";for (const id of PARTS) $(id).hidden = true;}
 async function drawingOf({ route: name, stretch }, isNew) {if (isNew) await askHealth();const route = await known(`v1/route/${name}`), drawing = { route, from: 0, to: route.length };
-if (stretch) await endsOf(route, stretch, stretch).then(([from, to]) => Object.assign(drawing, { from, to }), refusal => Object.assign(drawing, { refusal }));
-return { ...drawing, text: await get("v1/diagram", [["route", name], ...rangeOf(drawing)]) };}
+if (stretch) await endsOf(route, stretch, stretch).then(([from, to]) => Object.assign(drawing, { from, to }), refusal => Object.assign(drawing, { refusal }));const text = known("v1/diagram", [["route", name], ...rangeOf(drawing)], get);
+rowsOf(drawing).catch(() => {});return { ...drawing, text: await text };}
 async function endsOf(route, { from, to }, { method, fromMethod = method, toMethod = method }) {
 const [start, end] = await Promise.all([from ? locate(route, fromMethod, from, "From") : 0, to ? locate(route, toMethod, to, "To") : route.length]);
 if (start >= end) throw new Error(`From must be before To: they are at ${metres(start)} m and ${metres(end)} m.`);return [start, end];}
@@ -451,27 +464,26 @@ function showEntry({ edit, record, within }, names) {say("entered-said", edit ? 
 function showLost(asset, gone) {const parts = gone.filter(part => String(part.asset) === asset);lost.show(parts);say("lost-said", `${counted(parts.length, "part")}. In all ${counted(gone.length, "part is", "parts are")} gone.`);}
 const MOST_FOUND = 200;const upper = text => text.toUpperCase();const KINDS = { asset: findAsset, value: findValue, class: findClass, key: findKey, ref: findRef, route: findRoute };function search() {
 const kind = $("kind").value, text = $("wanted").value.trim();$("found").hidden = false;$("results").replaceChildren();say("find-said", "It is being sought.");return attempt("find-said", async () => {
-const edits = await askHealth(), { told, items } = await KINDS[kind](text, edits);$("results").replaceChildren(...items.slice(0, MOST_FOUND));say("find-said", items.length > MOST_FOUND ? `${told} The first ${MOST_FOUND} are shown.` : told);
-});}
+const edits = await askHealth(), { told, found = [], itemOf } = await KINDS[kind](text, edits);$("results").replaceChildren(...found.slice(0, MOST_FOUND).map(entry => itemOf(entry)));
+say("find-said", found.length > MOST_FOUND ? `${told} The first ${MOST_FOUND} are shown.` : told);});}
 function item(...parts) {const made = make("li");made.append(...parts);return made;}
 function stretchItem({ route, from, to, from_measure: start, to_measure: end, side, asset, class: name, value }, length) {
 const link = linkTo(writeAddress(aroundAsset(route, from, to, asset, length)), `${route}: measures ${short(start)} to ${short(end)}`);
 return item(link, ` (${metres(from)} to ${metres(to)} m), ${SIDES[side]}: ${name} ${value}, `, linkToAsset(asset, `asset ${asset}`));}
-async function stretchItems(rows) {const { routes } = await known("v1/routes"), lengths = new Map(routes.map(route => [route.name, route.length]));return rows.map(row => stretchItem(row, lengths.get(row.route)));}
-async function findAsset(text) {const { rows } = await known("v1/rows", [["asset", text]]);
-const told = rows.length ? `Asset ${text} holds ${rows.length === 1 ? "one stretch" : `${rows.length} stretches`}.` : `Asset ${text} is known, and lies on no route now.`;
-return { told, items: rows.length ? await stretchItems(rows) : [item(linkToAsset(text, `The history of asset ${text}`))] };}
-async function findClass(text) {const { rows } = await known("v1/rows", [["class", upper(text)]]);return { told: `${upper(text)} has ${counted(rows.length, "row")}.`, items: await stretchItems(rows) };}
+async function stretches(told, found) {const { routes } = await known("v1/routes"), lengths = new Map(routes.map(route => [route.name, route.length]));return { told, found, itemOf: row => stretchItem(row, lengths.get(row.route)) };}
+async function findAsset(text) {const { rows } = await known("v1/rows", [["asset", text]]);if (rows.length) return stretches(`Asset ${text} holds ${rows.length === 1 ? "one stretch" : `${rows.length} stretches`}.`, rows);
+return { told: `Asset ${text} is known, and lies on no route now.`, found: [text], itemOf: asset => item(linkToAsset(asset, `The history of asset ${asset}`)) };}
+async function findClass(text) {const { rows } = await known("v1/rows", [["class", upper(text)]]);return stretches(`${upper(text)} has ${counted(rows.length, "row")}.`, rows);}
 async function findValue(text) {const { lengths } = await known("v1/lengths"), names = lengths.filter(entry => entry.value === text).map(entry => entry.class);
 const lists = await Promise.all(names.map(name => known("v1/rows", [["class", name]])));const rows = lists.flatMap(list => list.rows).filter(row => row.value === text);
-return { told: rows.length ? `${counted(rows.length, "row")} ${rows.length === 1 ? "has" : "have"} the value ${text}.` : `No row has the value ${text}.`, items: await stretchItems(rows) };}
-async function findKey(text, edits) {const { edit, record, within } = await findEdit(edits, key => key === text);if (!edit) return { told: `No edit has the key ${text}${within}.`, items: [] };
-return { told: `Key ${text} is edit ${edit}.`, items: [item(linkToEdit(edit, `Edit ${edit}`), `: ${record.verb} `, fieldsOf(record, await routeNames()))] };}
+return stretches(rows.length ? `${counted(rows.length, "row")} ${rows.length === 1 ? "has" : "have"} the value ${text}.` : `No row has the value ${text}.`, rows);}
+async function findKey(text, edits) {const [{ edit, record, within }, names] = await Promise.all([findEdit(edits, key => key === text), routeNames()]);if (!edit) return { told: `No edit has the key ${text}${within}.` };
+return { told: `Key ${text} is edit ${edit}.`, found: [edit], itemOf: () => item(linkToEdit(edit, `Edit ${edit}`), `: ${record.verb} `, fieldsOf(record, names)) };}
 async function findRef(text) {const { refs } = await known("v1/refs"), found = refs.filter(entry => entry.ref.includes(upper(text)));
-const link = ({ ref, route }) => linkTo(writeAddress({ route, place: { method: "rel", pos: `${ref}+0` } }), ref);const items = found.map(entry => item(link(entry), ` on ${entry.route}, at ${metres(entry.chainage)} m`));
-return { told: `${counted(found.length, "referent")} of this name or part of a name.`, items };}
+const link = ({ ref, route }) => linkTo(writeAddress({ route, place: { method: "rel", pos: `${ref}+0` } }), ref);const itemOf = entry => item(link(entry), ` on ${entry.route}, at ${metres(entry.chainage)} m`);
+return { told: `${counted(found.length, "referent")} of this name or part of a name.`, found, itemOf };}
 async function findRoute(text) {const { routes } = await known("v1/routes"), found = routes.filter(route => route.name.includes(upper(text)));
-return { told: `${counted(found.length, "route")} of this name or part of a name.`, items: found.map(({ name, length }) => item(linkTo(name, name), ` ${metres(length)} m`)) };}
+return { told: `${counted(found.length, "route")} of this name or part of a name.`, found, itemOf: ({ name, length }) => item(linkTo(name, name), ` ${metres(length)} m`) };}
 const MOST_LINES = 500, MOST_BYTES = 1000000, FIRST_RECORDS = 6, MOST_SHOWN = 2000;const PATHS = {"key,verb,a,b,c,d,e,f,g,h,i": ["v1/edits", "an edit sheet"],
 "key,asset,class,route,side,method,from,to,value,offset": ["v1/surveys", "a survey"],};function* recordEnds(bytes) {let quoted = false, fresh = true;for (let at = 0; at < bytes.length; at++) {
 const byte = bytes[at], ends = !quoted && (byte === 10 || (byte === 13 && bytes[at + 1] !== 10));if (byte === 34 && (quoted || fresh)) quoted = !quoted, fresh = !quoted;else fresh = !quoted && (byte === 44 || byte === 13 || byte === 10);
@@ -496,7 +508,7 @@ if (body.rows.length + rows.length < MOST_LINES * (word === "done" || word === "
 body.append(...rows);$("lines").hidden = !body.rows.length;const faults = counts.fault ? ", 1 fault" : "", rest = notShown ? ` ${notShown} lines more are not shown here: save them to see all.` : "";
 say("counts", `${counts.done} done, ${counts.again} again, ${counts.refused} refused${faults}.${rest}`);offer($("save"), replied, "text/csv");}
 function replyRow(key, word, more) {const row = rowOf([key, word, word === "done" || word === "again" ? `edit ${more}` : sentence(more)]);row.className = word;row.cells[1].className = "word";return row;}
-async function sendParts(sheet, refresh) {const { name, path, bodies } = sheet;(stopped = undefined), ($("resume").hidden = true);try {for (; sheet.at < bodies.length; sheet.at++, sheet.resumes = false) {
+async function sendParts(sheet, refresh) {const { name, path, bodies } = sheet;stopped = undefined;leaving(["resume"], "file", () => ($("resume").hidden = true));try {for (; sheet.at < bodies.length; sheet.at++, sheet.resumes = false) {
 say("sheet-said", `${name}: part ${sheet.at + 1} of ${bodies.length} is being sent.`);await sendPart(path + (sheet.resumes ? "?resume=1" : ""), bodies[sheet.at]);}
 say("sheet-said", `${name} was sent to its end, in ${bodies.length === 1 ? "one part" : `${bodies.length} parts`}. Look at the lines: a record that is refused changes nothing.`);} catch (error) {
 if (error.message.endsWith(GO_ON)) (stopped = { ...sheet, resumes: true }), ($("resume").hidden = false);throw error;} finally {await refresh();}
@@ -544,11 +556,12 @@ async function refresh() {await askHealth();await showAgain();}
 const submits = (id, work) => ($(id).onsubmit = event => (event.preventDefault(), work()));submits("filtering", () => firstRoute()?.click());submits("finding", search);submits("range", () => attempt("route-said", showTyped));
 submits("asking", askTyped);submits("row-filtering", () => {});$("filter").oninput = listRoutes;$("row-filter").oninput = listRows;$("csv").onclick = saveRows;$("by").onchange = () => changeMethod($("by"), [$("from"), $("to")]);
 $("method").onchange = () => changeMethod($("method"), [$("pos")]);for (const id of ["from", "to", "pos"]) $(id).oninput = () => delete $(id).dataset.chainage;$("all").onclick = () => switchAll(true);
-$("none").onclick = () => switchAll(false);$("close").onclick = () => ($("found").hidden = true);$("refresh").onclick = refresh;$("skip").onclick = () => $("main").focus();$("send").onclick = () => sendReady(refresh);
-$("forget").onclick = forget;$("resume").onclick = () => goOn(refresh);$("file").onchange = () => {const files = [...$("file").files];$("file").value = "";attempt("sheet-said", () => lookAt(files));};document.ondragover = event => {
-if (!event.dataTransfer.types.includes("Files")) return;event.preventDefault();document.body.classList.add("over");};document.ondragleave = event => event.relatedTarget || document.body.classList.remove("over");document.ondrop = event => {
-const files = [...event.dataTransfer.files];if (!files.length) return;event.preventDefault();document.body.classList.remove("over");$("sheets").open = true;attempt("sheet-said", () => lookAt(files));};
-window.onbeforeunload = event => void (isSending() && event.preventDefault());makeShades();watch();start(show);
+$("none").onclick = () => switchAll(false);$("close").onclick = () => leaving(["found"], "wanted", () => ($("found").hidden = true));$("refresh").onclick = refresh;$("skip").onclick = () => $("main").focus();
+$("send").onclick = () => leaving(["preview"], "file", () => sendReady(refresh));$("forget").onclick = () => leaving(["preview"], "file", forget);$("resume").onclick = () => goOn(refresh);$("file").onchange = () => {
+const files = [...$("file").files];$("file").value = "";attempt("sheet-said", () => lookAt(files));};document.ondragover = event => {if (!event.dataTransfer.types.includes("Files")) return;event.preventDefault();
+document.body.classList.add("over");};document.ondragleave = event => event.relatedTarget || document.body.classList.remove("over");document.ondrop = event => {const files = [...event.dataTransfer.files];if (!files.length) return;
+event.preventDefault();document.body.classList.remove("over");$("sheets").open = true;attempt("sheet-said", () => lookAt(files));};window.onbeforeunload = event => void (isSending() && event.preventDefault());makeShades();watch();
+start(show);
 </script>
 </body>
 </html>
