@@ -56,7 +56,7 @@ export class LongTable {
     if (!this.rows.has(this.stop)) this.stopAt(Math.min(first + (first && SPARE), last - 1));
     this.measure();
     this.spread(this.above, first);
-    this.spread(this.below, isPrinting ? 0 : this.items.length - last);
+    this.spread(this.below, this.items.length - last, isPrinting);
   }
 
   makeAt(at) {
@@ -82,13 +82,14 @@ export class LongTable {
     if (row && row.offsetHeight) this.height = row.offsetHeight;
   }
 
-  // Room for the rows that are not made.
-  spread(part, count) {
+  // Room for the rows that are not made, or on paper how many they are.
+  spread(part, count, isTold = false) {
     if (!count) return part.replaceChildren();
-    const row = part.rows[0] || part.appendChild(rowOf([""]));
+    const row = part.rows[0] || part.appendChild(rowOf([""])), cell = row.cells[0];
     row.setAttribute("aria-hidden", "true");
-    row.cells[0].colSpan = this.head.cells.length;
-    row.cells[0].style.cssText = `height: ${count * this.height}px; padding: 0; border: 0`;
+    cell.colSpan = this.head.cells.length;
+    cell.textContent = isTold ? `${count} more, which are not printed` : "";
+    cell.style.cssText = isTold ? "" : `height: ${count * this.height}px; padding: 0; border: 0`;
   }
 
   // The arrow keys go from row to row, and stay in their column.

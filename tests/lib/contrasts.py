@@ -53,7 +53,7 @@ const light = color => {
   const [r, g, b] = [...canvas.getImageData(0, 0, 1, 1).data].map(c => (c /= 255) <= 0.03928 ? c / 12.92 : ((c + 0.055) / 1.055) ** 2.4);
   return 0.2126 * r + 0.7152 * g + 0.0722 * b;
 };
-let ground = e.parentElement;
+let ground = e.id === 'skip' ? document.querySelector('header') : e.parentElement;
 while (ground && /, 0\\)$/.test(getComputedStyle(ground).backgroundColor)) ground = ground.parentElement;
 const [a, b] = [light(style.outlineColor), light(getComputedStyle(ground || document.body).backgroundColor)].sort((x, y) => y - x);
 return [style.outlineStyle, parseFloat(style.outlineWidth), (a + 0.05) / (b + 0.05), e.outerHTML.slice(0, 100)];
@@ -64,7 +64,7 @@ return [style.outlineStyle, parseFloat(style.outlineWidth), (a + 0.05) / (b + 0.
 SMALL = """
 const middleIn = (e, box) => { const b = e.getBoundingClientRect(), x = b.left + b.width / 2, y = b.top + b.height / 2; return x >= box.left && x <= box.right && y >= box.top && y <= box.bottom; };
 const inSight = e => { for (let p = e.parentElement; p; p = p.parentElement) if (getComputedStyle(p).overflowY !== 'visible' && !middleIn(e, p.getBoundingClientRect())) return false; return true; };
-const targets = [...document.querySelectorAll('a[href], button, input, select, summary')].filter(e => e.getClientRects().length && !e.closest('p, #skip') && inSight(e));
+const targets = [...document.querySelectorAll('a[href], button, input, select, summary')].filter(e => e.getClientRects().length && !e.closest('p, td > span, #skip') && inSight(e));
 const boxes = targets.map(e => e.getBoundingClientRect()), small = b => b.width < 24 || b.height < 24;
 const middle = b => [b.left + b.width / 2, b.top + b.height / 2];
 const meets = (a, b) => {

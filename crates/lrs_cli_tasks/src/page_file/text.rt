@@ -7,7 +7,7 @@ pub static PAGE: &str = r##"<!doctype html>
 <meta charset="utf-8">
 <meta name="viewport" content="width=device-width, initial-scale=1">
 <meta name="color-scheme" content="light dark">
-<meta http-equiv="Content-Security-Policy" content="default-src 'none'; style-src 'unsafe-inline'; script-src 'sha256-c3pg2d3JwGyCmMvj5XhqZFB+9AWv0wf9dyvZt5hJ1iI='; img-src data:; connect-src 'self'; form-action 'none'; base-uri 'none'">
+<meta http-equiv="Content-Security-Policy" content="default-src 'none'; style-src 'unsafe-inline'; script-src 'sha256-ZGK4Y0FYcwksAD6f8Qt00lDeq0tDIlPl591Mn3xJLQo='; img-src data:; connect-src 'self'; form-action 'none'; base-uri 'none'">
 <title>Road inventory</title>
 <link rel="icon" href="data:,">
 <style>
@@ -42,16 +42,19 @@ tr.again td.word{background:var(--known-ground);color:var(--known);border-left:6
 #drop{padding:.8rem;margin:.5rem 0;border:2px dashed var(--field);}.over #drop{border-style:solid;background:var(--press);}
 @media (min-width:1100px){#network{grid-template-columns:minmax(0,1fr) minmax(0,1fr);}#network > :first-child{grid-column:1 / 3;}}@media (max-width:800px){main{padding:.5rem;}header p,h1{margin:0;}
 .name,.length{width:4rem;}.long thead th{white-space:normal;}td.bar{width:50%;}}
-@media print{body,section{background:#fff;color:#000;border:0;padding:0;}header form,header button,form,.buttons,details,fieldset button,#skip,#under,#route .note a,#found{display:none;}header{background:none;color:#000;padding:0;}
-.table,.long{overflow:visible;max-height:none;height:auto;border:0;}thead th{position:static;}section,tr,#diagram{break-inside:avoid;}#diagram{border:0;overflow:visible;}#diagram svg{min-width:0;print-color-adjust:exact;}
-.swatch,.track svg{print-color-adjust:exact;}}
+@page{margin:12mm;}@page wide{size:landscape;}@media print{body,section{background:#fff;color:#000;border:0;padding:0;}body{font-size:11pt;}main{padding:0;}body:has(#route:not([hidden])){page:wide;}
+header form,header button,form,.buttons,details,fieldset button,#skip,#under,.hands,.note > a,#found,input[type=checkbox]{display:none;}#asked:not(:has(#hits table,#ways ul)){display:none;}
+header{background:none;color:#000;padding:0 0 .5rem;}a{color:inherit;text-decoration:none;}#network,#route,#edit,#asset,main{display:block;}section{margin:0 0 1rem;}h2,h3,.note,legend{break-after:avoid;}
+.table,.long{overflow:visible;max-height:none;height:auto;border:0;}.long table{width:auto;}table{font-size:9pt;}th,td{padding:.1rem .4rem;border-color:#767676;}thead th{position:static;}thead button{display:contents;}
+.long tbody tr{height:auto;}#rows :is(th,td):last-child{display:none;}#routes table{width:100%;}tr,#diagram,.class{break-inside:avoid;}#diagram{border:0;overflow:visible;}#diagram svg{min-width:0;print-color-adjust:exact;}
+fieldset{max-height:none;overflow:visible;border:0;padding:0;}.swatch,.track svg{print-color-adjust:exact;}}
 </style>
 </head>
 <body>
 <button id="skip" type="button">To the content</button>
 <header>
 <h1><a href="#">Road inventory</a></h1>
-<form id="finding" role="search">
+<form id="finding" role="search" aria-label="Find">
 <label>Find by <select id="kind"><option value="asset">number of an asset</option><option value="value">value</option><option value="class">class</option>
 <option value="key">key of an edit</option><option value="ref">referent</option><option value="route">route</option></select></label>
 <label>What is sought <input id="wanted" autocomplete="off" required></label> <button>Find</button></form>
@@ -94,7 +97,7 @@ tr.again td.word{background:var(--known-ground);color:var(--known);border-left:6
 <button type="button" id="whole">Whole route</button> <a id="plain">Plain SVG of this diagram</a></p>
 <div id="diagram" tabindex="0" role="group" aria-label="Diagram. The arrow keys move along the route, plus and minus zoom, Enter asks what lies in the middle."></div>
 <p id="under" aria-live="off"></p>
-<p class="note">Above the axis is the left side, below it the right side. A wheel or two fingers zoom, a mouse drags, a click asks what lies there.</p>
+<p class="note">Above the axis is the left side, below it the right side.<span class="hands"> A wheel or two fingers zoom, a mouse drags, a click asks what lies there.</span></p>
 <fieldset><legend>Classes and values</legend><button type="button" id="all">All</button><button type="button" id="none">None</button><div id="classes"></div></fieldset>
 <p id="classes-said" class="note" role="status"></p></div>
 </section>
@@ -139,7 +142,7 @@ tr.again td.word{background:var(--known-ground);color:var(--known);border-left:6
 <div id="lost" class="long" role="region" aria-label="Parts. The arrow keys go from row to row."></div>
 </section>
 </div>
-<details id="sheets"><summary>Send a sheet</summary>
+<details id="sheets" aria-label="Send a sheet"><summary>Send a sheet</summary>
 <div id="drop"><p>Drop an edit sheet or a survey on this page. You see what it has before it is sent.</p>
 <label>Or choose a file <input id="file" type="file" accept=".csv,text/csv,text/plain" multiple></label></div>
 <div id="preview" hidden><div id="looked"></div>
@@ -251,13 +254,13 @@ draw() {this.width = this.box.clientWidth;if (!this.width) return;const first = 
 const last = Math.min(isPrinting ? MOST_PRINTED : first + Math.ceil(this.box.clientHeight / this.height) + 2 * SPARE, this.items.length);
 for (const [at, row] of this.rows) if ((at < first || at >= last) && !row.contains(document.activeElement)) this.rows.delete(at), row.remove();let behind = null;for (let at = last - 1; at >= first; at--) {
 const row = this.rows.get(at) || this.makeAt(at);if (row.nextSibling !== behind || !row.isConnected) this.body.insertBefore(row, behind);behind = row;}
-if (!this.rows.has(this.stop)) this.stopAt(Math.min(first + (first && SPARE), last - 1));this.measure();this.spread(this.above, first);this.spread(this.below, isPrinting ? 0 : this.items.length - last);}
+if (!this.rows.has(this.stop)) this.stopAt(Math.min(first + (first && SPARE), last - 1));this.measure();this.spread(this.above, first);this.spread(this.below, this.items.length - last, isPrinting);}
 makeAt(at) {const row = this.makeRow(this.items[at]);row.setAttribute("aria-rowindex", at + 2);this.rows.set(at, row);this.reach(at, at === this.stop);return row;}
 stopAt(at) {this.reach(this.stop, false);this.stop = at;this.reach(at, true);}
 reach(at, can) {for (const link of this.rows.get(at)?.querySelectorAll("a") || []) link.tabIndex = can ? 0 : -1;}
 measure() {const row = this.body.rows[0];if (row && row.offsetHeight) this.height = row.offsetHeight;}
-spread(part, count) {if (!count) return part.replaceChildren();const row = part.rows[0] || part.appendChild(rowOf([""]));row.setAttribute("aria-hidden", "true");row.cells[0].colSpan = this.head.cells.length;
-row.cells[0].style.cssText = `height: ${count * this.height}px; padding: 0; border: 0`;}
+spread(part, count, isTold = false) {if (!count) return part.replaceChildren();const row = part.rows[0] || part.appendChild(rowOf([""])), cell = row.cells[0];row.setAttribute("aria-hidden", "true");cell.colSpan = this.head.cells.length;
+cell.textContent = isTold ? `${count} more, which are not printed` : "";cell.style.cssText = isTold ? "" : `height: ${count * this.height}px; padding: 0; border: 0`;}
 step(event) {const by = { ArrowDown: 1, ArrowUp: -1 }[event.key], row = event.target.closest("tr");if (!by || row?.parentNode !== this.body) return;event.preventDefault();
 const next = by > 0 ? row.nextSibling : row.previousSibling, column = [...row.querySelectorAll("a")].indexOf(event.target);next?.querySelectorAll("a")[column]?.focus();}
 }
