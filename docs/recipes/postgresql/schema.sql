@@ -3,7 +3,7 @@
 BEGIN;
 CREATE SCHEMA roadlrs;
 
--- A measure, `3000` or `12/5`, as a number: exact where it is whole, else to 16 digits and more.
+-- A measure, `3000` or `12/5`, as a number: exact where it is whole, else to 16 digits at least.
 CREATE FUNCTION roadlrs.number_of(measure text) RETURNS numeric LANGUAGE sql IMMUTABLE STRICT PARALLEL SAFE AS
 $$ SELECT split_part(measure, '/', 1)::numeric / coalesce(nullif(split_part(measure, '/', 2), ''), '1')::numeric $$;
 
