@@ -4,7 +4,7 @@
 
 A sheet of 15,000 accepted records over 50 routes, each of which enters an asset, is done by the program over a file,
 from a file and through a pipe, on tmpfs, over a file on a disk and in memory; by Python's sqlite3, which writes the same rows into the same tables in
-one transaction a record, and in one for 256 records as the program does (WAL, synchronous FULL), and tests nothing; and by PostgreSQL 15 with an exclusion constraint,
+one transaction a record, and in one for 1,024 records as the program does (WAL, synchronous FULL), and tests nothing; and by PostgreSQL 15 with an exclusion constraint,
 one call of a function and one commit a record. They take turns; a line has the seconds of the fastest of the
 runs, without those of a sheet that only makes the routes, and records a second. Before and after the runs on a disk
 stands what one fdatasync of 4 KB takes there, and for the program how many of them, and how many bytes, a record

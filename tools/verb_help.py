@@ -41,9 +41,12 @@ def hung(left, text):
 def help_of(verb, section):
     """What is printed for a verb."""
     about = plain(next(part for part in section.split("\n\n")[1:] if part and part[0].isupper()))
-    lines = [*textwrap.wrap(f"{verb}: {about}", WIDTH), "", "Field    Column  It may hold"]
-    for name, column, holds in rows(section, "Field"):
-        lines += hung(f"{name:<9}{column:<8}", holds)
+    fields = rows(section, "Field")
+    # a blank stands behind the longest name
+    wide = max(9, *(len(name) + 1 for name, _, _ in fields))
+    lines = [*textwrap.wrap(f"{verb}: {about}", WIDTH), "", f"{'Field':<{wide}}Column  It may hold"]
+    for name, column, holds in fields:
+        lines += hung(f"{name:<{wide}}{column:<8}", holds)
     record = re.search(rf"^[^,\n]+,{verb},.*$", section, re.M).group(0)
     lines += ["", "Example:", record, "", "Refused, in this order:"]
     for cause, when, what in rows(section, "Refused"):

@@ -1,6 +1,7 @@
 // Addresses: what the page shows, behind the # of its address.
 //
 // ROUTE, then a stretch as /METHOD:FROM..TO, then a place as /METHOD:POSITION or an asset as /asset:NUMBER; each of these or not.
+// Or edit/NUMBER, or asset/NUMBER.
 
 import { metres } from "./numbers.js";
 
@@ -10,6 +11,8 @@ const ROUTE = /^[A-Z0-9][A-Z0-9-]{0,11}$/;
 // What an address says: nothing where it is empty, and no route where it cannot be read.
 export function readAddress(text) {
   if (text.startsWith("route=")) return readOlder(new URLSearchParams(text));
+  const [, kind, number] = /^(edit|asset)\/(\d{1,13})$/.exec(text) || [];
+  if (kind) return { [kind]: number };
   const [route, ...parts] = decoded(text).split(/\/(?=(?:abs|rel|int|chainage|asset):)/);
   const address = { route: ROUTE.test(route) ? route : undefined };
   for (const part of parts) Object.assign(address, readPart(part));
@@ -36,7 +39,8 @@ function readOlder(pairs) {
   return { route: pairs.get("route"), ...((from || to) && { stretch: { method: "chainage", from, to } }) };
 }
 
-export function writeAddress({ route, stretch, place, asset }) {
+export function writeAddress({ route, stretch, place, asset, edit }) {
+  if (!route) return edit ? `edit/${edit}` : `asset/${asset}`;
   let text = route;
   if (stretch) text += `/${stretch.method}:${stretch.from}..${stretch.to}`;
   if (place) text += `/${place.method}:${place.pos}`;

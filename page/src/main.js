@@ -1,9 +1,10 @@
 // What the hand does, and what is shown for an address.
 
-import { $, attempt, say } from "./parts.js";
+import { $, attempt, leaving, say } from "./parts.js";
 import { askHealth } from "./health.js";
 import { listRoutes, loadNetwork, firstRoute } from "./network.js";
 import { changeMethod, leaveRoute, showRoute, showTyped } from "./route.js";
+import { showAsset, showEdit } from "./history.js";
 import { askTyped } from "./place.js";
 import { listRows, saveRows } from "./rows.js";
 import { switchAll } from "./classes.js";
@@ -13,17 +14,22 @@ import { makeShades } from "./shades.js";
 import { showAgain, start } from "./view.js";
 import { watch } from "./gestures.js";
 
-let isFirst = true;
+let shownBefore;
+
+const SHOWN = { network: showNetwork, route: showRoute, edit: showEdit, asset: showAsset };
+const viewOf = address => ["route", "edit", "asset"].find(name => address?.[name]) || "network";
 
 // Who came by a link or a key goes on at the head of what is shown.
 function show(address) {
-  const isRoute = Boolean(address && address.route), changes = $("route").hidden === isRoute && !isFirst;
-  isFirst = false;
-  $("route").hidden = !isRoute;
-  $("network").hidden = isRoute;
-  if (changes) $(isRoute ? "route-title" : "network-title").focus({ preventScroll: true }), scrollTo(0, 0);
-  if (isRoute) return showRoute(address);
-  leaveRoute();
+  const name = viewOf(address), now = name === "edit" || name === "asset" ? `${name} ${address[name]}` : name;
+  for (const other of Object.keys(SHOWN)) $(other).hidden = other !== name;
+  if (shownBefore && shownBefore !== now) $(`${name}-title`).focus({ preventScroll: true }), scrollTo(0, 0);
+  shownBefore = now;
+  if (name !== "route") leaveRoute();
+  return SHOWN[name](address);
+}
+
+function showNetwork(address) {
   document.title = "Road inventory";
   say("address-said", address ? "The address names no route." : "", Boolean(address));
   return loadNetwork();
@@ -48,11 +54,11 @@ $("method").onchange = () => changeMethod($("method"), [$("pos")]);
 for (const id of ["from", "to", "pos"]) $(id).oninput = () => delete $(id).dataset.chainage;
 $("all").onclick = () => switchAll(true);
 $("none").onclick = () => switchAll(false);
-$("close").onclick = () => ($("found").hidden = true);
+$("close").onclick = () => leaving(["found"], "wanted", () => ($("found").hidden = true));
 $("refresh").onclick = refresh;
 $("skip").onclick = () => $("main").focus();
-$("send").onclick = () => sendReady(refresh);
-$("forget").onclick = forget;
+$("send").onclick = () => leaving(["preview"], "file", () => sendReady(refresh));
+$("forget").onclick = () => leaving(["preview"], "file", forget);
 $("resume").onclick = () => goOn(refresh);
 $("file").onchange = () => {
   const files = [...$("file").files];

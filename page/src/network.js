@@ -4,19 +4,15 @@ import { $, attempt, drawn, linkTo, make, rowOf, say, tableOf } from "./parts.js
 import { askHealth } from "./health.js";
 import { get, known } from "./requests.js";
 import { counted, metres } from "./numbers.js";
-import { LongTable } from "./sight.js";
+import { fieldsOf, linkToEdit, recordsOf, routeNames } from "./edits.js";
+import { LongTable, headsOf } from "./sight.js";
 
 const LAST_EDITS = 10, LEAST_GAP = 8, LETTER = 8;
-// In which field a verb names its route.
-const ROUTE_FIELDS = { route: 0, ref: 1, enter: 2, supersede: 2, retire: 1, split: 0, renumber: 1, recalibrate: 0, join: 0, turn: 0, realign: 0 };
-
-const network = { routes: [], names: new Set(), longest: 1, posts: new Map(), edits: undefined };
+const network = { routes: [], longest: 1, posts: new Map(), edits: undefined };
 let bars, drawnFor = {};
 
-const headOf = (name, width) => make("th", name, { scope: "col", className: width });
-
 export async function loadNetwork() {
-  bars ||= new LongTable($("routes"), [headOf("Route", "name"), headOf("Length, m", "length"), headOf("Posts, to one scale", "bar")], routeRow);
+  bars ||= new LongTable($("routes"), headsOf(["Route", "Length, m", "Posts, to one scale"], ["name", "length", "bar"]), routeRow);
   network.edits = await askHealth();
   await Promise.all([attempt("routes-said", loadRoutes), attempt("totals-said", loadTotals), attempt("edits-said", loadEdits)]);
 }
@@ -32,7 +28,6 @@ async function loadRoutes() {
   const lists = await Promise.all(["routes", "marks", "refs"].map(name => known(`v1/${name}`)));
   if (!isNew("routes", lists[0]) && !isNew("refs", lists[2])) return;
   network.routes = lists[0].routes;
-  network.names = new Set(network.routes.map(route => route.name));
   network.longest = network.routes.reduce((most, route) => Math.max(most, route.length), 1);
   network.posts = postsOf(lists[1].marks, lists[2].refs);
   listRoutes();
@@ -68,7 +63,7 @@ function routeRow({ name, length }) {
 
 function barOf(name, length) {
   const track = make("div", "", { className: "track" }), posts = network.posts.get(name) || [];
-  const share = length / network.longest, whole = $("routes").clientWidth * 0.65, wide = whole * share;
+  const share = length / network.longest, whole = bars.width * 0.65, wide = whole * share;
   const bar = drawn("svg", { viewBox: `0 0 ${length} 1`, preserveAspectRatio: "none", "aria-hidden": "true" });
   bar.append(drawn("path", { d: posts.map(([at]) => `M${at} 0v1`).join("") || "M0 0v1", "vector-effect": "non-scaling-stroke" }));
   bar.style.width = `${share * 100}%`;
@@ -106,27 +101,11 @@ const numbersBehind = count => cells => {
 
 async function loadEdits() {
   if (!network.edits) return say("edits-said", "There is no edit yet."), $("edits").replaceChildren();
-  const first = Math.max(network.edits - LAST_EDITS + 1, 1), log = await known("v1/log", [["from", first]], get);
+  const first = Math.max(network.edits - LAST_EDITS + 1, 1), [log, names] = await Promise.all([known("v1/log", [["from", first]], get), routeNames()]);
   if (!isNew("edits", log)) return;
-  const records = recordsOf(log).map((record, at) => [first + at, record]).reverse();
-  $("edits").replaceChildren(tableOf(["Edit", "Key", "Verb", "Fields"], records.map(([edit, record]) => rowOf([edit, record.key, record.verb, fieldsOf(record)]))));
+  const rows = recordsOf(log).map((record, at) => rowOf([linkToEdit(first + at), record.key, record.verb, fieldsOf(record, names)]));
+  $("edits").replaceChildren(tableOf(["Edit", "Key", "Verb", "Fields"], rows.reverse()));
   say("edits-said", "");
-}
-
-// The records of a log: what it has was accepted, and such fields have no quotes.
-export function recordsOf(log) {
-  const rows = log.split("\n").slice(1).filter(Boolean);
-  return rows.map(row => row.split(",")).map(([key, verb, ...fields]) => ({ key, verb, fields }));
-}
-
-// The fields of a record; the name of a route that is there leads to it.
-export function fieldsOf({ verb, fields }) {
-  const part = make("span");
-  fields.forEach((field, at) => {
-    if (!field) return;
-    part.append(ROUTE_FIELDS[verb] === at && network.names.has(field) ? linkTo(field, field) : field, " ");
-  });
-  return part;
 }
 
 export const firstRoute = () => $("routes").querySelector("tbody a");

@@ -37,6 +37,13 @@ export function say(id, text, isBad = false) {
   $(id).classList.toggle("bad", isBad);
 }
 
+// Does what may take away the part in which somebody is: then they go on at another.
+export function leaving(ids, next, work) {
+  const wasThere = ids.some(id => $(id).contains(document.activeElement));
+  work();
+  if (wasThere) $(next).focus();
+}
+
 export const attempt = (id, work) => work().catch(error => say(id, error.message, true));
 
 // Saves a text as a file, by a link that the user follows.

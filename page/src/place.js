@@ -1,11 +1,12 @@
 // What lies at a place, and the other ways to say it.
 
-import { $, SIDES, attempt, linkTo, make, rowOf, say, tableOf } from "./parts.js";
+import { $, SIDES, attempt, leaving, linkTo, make, rowOf, say, tableOf } from "./parts.js";
 import { known } from "./requests.js";
 import { metres, short } from "./numbers.js";
 import { METHODS, writeAddress } from "./addresses.js";
 import { fill, said, whatLies } from "./positions.js";
-import { drawMarks, seen, shownDiagram, unitsAt, chainageAt } from "./diagram.js";
+import { linkToEdit } from "./edits.js";
+import { drawMarks, pointNear, seen, shownDiagram, unitsAt, chainageAt } from "./diagram.js";
 import { go, view } from "./view.js";
 
 const MOST_WAYS = 12;
@@ -13,7 +14,12 @@ let asks = 0;
 
 export const markAll = () => drawMarks([...view.asset, ...view.place]);
 
-export const clearPlace = () => (asks++, (view.place = []), $("hits").replaceChildren(), $("ways").replaceChildren(), say("at-said", ""));
+export function clearPlace() {
+  asks++;
+  view.place = [];
+  leaving(["hits", "ways"], "at-title", () => ($("hits").replaceChildren(), $("ways").replaceChildren()));
+  say("at-said", "");
+}
 
 // Asks for the place of the address.
 export function askPlace({ method, pos }) {
@@ -40,7 +46,7 @@ function showPlace(found, method, pos) {
 function hitRow(hit, found) {
   const link = linkTo(writeAddress({ ...view.address, asset: hit.asset }), hit.asset);
   link.title = "Mark this asset";
-  return rowOf([link, hit.class, hit.value, SIDES[hit.side] || hit.side, hit.offset, hit.entry, found.link, found.mm]);
+  return rowOf([link, hit.class, hit.value, SIDES[hit.side] || hit.side, hit.offset, linkToEdit(hit.entry), found.link, found.mm]);
 }
 
 // By the nearest referents first.
@@ -66,15 +72,13 @@ export const askChainage = mm => go({ ...view.address, place: { method: "chainag
 export async function askClick(event) {
   const x = shownDiagram() ? unitsAt(event) : 0;
   if (x < 950 || x > 11050) return;
-  const clicked = Math.floor(chainageAt(x));
-  return askChainage((await pointAt(event.target, clicked)) ?? Math.min(Math.max(clicked, seen.from), seen.to - 1));
+  const clicked = Math.floor(chainageAt(x)), tick = event.target.closest("g[data-kind=point] .t path"), point = tick && pointNear(tick, x);
+  return askChainage((point && (await placeOfPoint(point, clicked))) ?? Math.min(Math.max(clicked, seen.from), seen.to - 1));
 }
 
 // A point is one millimetre and hard to hit: a click on its tick means the millimetre of the asset, nearest to the click.
-async function pointAt(target, clicked) {
-  const tick = target.closest("g[data-kind=point] path"), title = tick && tick.querySelector("title");
-  if (!title) return null;
-  const { rows } = await known("v1/find", [["asset", title.textContent.split(":")[0]]]);
+async function placeOfPoint({ asset }, clicked) {
+  const { rows } = await known("v1/find", [["asset", asset]]);
   const near = rows.filter(row => row.route === view.route.name).map(row => row.from);
-  return near.sort((a, b) => Math.abs(a - clicked) - Math.abs(b - clicked))[0] ?? null;
+  return near.sort((a, b) => Math.abs(a - clicked) - Math.abs(b - clicked))[0];
 }

@@ -1,6 +1,6 @@
 // A route: its diagram, the stretch that is asked, and what stands beside it.
 
-import { $, attempt, say } from "./parts.js";
+import { $, attempt, leaving, say } from "./parts.js";
 import { askHealth } from "./health.js";
 import { get, known } from "./requests.js";
 import { metres } from "./numbers.js";
@@ -8,7 +8,7 @@ import { chainages } from "./addresses.js";
 import { fill, locate, said, textOf } from "./positions.js";
 import { putDiagram } from "./diagram.js";
 import { hideClasses, loadClasses, rangeOf } from "./classes.js";
-import { loadRows } from "./rows.js";
+import { loadRows, rowsOf } from "./rows.js";
 import { askPlace, clearPlace, markAll } from "./place.js";
 import { go, view } from "./view.js";
 
@@ -26,7 +26,7 @@ export async function showRoute(address) {
     if (mine === shown) putRoute(address, drawn, isNew);
   } catch (error) {
     if (mine !== shown) return;
-    leaveRoute();
+    leaving(PARTS, "route-title", leaveRoute);
     say("route-said", error.message, true);
   }
 }
@@ -39,12 +39,14 @@ export function leaveRoute() {
   for (const id of PARTS) $(id).hidden = true;
 }
 
-// What is drawn for an address: of a stretch that cannot be located the whole route, and why.
+// What is drawn for an address: of a stretch that cannot be located the whole route, and why. The rows are asked for meanwhile.
 async function drawingOf({ route: name, stretch }, isNew) {
   if (isNew) await askHealth();
   const route = await known(`v1/route/${name}`), drawing = { route, from: 0, to: route.length };
   if (stretch) await endsOf(route, stretch, stretch).then(([from, to]) => Object.assign(drawing, { from, to }), refusal => Object.assign(drawing, { refusal }));
-  return { ...drawing, text: await get("v1/diagram", [["route", name], ...rangeOf(drawing)]) };
+  const text = known("v1/diagram", [["route", name], ...rangeOf(drawing)], get);
+  rowsOf(drawing).catch(() => {});
+  return { ...drawing, text: await text };
 }
 
 // The chainages of a stretch whose ends may be said by two methods; an end that is empty is that of the route.

@@ -1,6 +1,6 @@
 // Sheets: looked at, then sent, in parts where they are long, and the lines of their replies.
 
-import { $, attempt, make, offer, rowOf, say, tableOf } from "./parts.js";
+import { $, attempt, leaving, make, offer, rowOf, say, tableOf } from "./parts.js";
 import { send } from "./requests.js";
 import { GO_ON, STATUSES, reason, sentence } from "./words.js";
 import { counted } from "./numbers.js";
@@ -119,7 +119,8 @@ function replyRow(key, word, more) {
 // Sends the parts of a sheet from one on. The program goes on by itself with a part whose reply was lost.
 async function sendParts(sheet, refresh) {
   const { name, path, bodies } = sheet;
-  (stopped = undefined), ($("resume").hidden = true);
+  stopped = undefined;
+  leaving(["resume"], "file", () => ($("resume").hidden = true));
   try {
     for (; sheet.at < bodies.length; sheet.at++, sheet.resumes = false) {
       say("sheet-said", `${name}: part ${sheet.at + 1} of ${bodies.length} is being sent.`);

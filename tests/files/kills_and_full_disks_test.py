@@ -91,7 +91,7 @@ class Running:
         self.end()
 
 
-@pytest.mark.parametrize("header, in_flight", [(HEADER, 256), (HEADER.replace(b"key", b'"key"'), 1)])
+@pytest.mark.parametrize("header, in_flight", [(HEADER, 1_024), (HEADER.replace(b"key", b'"key"'), 1)])
 def test_killed_at_random_moments(header, in_flight):
     """Records that have arrived are kept together; behind a quote they are done one by one. Each time every acknowledged record is answered `again` with its number, and the tables at the end are those of a run that nobody stopped."""
     records = long_records(2_000)

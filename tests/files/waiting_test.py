@@ -150,6 +150,34 @@ def test_who_serves_the_file_is_named_with_its_port():
         assert f"process {server.child.pid}" in said and f"http://127.0.0.1:{server.port}/v1/totals" in said, said
 
 
+def test_a_question_whose_answer_is_not_read_keeps_no_writer_out():
+    with folder() as path:
+        assets(path)
+        answer = run("rows", str(path)).stdout
+        # an answer that has begun, and is longer than a pipe takes
+        with subprocess.Popen([PROGRAM, "rows", str(path)], stdout=subprocess.PIPE, bufsize=0) as asking:
+            first = asking.stdout.read(1)
+            ends(run("edit", str(path), "stdin", "--wait", "0", given=sheet_of("z1,link,2,5")), b"z1,done,3004\n", 0)
+            assert asking.poll() is None
+            assert first + asking.stdout.read() == answer
+        assert asking.returncode == 0
+        is_whole(path)
+
+
+def test_questions_that_have_yet_to_arrive_keep_no_writer_out():
+    with folder() as path:
+        make(path)
+        words = [PROGRAM, "ask", str(path), "stdin"]
+        with subprocess.Popen(words, stdin=subprocess.PIPE, stdout=subprocess.PIPE, bufsize=0) as asking:
+            asking.stdin.write(b"key,question,a,b,c,d\nq1,find,1,,,\n")
+            assert asking.stdout.readline().startswith(b"q1,")
+            ends(run("edit", str(path), "stdin", "--wait", "0", given=sheet_of("z1,link,9,5")), b"z1,done,8\n", 0)
+            asking.stdin.write(b"q2,find,1,,,\n")
+            asking.stdin.close()
+            assert asking.stdout.read().startswith(b"q2,")
+        is_whole(path)
+
+
 # ---- many readers and a writer
 
 BURST = 10
@@ -242,12 +270,15 @@ def assets(path, count=3_000):
     assert run("edit", str(path), str(sheet)).status == 0
 
 
-def values(path, *words):
+def values_in(told):
     """The values that are told of the assets, all of which were changed together each time."""
-    told = run("rows", str(path), *words)
     if told.status == 3:
         return told.stderr
     return frozenset(line.split(b",")[8] for line in told.stdout.splitlines()[1:])
+
+
+def values(path, *words):
+    return values_in(run("rows", str(path), *words))
 
 
 @pytest.mark.parametrize("mode, pages", [("WAL", 1_000_000), ("WAL", 20), ("DELETE", 0)])
@@ -275,6 +306,10 @@ def test_nothing_but_what_sqlite_has_committed_is_answered(mode, pages):
         writer = threading.Thread(target=write)
         writer.start()
         try:
+            # a question that has begun before sqlite's index of the log may have to wait until sqlite has gone
+            until = time.monotonic() + 60
+            while not commits and time.monotonic() < until:
+                time.sleep(0.01)
             until = time.monotonic() + SECONDS / 2
             told = []
             while time.monotonic() < until or (len(commits) < 3 and time.monotonic() < until + 60):
@@ -286,6 +321,21 @@ def test_nothing_but_what_sqlite_has_committed_is_answered(mode, pages):
             writer.join()
         whole = {frozenset([b"AA"]), frozenset([b"BB"]), frozenset([b"CC"])}
         assert told and commits and set(told) <= whole, (len(told), len(commits), set(told) - whole)
+        is_whole(path)
+
+
+def test_nothing_is_answered_of_a_file_into_which_sqlite_copies_its_log_meanwhile():
+    drawn = random.Random(5)
+    with folder() as path:
+        assets(path)
+        for n in range(20):
+            asking = begun("rows", path, "--wait", "300")
+            time.sleep(drawn.random() * 0.1)
+            with contextlib.closing(sqlite3.connect(path, isolation_level=None, timeout=60)) as db:
+                db.execute("UPDATE asset SET value = ?", ("BCA"[n % 3] * 2,))
+                db.execute("PRAGMA wal_checkpoint").fetchall()
+            told = values_in(ended(asking))
+            assert told in (frozenset(["ABC"[n % 3].encode() * 2]), frozenset(["BCA"[n % 3].encode() * 2])), (n, told)
         is_whole(path)
 
 

@@ -39,7 +39,7 @@ def test_the_page_is_one_file_and_fits_a_telephone(page):
 
 
 PARTS = """[...svg.querySelectorAll('*')].filter(e => !e.dataset.count).map(e => e.localName + [...e.attributes]
-  .filter(a => !/^shade-/.test(a.value)).map(a => ' ' + a.name + '=' + a.value) + (e.children.length ? '' : e.textContent.trim()))"""
+  .filter(a => !/^shade-/.test(a.value) && a.name !== 'data-side').map(a => ' ' + a.name + '=' + a.value) + (e.children.length ? '' : e.textContent.trim()))"""
 
 
 def test_the_diagrams_of_the_program_are_shown_whole(page):
@@ -151,17 +151,54 @@ def test_texts_stand_out_in_each_scheme(page, scheme):
         page.emulates("setEmulatedMedia", features=[])
 
 
-def test_a_route_is_printed_without_what_is_pressed(page):
+# What is wider than the paper, or has a part that only scrolling would show.
+CUT = """
+const isCut = e => e.getBoundingClientRect().right > innerWidth + 1
+  || (getComputedStyle(e).overflowY !== 'visible' && (e.scrollHeight > e.clientHeight + 1 || e.scrollWidth > e.clientWidth + 1));
+return [...document.querySelectorAll('body *:not(svg *)')].filter(e => e.getClientRects().length && isCut(e)).map(e => e.outerHTML.slice(0, 100));
+"""
+PRESSED = "return [...document.querySelectorAll('button, input, select, summary')].filter(e => e.getClientRects().length && !e.closest('th')).map(e => e.outerHTML)"
+# The pixels between the margins of a sheet of A4, across and upright.
+ACROSS, UPRIGHT = 1031, 702
+
+
+@pytest.mark.parametrize(("fragment", "css", "text", "wide"), [
+    ("#A1/abs:0..9000/abs:4500", "#hits", "SPEED", ACROSS), ("#LONG", "#rows", "YIELD", ACROSS), ("", "#edits", "e5", UPRIGHT),
+    ("#edit/162", "#record", "e1", UPRIGHT), ("#asset/10", "#entered", "e1", UPRIGHT),
+])  # fmt: skip
+def test_nothing_is_cut_off_on_paper(page, fragment, css, text, wide):
+    """And nothing that is pressed is printed."""
+    browser = page.browser
+    page.goes_to(fragment)
+    browser.shows(css, text)
+    try:
+        page.emulates("setDeviceMetricsOverride", width=wide, height=1000, deviceScaleFactor=1, mobile=False)
+        page.emulates("setEmulatedMedia", media="print", features=[{"name": "prefers-color-scheme", "value": "dark"}])
+        browser.runs("onbeforeprint()")
+        assert browser.runs(CUT) == [] and browser.runs(PRESSED) == [] and text in browser.text(css)
+        assert browser.runs("return getComputedStyle(document.body).backgroundColor") == "rgb(255, 255, 255)"
+        page.pictured("on_paper")
+        browser.runs("onafterprint()")
+    finally:
+        page.emulates("setEmulatedMedia", media="", features=[])
+        page.emulates("clearDeviceMetricsOverride")
+
+
+def test_a_route_is_printed_across_from_the_first_page_on(page):
     browser = page.browser
     page.opens_route("A1")
     browser.shows("#rows-said", "3 of 3 rows")
-    assert base64.b64decode(browser.send("POST", "/print", {})).startswith(b"%PDF")
-    try:
-        page.emulates("setEmulatedMedia", media="print")
-        left = browser.runs("return [...document.querySelectorAll('button, input, select')].filter(e => e.getClientRects().length && !e.closest('label, th')).map(e => e.outerHTML)")
-        assert left == [] and "SPEED" in browser.text("#rows") and browser.runs("return document.querySelector('#diagram svg').getBoundingClientRect().width > 300")
-    finally:
-        page.emulates("setEmulatedMedia", media="")
+    paper = base64.b64decode(page.commands("Page.printToPDF", preferCSSPageSize=True, paperWidth=8.27, paperHeight=11.69)["data"])
+    boxes = [[round(float(number)) for number in box.split()] for box in re.findall(rb"/MediaBox \[([^\]]*)\]", paper)]
+    assert paper.startswith(b"%PDF") and len(boxes) == 1 and boxes[0][2] > boxes[0][3], boxes
+
+
+def test_of_a_very_long_table_the_paper_says_how_much_is_left(page):
+    page.opens()
+    page.browser.runs("bars.show(Array.from({ length: 2500 }, (_, n) => ({ name: `R${n}`, length: n + 1 }))); onbeforeprint()")
+    assert page.browser.text("#routes tbody:last-child") == "500 more, which are not printed"
+    page.browser.runs("onafterprint()")
+    assert page.browser.text("#routes tbody:last-child").strip() == "" and len(page.rows("#routes")) < 60
 
 
 # ---- how it is put together

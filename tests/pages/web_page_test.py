@@ -76,28 +76,6 @@ def test_what_has_not_changed_is_asked_once(page):
     browser.shows("#health", "167 edits.")
 
 
-def many_routes(count):
-    return sheet_of(
-        *(f"l{n},link,{n},{1000 * n}" for n in range(1, count + 1)), *(f"r{n},route,R{n:05},{n}:0:{1000 * n}:+,0:0 {1000 * n}:{n}" for n in range(1, count + 1))
-    )
-
-
-def test_ten_thousand_routes_are_looked_through(browser, tmp_path):
-    ends(run("edit", str(tmp_path / "roads.db"), "stdin", given=many_routes(9_999), stdout=None), b"", 0)
-    with service(browser, tmp_path) as page:
-        before = page.work()
-        page.goes_to()
-        browser.shows("#routes-said", "9999 of 9999 routes.")
-        browser.shows("#edits", "r9999")
-        assert page.work() - before < 1
-        assert len(page.rows("#routes")) < 60
-        browser.runs("document.querySelector('#routes').scrollTop = 1e9")
-        browser.shows("#routes", "R09999")
-        assert len(page.rows("#routes")) < 60
-        browser.types("#filter", "0500")
-        browser.shows("#routes-said", "11 of 9999 routes.")
-
-
 # ---- two: the diagram of a route
 
 
@@ -466,7 +444,7 @@ def test_the_rows_are_sorted_filtered_and_saved(page):
     assert firsts() == [rail, sign, speed]
     browser.clicks("#rows button[value=to]")
     assert firsts() == [speed, rail, sign]
-    assert browser.runs("return [...document.querySelectorAll('#rows th')].map(h => h.getAttribute('aria-sort')).filter(s => s !== 'none')") == ["descending"]
+    assert browser.runs("return [...document.querySelectorAll('#rows th')].map(h => h.getAttribute('aria-sort')).filter(s => s && s !== 'none')") == ["descending"]
     browser.types("#row-filter", "s to")
     browser.shows("#rows-said", "1 of 3 rows")
     assert firsts() == [sign]
@@ -492,22 +470,6 @@ def test_the_rows_are_those_of_the_stretch(page):
     browser.waits_for("a mark", lambda browser: browser.runs("return document.querySelectorAll('[data-mark=\"asset 11\"] rect').length") == 1)
     browser.shows("#rows-said", "3 of 3 rows")
     assert browser.runs("return [document.activeElement.textContent, document.activeElement.getAttribute('aria-current')]") == ["11", "true"]
-
-
-def test_twenty_thousand_rows_of_a_route(browser, tmp_path):
-    many = ["c1,class,LANE,stretch", "l1,link,1,20000000", "r1,route,WIDE,1:0:20000000:+,0:0 20000000:20000"]
-    many += [f"e{n},enter,{n + 1},LANE,WIDE,{'LR'[n % 2]},abs,{n},{n + 1},{n % 5},0" for n in range(20_000)]
-    ends(edit(tmp_path / "roads.db", sheet_of(*many), stdout=None), b"", 0)
-    with service(browser, tmp_path) as page:
-        before = page.work()
-        page.opens_route("WIDE")
-        browser.shows("#rows-said", "20000 of 20000 rows")
-        assert page.work() - before < 4
-        assert len(page.rows("#rows")) < 60
-        browser.types("#row-filter", "19999")
-        browser.shows("#rows-said", "1 of 20000 rows")
-        browser.clicks("#in")
-        page.draws("WIDE", 5_000_000, 15_000_000)
 
 
 # ---- eight: what is found
@@ -539,7 +501,7 @@ FOUND = [
     ("value", "none", "No row has the value none.", ""),
     ("class", "sign", "SIGN has 2 rows.", "A1: measures ≈ 5998.800 to 6000 (4.999 to 5.000 m), right: SIGN STOP, asset 12"),
     ("class", "NONE", "Error: NoClass: there is no class of this name.", ""),
-    ("key", "e3", "Key e3 is edit 164.", "enter 12 SIGN A1 R int 4999/8000 STOP 1500"),
+    ("key", "e3", "Key e3 is edit 164.", "Edit 164: enter 12 SIGN A1 R int 4999/8000 STOP 1500"),
     ("key", "e9", "No edit has the key e9.", ""),
     ("ref", "km", "1 referent of this name or part of a name.", "KM2 on A1, at 0.002 m"),
     ("route", "lo", "1 route of this name or part of a name.", "LONG 6000.000 m"),

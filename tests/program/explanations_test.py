@@ -451,8 +451,8 @@ def test_there_is_help_on_each_verb():
         table = section(verb).partition("| Refused |")[2]
         causes = [cause.replace("`", "") for cause in re.findall(r"^\| (`[^|]*?) \|", table, re.M)]
         assert re.findall(r"^([A-Z]\w+(?::N)?(?:, \w+)*)  ", text.partition("in this order:\n")[2], re.M) == causes, verb
-        fields = re.findall(r"^\| (\w+) \| ([a-i]), ([C-K]) \|", section(verb), re.M)
-        assert re.findall(r"^(\w+) +([a-i]), ([C-K])  ", text, re.M) == fields and fields, verb
+        fields = re.findall(r"^\| (\w[\w ]*) \| ([a-i]), ([C-K]) \|", section(verb), re.M)
+        assert re.findall(r"^(\w[\w ]*?) +([a-i]), ([C-K])  ", text, re.M) == fields and fields, verb
 
 
 @pytest.mark.parametrize("verb", VERBS)

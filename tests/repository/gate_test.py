@@ -148,7 +148,8 @@ def test_the_gate_uses_all_processors_that_have_memory_for_a_check():
     assert run_gate(rt, others=[("nproc", "echo 3")], RT_JOBS="1") == ("8 passed, 0 failed", 0)
 
 
-# what .ci/run looks for, and the packages that have it; it finds nginx and HAProxy by their paths
+# what .ci/run looks for, and the packages that have it; others it finds by their paths
+BY_PATH = ("nginx-light", "haproxy", "postgresql")
 INSTALLED = {
     "cc": "gcc libc6-dev",
     "sqlite3": "sqlite3",
@@ -185,12 +186,12 @@ def installs(folder, without):
 def test_what_the_tests_need_is_installed_where_it_is_missing(tmp_path, without, packages):
     asked = installs(tmp_path, without).splitlines()
     assert asked[0].split()[0] == "update" and asked[1].startswith("install ") and len(asked) == 2, asked
-    assert [name for name in asked[1].split()[1:] if name not in ("nginx-light", "haproxy") and not name.startswith("-")] == packages.split()
+    assert [name for name in asked[1].split()[1:] if name not in BY_PATH and not name.startswith("-")] == packages.split()
 
 
 def test_the_readme_and_the_page_of_the_gate_name_what_the_tests_need():
     for page in [TOP / "README.md", TOP / "docs" / "GATE.md"]:
-        for packages in [*INSTALLED.values(), "python3-pytest", "nginx-light", "haproxy"]:
+        for packages in [*INSTALLED.values(), "python3-pytest", *BY_PATH]:
             for package in set(packages.split()) - {"chromium", "fonts-dejavu-core"}:
                 assert package in page.read_text(), (page.name, package)
 

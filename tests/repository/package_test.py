@@ -95,7 +95,8 @@ def test_an_operator_finds_everything(package, files):
     units = [f"{UNITS}/{name}" for name in ["roadlrs@.service", "roadlrs-backup@.service", "roadlrs-backup@.timer"]]
     examples = [f"{EXAMPLES}/{name}" for name in ["roadlrs.conf", "nginx.conf", "haproxy.cfg", *os.listdir(TOP / "examples")]]
     manual = [f"usr/share/man/man1/{name}.1.gz" for name in ["roadlrs", *(f"roadlrs-{command}" for command in commands(files))]]
-    docs = [str(path.relative_to(TOP)) for pattern in ["*.md", "openapi.json", "pictures/*"] for path in (TOP / "docs").glob(pattern)]
+    pages = [path for pattern in ["*.md", "openapi.json", "pictures/*", "recipes/**/*"] for path in (TOP / "docs").glob(pattern)]
+    docs = [str(path.relative_to(TOP)) for path in pages if path.is_file()]
     doc = [f"usr/share/doc/roadlrs/{name}" for name in ["README.md", "manifest", "copyright", "changelog.gz", *docs]]
     completions = ["usr/share/bash-completion/completions/roadlrs"]
     wanted = {*EXECUTABLE, *units, *examples, *manual, *doc, *completions}

@@ -28,7 +28,7 @@ def test_the_example_of_the_readme():
         ends(run("edit", ":memory:", "first.csv", cwd=folder), replies.encode(), 1)
 
 
-PAGES = [TOP / "README.md", *sorted((TOP / "docs").glob("*.md")), *sorted((TOP / "crates").glob("*/README.md"))]
+PAGES = [TOP / "README.md", *sorted((TOP / "docs").glob("**/*.md")), *sorted((TOP / "crates").glob("*/README.md"))]
 
 
 def test_links_of_the_documents_lead_somewhere():

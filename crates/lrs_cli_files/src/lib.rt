@@ -3,9 +3,11 @@
 
 mod keeper;
 mod place;
+mod questions;
 mod stored;
 mod system;
 
 pub use keeper::FileKeeper;
+pub use questions::FileQuestions;
 pub use stored::StoredFiles;
 pub use system::SystemFiles;

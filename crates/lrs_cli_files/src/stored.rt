@@ -8,13 +8,15 @@ ghost use Rattle.lrs_store_questions.specs.FileAnswers.{HasRead};
 
 use crate::keeper::{FileKeeper, FileTables};
 use crate::place::Place;
+use crate::questions::FileQuestions;
 use lrs_desk::{Files, OpenFault, Staged};
 use lrs_store::{Tables, closed_files, discard_files, let_files_go, open_file};
 use lrs_store_image::Reader;
-use lrs_store_questions::{Questions, StillFrom, open_for_questions};
+use lrs_store_questions::{ReadLock, StillFrom, open_for_questions};
 use lrs_store_tables::StoreFault;
 use sqlite::{Alter, FileFrom, FileStore, Start};
 use sqlite_disk::Disk;
+use std::io::ErrorKind;
 use std::mem;
 use std::rt::HostRuntime;
 
@@ -74,7 +76,7 @@ impl<S: Start, T: Start> StoredFiles<S, T> {
 impl<S: Start, T: Start> Files for StoredFiles<S, T> {
     type Kept = FileKeeper<FileStore<FileFrom<S>>>;
 
-    type Seen = Questions<FileStore<StillFrom<T>>>;
+    type Seen = FileQuestions<FileStore<StillFrom<T>>>;
 
     ghost has_opened = { IsContentOf (image_at S.Start) };
 
@@ -108,8 +110,19 @@ impl<S: Start, T: Start> Files for StoredFiles<S, T> {
         let Some(seen) = self.seen.take() else {
             return Ok(None);
         };
-        match open_for_questions(rt, path, seen) {
-            Ok(keeper) => Ok(Some(keeper)),
+        let lock = match ReadLock::take(rt, path) {
+            Ok(lock) => lock,
+            Err(error) if error.kind() == ErrorKind::OutOfMemory => return Err(OpenFault::Memory),
+            Err(_) => {
+                self.is_refused = true;
+                return Ok(None);
+            }
+        };
+        match open_for_questions(rt, path, &lock, seen) {
+            Ok(inner) => Ok(Some(FileQuestions {
+                inner,
+                lock: Some(lock),
+            })),
             Err(refusal) => {
                 self.is_refused = !refusal.may_be_taken;
                 match refusal.into_fault() {

@@ -1,9 +1,10 @@
 //! Inventories in files of the system, of which nothing is known before they are opened.
 
 use crate::keeper::FileKeeper;
+use crate::questions::FileQuestions;
 use crate::stored::StoredFiles;
 use lrs_desk::{Files, OpenFault};
-use lrs_store_questions::{Questions, StillFrom};
+use lrs_store_questions::StillFrom;
 use sqlite::{FileFrom, FileStore, Unknown};
 use std::rt::HostRuntime;
 
@@ -25,7 +26,7 @@ impl SystemFiles {
 impl Files for SystemFiles {
     type Kept = FileKeeper<FileStore<FileFrom<Unknown>>>;
 
-    type Seen = Questions<FileStore<StillFrom<Unknown>>>;
+    type Seen = FileQuestions<FileStore<StillFrom<Unknown>>>;
 
     ghost has_opened = { ⟦<StoredFiles<Unknown, Unknown> as Files>⟧.has_opened };
 

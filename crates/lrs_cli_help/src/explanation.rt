@@ -242,7 +242,7 @@ pub fn explain_keep(rt: &HostRuntime, job: &Job<'_>) {
     say_of(rt, db, failed_keeping(rt, db));
     say(
         rt,
-        "what was answered done is kept; of the at most 256 records behind it all or none",
+        "what was answered done is kept; of the at most 1,024 records behind it all or none",
     );
     if does_records(job) {
         say(

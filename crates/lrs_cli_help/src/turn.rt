@@ -5,6 +5,7 @@
 //! the other, do not keep it out for ever.
 
 use crate::holder::{COUNT_LOCKED, FIRST_LOCKED, Holder, holder_of};
+use lrs_store_questions::ReadLock;
 use os::RangeLock;
 use std::fs::OpenOptions;
 use std::io::{self, ErrorKind};
@@ -20,12 +21,6 @@ type LockedBytes = (u64, u64);
 const GATE: LockedBytes = (FIRST_LOCKED + COUNT_LOCKED, 1);
 
 const OF_DATABASE: LockedBytes = (FIRST_LOCKED, COUNT_LOCKED);
-
-// On the index of a log, as SQLite has it: to copy the log into the database, and the last of those by which readers keep
-// a log from being begun anew. Who has them shared lets others append to the log, and read.
-const OF_COPYING: LockedBytes = (121, 1);
-
-const OF_READERS: LockedBytes = (127, 1);
 
 // How long is waited before a lock is tried again, at first and at the most.
 const SHORTEST_PAUSE: u64 = 1;
@@ -79,12 +74,12 @@ impl Patience {
     }
 }
 
-/// A turn at a file. Until it ends it has the gate, and, of a file that is only read, the locks on the index of a log of
-/// SQLite's, if there is one.
+/// A turn at a file. Until it ends it has the gate, and, of a file that is only read, a reader's locks: so nobody comes
+/// between them and those of the opening.
 #[derive(Drop)]
 pub struct Turn {
     gate: Option<fs::File>,
-    index: Option<fs::File>,
+    reader: Option<ReadLock>,
 }
 
 impl Turn {
@@ -137,24 +132,23 @@ fn open_to_lock(rt: &HostRuntime, path: &str, purpose: Purpose) -> Option<fs::Fi
     Some(file)
 }
 
-// The index of a log beside a database that is only read, where there is one.
-fn open_index(rt: &HostRuntime, path: &str, purpose: Purpose) -> Option<fs::File> {
+// Whether a lock of another is in the way of an opening. Where none is, who only looks has a reader's locks from now on.
+fn is_taken(
+    rt: &HostRuntime,
+    path: &str,
+    file: &fs::File,
+    purpose: Purpose,
+    reader: &mut Option<ReadLock>,
+) -> bool {
     if purpose == Purpose::Change {
-        return None;
+        return would_be_kept_out(file, RangeLock::Exclusive, OF_DATABASE);
     }
-    let real = fs::canonicalize(rt, path).ok()?;
-    let index_path = format!(in rt.alloc(); "{}-shm", real.as_str()).ok()?;
-    open_to_lock(rt, index_path.as_str(), Purpose::Look)
-}
-
-// Whether somebody copies a log into its database, or begins it anew; where nobody does, nobody can from now on.
-fn is_copied(index: &Option<fs::File>) -> bool {
-    match index {
-        Some(index) => {
-            is_kept_out(index, RangeLock::Shared, OF_COPYING)
-                || is_kept_out(index, RangeLock::Shared, OF_READERS)
+    match ReadLock::take(rt, path) {
+        Ok(lock) => {
+            *reader = Some(lock);
+            false
         }
-        None => false,
+        Err(error) => error.kind() == ErrorKind::WouldBlock,
     }
 }
 
@@ -175,17 +169,17 @@ fn wait_at(
     rt: &HostRuntime,
     path: &str,
     file: &fs::File,
-    index: &Option<fs::File>,
     purpose: Purpose,
     patience: Patience,
+    reader: &mut Option<ReadLock>,
 ) -> bool {
     let kind = kind_for(purpose);
     let (mut is_at_gate, mut is_told) = (false, false);
     let mut pause = SHORTEST_PAUSE;
     for _turn in 0..u64::MAX {
         is_at_gate = is_at_gate || !is_kept_out(file, kind, GATE);
-        let is_free = is_at_gate && !would_be_kept_out(file, kind, OF_DATABASE);
-        if is_free && !is_copied(index) || patience.is_over(rt) {
+        let is_free = is_at_gate && !is_taken(rt, path, file, purpose, reader);
+        if is_free || patience.is_over(rt) {
             return is_told;
         }
         if patience.tells
@@ -205,7 +199,7 @@ fn wait_at(
 fn no_turn() -> Turn {
     Turn {
         gate: None,
-        index: None,
+        reader: None,
     }
 }
 
@@ -224,15 +218,15 @@ pub fn take_turn(rt: &HostRuntime, path: &str, purpose: Purpose, patience: Patie
         let Some(file) = open_to_lock(rt, path, purpose) else {
             return no_turn();
         };
-        let index = open_index(rt, path, purpose);
-        if wait_at(rt, path, &file, &index, purpose, patience) {
+        let mut reader = None;
+        if wait_at(rt, path, &file, purpose, patience, &mut reader) {
             let _ = eprint!(rt; "\r\x1b[K");
         }
         // who had the file may have taken it away
         if is_named(rt, path, &file) || patience.is_over(rt) {
             return Turn {
                 gate: Some(file),
-                index,
+                reader,
             };
         }
     }

@@ -208,11 +208,11 @@ docs/SHEETS.md has more, and what every record may be refused for.
 
 static SPLIT: &str = "split: Divides a route at a mark: the part from there on becomes a new route.
 
-Field    Column  It may hold
-route    a, C    the route
-chainage b, D    where, in mm from its start: that of a mark, not the first or
-                 the last
-new routec, E    the name of the second part
+Field     Column  It may hold
+route     a, C    the route
+chainage  b, D    where, in mm from its start: that of a mark, not the first or
+                  the last
+new route c, E    the name of the second part
 
 Example:
 KM-2026-11-26-0033,split,A38,2500000,A380,,,,,,
@@ -230,9 +230,9 @@ docs/SHEETS.md has more, and what every record may be refused for.
 
 static RENUMBER: &str = "renumber: Gives a route another name.
 
-Field    Column  It may hold
-route    a, C    the route
-new routeb, D    its new name
+Field     Column  It may hold
+route     a, C    the route
+new route b, D    its new name
 
 Example:
 KM-2026-11-26-0035,renumber,A380,A381,,,,,,,

@@ -39,7 +39,7 @@ struct Target<'a> {
     existing: bool,
     /// How long it is waited for where another program has it.
     patience: Patience,
-    /// The file that this run has made for it.
+    /// The file that this run has made for it, and takes away again where nothing is done.
     made: Option<MadeFile>,
     /// It has this identity, or nothing is done.
     expected: Option<[u8; 16]>,
@@ -351,14 +351,21 @@ fn tell_making(rt: &HostRuntime, path: &str, shown: ProgressDisplay) {
     }
 }
 
-// The same target, with a file that is made for it where nothing is.
-fn made_at<'a>(rt: &HostRuntime, target: Target<'a>) -> Target<'a> {
+// Whether work is a sheet that is done as a whole or not at all.
+fn is_all_or_nothing(work: &Work<'_>) -> bool {
+    matches!(work, Work::Sheet { all: true, .. })
+}
+
+// The same target, with a file that is made for it where nothing is. It is taken away again only where nothing is to be
+// done unless all is.
+fn made_for<'a>(rt: &HostRuntime, target: Target<'a>, work: &Work<'_>) -> Target<'a> {
+    let made = make_file(rt, target.path);
     Target {
         path: target.path,
         new_has_sums: target.new_has_sums,
         existing: target.existing,
         patience: target.patience,
-        made: make_file(rt, target.path),
+        made: if is_all_or_nothing(work) { made } else { None },
         expected: target.expected,
     }
 }
@@ -378,7 +385,8 @@ fn do_in_new<F: Files, S: Sheets, W: Write + Drop>(
 {
     if makes(&work) {
         tell_making(world.rt, target.path, world.shown);
-        return do_with_log(world, files, made_at(world.rt, target), work, to);
+        let target = made_for(world.rt, target, &work);
+        return do_with_log(world, files, target, work, to);
     }
     if matches!(work, Work::Check { .. }) {
         return do_in_memory(world, target.expected, work, to);

@@ -13,7 +13,7 @@ use Rattle.lrs_sheet.specs.declared.repetition.RepeatedKey.{RepeatedKey as Twice
 use Rattle.lrs_sheet.specs.declared.resumption.Decided.{Decided}
 use Rattle.lrs_sheet.specs.declared.run.Run.{Run}
 use Rattle.lrs_sheet.specs.Repetition.{HasKeysOnce, IsRepeated}
-use Rattle.lrs_sheet.specs.Resumption.{IsDecidedBy}
+use Rattle.lrs_sheet.specs.Resumption.{IsDecidedBy, IsSearchFault}
 use Rattle.lrs_sheet.specs.Runs.{IsRunBehind}
 use Rattle.lrs_sheet.specs.Sheets.{GoesAlong, IsAfterCommands, MustReopen, records_together}
 use Rattle.lrs_cli_tasks.specs.declared.endings.Ending.{Ending}
@@ -54,12 +54,13 @@ abbrev pub GoesOnBehind : Sheet → Image → Text → ℕ → Type 0
 GoesOnBehind kind image text passed = HasKeysOnce kind text × ((d : Decided) × (front : List (List Text)) × IsDecidedBy kind (state_of image) text d front × (passed ≡ d.records))
 
 -- Why a sheet does not go on: a key stands twice in it; or it is not known behind which record, for a fault of the search.
-abbrev pub DoesNotGoOn : Sheet → Text → ProgramFault → Type 0
-DoesNotGoOn kind text fault = ((twice : Twice) × IsRepeated kind text twice × (fault ≡ RepeatedKey)) ⊎ ((why : SheetFault) × (fault ≡ fault_of_sheet why))
+abbrev pub DoesNotGoOn : Bool → Sheet → Text → ProgramFault → Type 0
+DoesNotGoOn must_reopen kind text fault =
+    ((twice : Twice) × IsRepeated kind text twice × (fault ≡ RepeatedKey)) ⊎ ((why : SheetFault) × IsSearchFault must_reopen why × (fault ≡ fault_of_sheet why))
 
 -- so the program ends, with a sheet of this text, where it is known
-abbrev pub EndsUnresumed : Sheet → Option Text → Ending → Type 0
-EndsUnresumed kind known ending = (text : Text) × IfSome known (λ t. text ≡ t) × (fault : ProgramFault) × DoesNotGoOn kind text fault × (ending ≡ Stopped fault)
+abbrev pub EndsUnresumed : Bool → Sheet → Option Text → Ending → Type 0
+EndsUnresumed must_reopen kind known ending = (text : Text) × IfSome known (λ t. text ≡ t) × (fault : ProgramFault) × DoesNotGoOn must_reopen kind text fault × (ending ≡ Stopped fault)
 
 module _ {K : Type 0} (holds : K → Result Image Table → Type 0) where
   -- The desk goes along with its keeper, or a commit of it has failed.
@@ -94,7 +95,7 @@ module _ {K : Type 0} (holds : K → Result Image Table → Type 0) where
 
   -- the sheet does not go on: nothing is done, and nothing is written
   abbrev pub IsUnresumed : Sheet → Option Text → DeskView K → DeskView K → Option Text → Option Text → Ending → Type 0
-  IsUnresumed kind known before after old new ending = (after ≡ before) × (new ≡ old) × EndsUnresumed kind known ending
+  IsUnresumed kind known before after old new ending = (after ≡ before) × (new ≡ old) × EndsUnresumed before.must_reopen kind known ending
 
   -- The sheet was run behind the records that are decided: those of its text.
   pub record EndsResumed (kind : Sheet) (known : Option Text) (before after : DeskView K) (old new : Option Text) (ending : Ending) : Type 0 where

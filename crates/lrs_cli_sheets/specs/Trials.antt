@@ -101,14 +101,14 @@ module _ {K : Type 0} (holds : K → Result Image Table → Type 0) where
       ⊎ ((IsAccepted outcome → ⊥) × (after ≡ before) × (new ≡ old) × (ending ≡ ending_of_sheet outcome))
 
   -- a sheet was not tried: there was no memory, or it was not read; or it was to go on, and does not
-  abbrev pub IsUntried : Sheet → Bool → Option Text → Ending → Type 0
-  IsUntried kind resumes known ending = ((ending ≡ Stopped Memory) ⊎ (ending ≡ Stopped Read)) ⊎ ((resumes ≡ true) × EndsUnresumed kind known ending)
+  abbrev pub IsUntried : Bool → Sheet → Bool → Option Text → Ending → Type 0
+  IsUntried must_reopen kind resumes known ending = ((ending ≡ Stopped Memory) ⊎ (ending ≡ Stopped Read)) ⊎ ((resumes ≡ true) × EndsUnresumed must_reopen kind known ending)
 
   -- A sheet is done as a whole or not at all; or it was not tried, and nothing is done or written.
   abbrev pub EndsAll : Sheet → Bool → Option Text → DeskView K → DeskView K → Option Text → Option Text → Ending → Type 0
   EndsAll kind resumes known before after old new ending =
       IsDoneAll kind resumes known before after old new ending ⊎ IsRefusedAll kind resumes known before after old new ending
-      ⊎ ((after ≡ before) × (new ≡ old) × IsUntried kind resumes known ending)
+      ⊎ ((after ≡ before) × (new ≡ old) × IsUntried before.must_reopen kind resumes known ending)
 
   -- How the program ends with a sheet: done as it comes, or as a whole or not at all.
   abbrev pub EndsGiven : Sheet → Bool → Bool → Option Text → DeskView K → DeskView K → Option Text → Option Text → Ending → Type 0

@@ -299,6 +299,7 @@ fn tell_repeated<R: Runtime<A = Global>>(rt: &R, twice: &RepeatedKey) {
 }
 
 // Behind how many of its records a sheet goes on, where no two have one key. Standard error tells it.
+#[tactic(auto, using(crate::proofs::Searching::search_fault))]
 pub(crate) fn passed_over<R: Runtime<A = Global>, K: Keeper>(
     rt: &R,
     desk: &Desk<K>,
@@ -306,7 +307,7 @@ pub(crate) fn passed_over<R: Runtime<A = Global>, K: Keeper>(
     text: &[u8],
 ) -> Result<u32, ProgramFault>
     ensures passed { IfOk result (GoesOnBehind kind desk.now.image text.now) }
-    ensures faults { IfErr result (DoesNotGoOn kind text.now) }
+    ensures faults { IfErr result (DoesNotGoOn desk.now.must_reopen kind text.now) }
 {
     match repeated_key(rt.alloc(), kind, text) {
         Ok(None) => {}

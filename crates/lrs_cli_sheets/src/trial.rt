@@ -182,7 +182,8 @@ fn passed_of<R: Runtime<A = Global>, K: Keeper>(
     text: &[u8],
 ) -> Result<u32, ProgramFault>
     ensures passed { IfOk result (ArePassed kind resumes desk.now.image text.now) }
-    ensures faults { IfErr result (λ e. (resumes ≡ true) × DoesNotGoOn kind text.now e) }
+    ensures faults { IfErr result (λ e. (resumes ≡ true)
+        × DoesNotGoOn desk.now.must_reopen kind text.now e) }
 {
     if resumes {
         passed_over(rt, desk, kind, text)

@@ -11,7 +11,7 @@ use clap::Command;
 use std::alloc::{AllocError, Global};
 
 /// The version of the program, and the kit that proved it.
-static VERSION: &str = "0.8.16, proved by rattle-kit-13f logic dac8208d650f15bf";
+static VERSION: &str = "0.8.17, proved by rattle-kit-13b logic dac8208d650f15bf";
 
 // What help says of the words.
 const DB: &str = "The inventory's file, or :memory: for a fresh one in memory";
@@ -23,9 +23,10 @@ const FILE: &str = "The file that a spreadsheet wrote, or stdin for the standard
 const QUESTIONS: &str = "The file of the questions, or stdin for the standard input";
 
 // What help says of the program, behind its commands.
-static GENERAL: &str = "Two options go with every command, anywhere after roadlrs:
+static GENERAL: &str = "Three options go with every command, anywhere after roadlrs:
   --existing  a DB that is not there is a fault, and no new inventory
   --explain   of a fault, says what was found and what to do
+  --wait S    waits S seconds, 5 unless said, for a DB that another program has
 
 roadlrs help VERB shows the fields and the refusals of a verb of edit sheets.";
 

@@ -13,6 +13,7 @@ ghost use Rattle.lrs_store_questions.specs.FileAnswers.{HasRead, IsLeftAt};
 use crate::files::open_store;
 use crate::image::{TABLES, tables_in};
 use crate::keeper::Questions;
+use crate::lock::ReadLock;
 use crate::pair::{StillFrom, open_pair};
 use lrs_store_files::Known;
 use lrs_store_tables::StoreFault;
@@ -124,6 +125,7 @@ pub fn files_for_questions<D: Disk + Drop>(
 fn pair_at<S: Start>(
     rt: &HostRuntime,
     path: &str,
+    lock: &ReadLock,
     start: S,
 ) -> Result<Files<StillFrom<S>>, StoreFault>
     ensures usable { IfOk result (λ files. IsTrue (still_is_usable S.Start files.log)
@@ -133,7 +135,7 @@ fn pair_at<S: Start>(
     if path == ":memory:" || path.starts_with("file:") {
         return Err(StoreFault::Store);
     }
-    match open_pair(rt, path, start) {
+    match open_pair(rt, path, lock, start) {
         Ok(files) => Ok(files),
         Err(error) if error.kind() == ErrorKind::OutOfMemory => Err(StoreFault::Memory),
         Err(_) => Err(StoreFault::Store),
@@ -148,14 +150,16 @@ fn options(rt: &HostRuntime) -> Result<Options, StoreFault> {
     }
 }
 
-/// The inventory in the files at a path, kept for questions. `start` stands for what the files hold. Nothing is loaded
-/// yet. The files are only read, and none is made.
+/// The inventory in the files at a path, kept for questions, under the locks on them: who holds them until it is loaded
+/// reads what was committed last before. `start` stands for what the files hold. Nothing is loaded yet. The files are
+/// only read, and none is made.
 ///
 /// # Errors
-/// As `files_for_questions`, and `Store` where the system does not open the files, or another program writes them.
+/// As `files_for_questions`, and `Store` where the system does not open the files, or the locks are those of another.
 pub fn open_for_questions<S: Start>(
     rt: &HostRuntime,
     path: &str,
+    lock: &ReadLock,
     start: S,
 ) -> Result<Questions<FileStore<StillFrom<S>>>, QuestionsNotOpened<StillFrom<S>>>
     ensures unloaded { IfOk result (λ k. k.is_loaded ≡ false) }
@@ -168,7 +172,7 @@ pub fn open_for_questions<S: Start>(
     ensures unharmed { IfErr result (λ e. IfSome e.left (λ left. IsCleanLeft left
         → IsLeftAt (image_at S.Start) left)) }
 {
-    let files = match pair_at(rt, path, start) {
+    let files = match pair_at(rt, path, lock, start) {
         Ok(files) => files,
         Err(fault) => {
             return Err(QuestionsNotOpened {

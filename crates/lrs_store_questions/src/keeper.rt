@@ -29,6 +29,19 @@ fn failures_after(failures: u64, fault: &LoadFault) -> u64
     }
 }
 
+impl<S: Alter> Questions<S> {
+    /// Gives up what was read, as where others may have written meanwhile. What may be found stays as it is; the count of
+    /// failures rises.
+    pub fn give_up(&mut self)
+        ensures risen { HasRisen self.old.failures self.new.failures }
+        ensures counts { self.old.failures ≤ self.new.failures }
+        ensures kept { self.new.store ≡ self.old.store }
+    {
+        self.is_loaded = false;
+        self.failures = failures_after(self.failures, &LoadFault::Store);
+    }
+}
+
 impl<S: Alter> Holder for Questions<S> {
     ghost use Rattle.sqlite_trees.specs.View.{IsClean};
     ghost use Rattle.lrs_store_questions.specs.Readings.{MayTell, IsTold};

@@ -3,8 +3,8 @@
 ghost use Rattle.std.specs.Prelude.{true, false, IsTrue, IfOk};
 ghost use Rattle.lrs_store_questions.specs.StillFiles.{still_is_usable, IsFresh};
 
+use crate::lock::ReadLock;
 use crate::still::Still;
-use os::RangeLock;
 use sqlite::{Files, Start};
 use sqlite_disk::Modelled;
 use std::fs;
@@ -17,8 +17,8 @@ use std::rt::HostRuntime;
 /// A file that held what `S` says, opened to be read alone.
 pub type StillFrom<S> = Modelled<Still, S>;
 
-// Opens a regular file that has one name and that nobody writes.
-fn open_file(rt: &HostRuntime, path: &str) -> io::Result<fs::File> {
+// Opens a regular file that has one name.
+pub(crate) fn open_regular(rt: &HostRuntime, path: &str) -> io::Result<fs::File> {
     if !fs::symlink_metadata(rt, path)?.is_file() {
         return Err(ErrorKind::Unsupported.into());
     }
@@ -32,17 +32,12 @@ fn open_file(rt: &HostRuntime, path: &str) -> io::Result<fs::File> {
     if !is_named || !found.is_file() || found.nlink() != 1 {
         return Err(ErrorKind::Unsupported.into());
     }
-    // SQLite's pending, reserved and shared locks. A file that is open to be read gets no lock but a shared one: it keeps
-    // out all that write as SQLite does, and lets others read.
-    if os::try_lock_range(file.as_raw_fd(), RangeLock::Shared, 1 << 30, 512) != 0 {
-        return Err(io::Error::from_raw_os_error(os::errno()));
-    }
     Ok(file)
 }
 
 // Opens the log, if it is there.
 fn open_log(rt: &HostRuntime, path: &str) -> io::Result<Option<fs::File>> {
-    match open_file(rt, path) {
+    match open_regular(rt, path) {
         Ok(file) => Ok(Some(file)),
         Err(error) if error.kind() == ErrorKind::NotFound => Ok(None),
         Err(error) => Err(error),
@@ -62,13 +57,15 @@ fn has_hot_journal(rt: &HostRuntime, path: &str) -> io::Result<bool> {
     Ok(journal.read(&mut first)? == 1 && first[0] != 0)
 }
 
-/// The log and the database file at `path`, of which none is made. `_start` stands for what they hold.
+/// The log and the database file at `path`, of which none is made, under the locks on them. `_start` stands for what they
+/// hold.
 ///
 /// # Errors
-/// Where the system does not open them, another program writes them, or SQLite left a journal beside them.
+/// Where the system does not open them, the locks are those of another file, or SQLite left a journal beside them.
 pub(crate) fn open_pair<S: Start>(
     rt: &HostRuntime,
     path: &str,
+    lock: &ReadLock,
     _start: S,
 ) -> io::Result<Files<StillFrom<S>>>
     ensures log { IfOk result (λ files. IsTrue (still_is_usable S.Start files.log)) }
@@ -77,7 +74,10 @@ pub(crate) fn open_pair<S: Start>(
 {
     // As in SQLite, the files lie where a link leads, and no link is followed after that.
     let real = fs::canonicalize(rt, path)?;
-    let db = open_file(rt, real.as_str())?;
+    let db = open_regular(rt, real.as_str())?;
+    if !lock.is_on(&db)? {
+        return Err(ErrorKind::Unsupported.into());
+    }
     let journal = format!(in rt.alloc(); "{}-journal", real.as_str())?;
     if has_hot_journal(rt, journal.as_str())? {
         return Err(ErrorKind::Unsupported.into());

@@ -7,47 +7,54 @@ pub static PAGE: &str = r##"<!doctype html>
 <meta charset="utf-8">
 <meta name="viewport" content="width=device-width, initial-scale=1">
 <meta name="color-scheme" content="light dark">
-<meta http-equiv="Content-Security-Policy" content="default-src 'none'; style-src 'unsafe-inline'; script-src 'sha256-/YZ4K/Lni/CDEl5ro5kzflZvXN+z6FvqwO7NdxKRX24='; img-src data:; connect-src 'self'; form-action 'none'; base-uri 'none'">
+<meta http-equiv="Content-Security-Policy" content="default-src 'none'; style-src 'unsafe-inline'; script-src 'sha256-ZGK4Y0FYcwksAD6f8Qt00lDeq0tDIlPl591Mn3xJLQo='; img-src data:; connect-src 'self'; form-action 'none'; base-uri 'none'">
 <title>Road inventory</title>
 <link rel="icon" href="data:,">
 <style>
-:root{--text:#1a1a1a;--paper:#fff;--ground:#f3f4f6;--line:#8a93a0;--field:#59626f;--press:#e8ecf2;--over:#d5dce6;--head:#1d3557;--link:#1d4f91;--focus:#b35900;--bar:#5b83b8;--post:#12263f;
---bad:#7a1414;--bad-ground:#fdeaea;--good:#0b4d1a;--good-ground:#e3f4e6;--known:#173f85;--known-ground:#e6eefb;}@media screen and (prefers-color-scheme:dark){:root{
---text:#e8e8e8;--paper:#1b1f26;--ground:#101318;--line:#6d7685;--field:#9aa4b2;--press:#2c333e;--over:#3a4350;--head:#16283f;--link:#9cc4ff;--focus:#ffb04d;--bar:#5b83b8;--post:#fff;
---bad:#ffb3b3;--bad-ground:#401a1a;--good:#a8e6b4;--good-ground:#12331a;--known:#b3ccff;--known-ground:#16284a;}#diagram svg,.swatch{filter:invert(1) hue-rotate(180deg);}}*{box-sizing:border-box;}[hidden]{display:none !important;}
-body{margin:0;font:16px/1.4 system-ui,"DejaVu Sans",sans-serif;color:var(--text);background:var(--ground);}header{display:flex;flex-wrap:wrap;gap:.4rem 1.5rem;align-items:end;padding:.6rem 1rem;background:var(--head);color:#fff;}
-header p{margin:0 0 0 auto;}header .bad{color:var(--bad);}h1{margin:0 auto 0 0;font-size:1.2rem;}h1 a{color:inherit;text-decoration:none;}h2{margin:0 0 .5rem;font-size:1.05rem;}h3{margin:.6rem 0 .2rem;font-size:1rem;}p{margin:0 0 .5rem;}
-a{color:var(--link);}main{display:grid;gap:.8rem;padding:.8rem;grid-template-columns:minmax(0,1fr);}[tabindex="-1"]:focus{outline:none;}#network,#route{display:grid;gap:.8rem;grid-template-columns:minmax(0,1fr);}
-section,details{padding:.8rem;background:var(--paper);border:1px solid var(--line);border-radius:4px;min-width:0;}summary{cursor:pointer;font-weight:bold;min-height:1.5rem;}
-form,.buttons{display:flex;flex-wrap:wrap;gap:.5rem;align-items:end;margin:0 0 .5rem;}label{display:inline-flex;flex-direction:column;font-size:.85rem;}
+:root{--text:#1a1a1a;--paper:#fff;--ground:#f3f4f6;--line:#7d8794;--field:#59626f;--press:#e8ecf2;--over:#d5dce6;--head:#1d3557;--link:#1d4f91;--focus:#b35900;--on-head:#ffb04d;--bar:#5b83b8;--post:#12263f;
+--ink:#000;--sheet:#fff;--depth-0:58.5%;--depth-1:65%;--piece-0:#7b7b7b;--piece-1:#8d8d8d;--point:#b3540a;--mark:#8f1616;--bad:#7a1414;--bad-ground:#fdeaea;--good:#0b4d1a;--good-ground:#e3f4e6;--known:#173f85;--known-ground:#e6eefb;}
+@media screen and (prefers-color-scheme:dark){:root{--text:#e8e8e8;--paper:#1b1f26;--ground:#101318;--line:#7b8594;--field:#9aa4b2;--press:#2c333e;--over:#3a4350;--head:#16283f;--link:#9cc4ff;--focus:#ffb04d;--bar:#5b83b8;--post:#fff;
+--ink:#fff;--sheet:#000;--depth-0:50%;--depth-1:55%;--piece-0:#646464;--piece-1:#727272;--point:#f5a04a;--mark:#ff9c9c;--bad:#ffb3b3;--bad-ground:#401a1a;--good:#a8e6b4;--good-ground:#12331a;--known:#b3ccff;--known-ground:#16284a;}}
+*{box-sizing:border-box;}[hidden]{display:none !important;}body{margin:0;font:16px/1.4 system-ui,"DejaVu Sans",sans-serif;color:var(--text);background:var(--ground);}
+header{display:flex;flex-wrap:wrap;gap:.4rem 1.5rem;align-items:end;padding:.6rem 1rem;background:var(--head);color:#fff;}header p{margin:0 0 0 auto;}header .bad{color:var(--bad);}h1{margin:0 auto 0 0;font-size:1.2rem;}
+h1 a{color:inherit;text-decoration:none;}h2{margin:0 0 .5rem;font-size:1.05rem;}h3{margin:.6rem 0 .2rem;font-size:1rem;}p{margin:0 0 .5rem;}a{color:var(--link);}main{display:grid;gap:.8rem;padding:.8rem;grid-template-columns:minmax(0,1fr);}
+[tabindex="-1"]:focus{outline:none;}#network,#route,#edit,#asset{display:grid;gap:.8rem;grid-template-columns:minmax(0,1fr);}section,details{padding:.8rem;background:var(--paper);border:1px solid var(--line);border-radius:4px;min-width:0;}
+summary{cursor:pointer;font-weight:bold;min-height:1.5rem;}form,.buttons{display:flex;flex-wrap:wrap;gap:.5rem;align-items:end;margin:0 0 .5rem;}label{display:inline-flex;flex-direction:column;font-size:.85rem;}
 input,select,button{font:inherit;padding:.25rem .5rem;border:1px solid var(--field);border-radius:3px;background:var(--paper);color:var(--text);max-width:100%;min-height:1.9rem;}button{background:var(--press);cursor:pointer;}
-button:hover{background:var(--over);}:focus-visible{outline:3px solid var(--focus);outline-offset:1px;}#skip{position:absolute;left:-100rem;}#skip:focus{left:.5rem;top:.5rem;z-index:2;}ul{list-style:none;margin:0;padding:0;}
-#results{max-height:15rem;overflow-y:auto;margin-bottom:.5rem;}li{padding:.1rem 0;}.note{font-size:.9rem;overflow-wrap:anywhere;}.note:empty{display:none;}
-.bad{padding:.3rem .5rem;border:2px solid currentColor;background:var(--bad-ground);color:var(--bad);}.short{width:9rem;}.table,.long{overflow:auto;max-height:24rem;border:1px solid var(--line);}.table:empty{border:0;}
-.long{scroll-padding:2.5rem 0 .5rem;}table{border-collapse:collapse;font-size:.95rem;}th,td{padding:.2rem .6rem;border:1px solid var(--line);text-align:left;font-weight:inherit;}
-thead th{position:sticky;top:0;z-index:1;background:var(--press);font-weight:bold;}td.number{text-align:right;font-variant-numeric:tabular-nums;}.long table{width:100%;white-space:nowrap;}.long tbody tr{height:2rem;}
+button:hover{background:var(--over);}:focus-visible{outline:3px solid var(--focus);outline-offset:1px;}header :focus-visible,#skip{outline-color:var(--on-head);}#skip{position:absolute;left:-100rem;}
+#skip:focus{left:.5rem;top:.5rem;z-index:2;}ul{list-style:none;margin:0;padding:0;}#results{max-height:15rem;overflow-y:auto;margin-bottom:.5rem;}li{padding:.1rem 0;}.note{font-size:.9rem;overflow-wrap:anywhere;}.note:empty{display:none;}
+.bad{padding:.3rem .5rem;border:2px solid currentColor;background:var(--bad-ground);color:var(--bad);}.short{width:9rem;}.table,.long{overflow:auto;max-height:24rem;border:1px solid var(--line);}
+.table{width:fit-content;max-width:100%;}.table:empty{border:0;}.long{scroll-padding:2.5rem 0 .5rem;}table{border-collapse:collapse;font-size:.95rem;}
+th,td{padding:.2rem .6rem;border:1px solid var(--line);text-align:left;font-weight:inherit;}thead th{position:sticky;top:0;z-index:1;background:var(--press);font-weight:bold;}
+.record th{text-transform:capitalize;vertical-align:top;}.record td{overflow-wrap:anywhere;}td.number{text-align:right;font-variant-numeric:tabular-nums;}.long table{width:100%;white-space:nowrap;}.long tbody tr{height:2rem;}
 .long tbody tr:hover{background:var(--press);}#routes tbody tr{cursor:pointer;}.name{width:9rem;}.length{width:8rem;}td.bar{padding:0 .6rem 0 0;width:70%;}.track{position:relative;height:2rem;overflow:hidden;}
 .track svg{display:block;height:45%;min-width:2px;background:var(--bar);}.track path{stroke:var(--post);stroke-width:1.5px;}.track span{position:absolute;bottom:0;font-size:.75rem;line-height:1.1rem;padding-left:1px;}
 button.plain{border:0;padding:0;background:none;font-weight:bold;min-height:1.5rem;}th[aria-sort=ascending] button::after{content:" \25b2";}th[aria-sort=descending] button::after{content:" \25bc";}
-#diagram{overflow-x:auto;border:1px solid var(--line);touch-action:pan-x pan-y;}#diagram.moving{overflow:hidden;}#diagram svg{display:block;width:100%;min-width:900px;height:auto;cursor:crosshair;user-select:none;}
-.moving svg{cursor:grabbing;}#under{min-height:1.4em;font-size:.9rem;}fieldset{margin:.5rem 0;padding:.3rem .6rem .5rem;border:1px solid var(--line);max-height:14rem;overflow-y:auto;}
-fieldset label{flex-direction:row;gap:.3rem;align-items:center;font-size:1rem;}input[type=checkbox]{min-height:0;width:1.5rem;height:1.5rem;}.class{display:flex;flex-wrap:wrap;gap:.2rem 1rem;align-items:center;}.class label{min-width:8rem;}
-.values{display:flex;flex-wrap:wrap;gap:.1rem 1rem;font-size:.9rem;}.swatch{display:inline-block;width:1.6rem;height:.9rem;margin-right:.3rem;vertical-align:middle;border:1px solid #59626f;}[aria-current=true]{font-weight:bold;}
+#diagram{overflow-x:auto;border:1px solid var(--line);touch-action:pan-x pan-y;}#diagram text{fill:var(--ink);}#diagram path{stroke:var(--ink);}#diagram svg > rect{fill:var(--sheet);}#diagram .l{stroke:var(--line);}
+#diagram .t path{stroke:var(--point);}#diagram .p path{stroke:var(--piece-0);}#diagram .p path:nth-of-type(even){stroke:var(--piece-1);}
+#diagram [data-mark] rect{fill:none;stroke:var(--mark);}#diagram [data-mark] text{fill:var(--mark);stroke:var(--sheet);}#diagram.moving{overflow:hidden;}
+#diagram svg{display:block;width:100%;min-width:900px;height:auto;cursor:crosshair;user-select:none;}.moving svg{cursor:grabbing;}#under{min-height:1.4em;font-size:.9rem;}
+fieldset{margin:.5rem 0;padding:.3rem .6rem .5rem;border:1px solid var(--line);max-height:14rem;overflow-y:auto;}fieldset label{flex-direction:row;gap:.3rem;align-items:center;font-size:1rem;}
+input[type=checkbox]{min-height:0;width:1.5rem;height:1.5rem;}.class{display:flex;flex-wrap:wrap;gap:.2rem 1rem;align-items:center;}.class label{min-width:8rem;}.values{display:flex;flex-wrap:wrap;gap:.1rem 1rem;font-size:.9rem;}
+.swatch{display:inline-block;width:1.6rem;height:.9rem;margin-right:.3rem;vertical-align:middle;border:1px solid var(--field);}[aria-current=true]{font-weight:bold;}
 pre{overflow:auto;max-height:10rem;padding:.4rem;border:1px solid var(--line);}tr.done td.word{background:var(--good-ground);color:var(--good);border-left:6px solid currentColor;}
 tr.again td.word{background:var(--known-ground);color:var(--known);border-left:6px dashed currentColor;}tr.refused td.word,tr.fault td.word{background:var(--bad-ground);color:var(--bad);border-left:6px double currentColor;font-weight:bold;}
 #drop{padding:.8rem;margin:.5rem 0;border:2px dashed var(--field);}.over #drop{border-style:solid;background:var(--press);}
 @media (min-width:1100px){#network{grid-template-columns:minmax(0,1fr) minmax(0,1fr);}#network > :first-child{grid-column:1 / 3;}}@media (max-width:800px){main{padding:.5rem;}header p,h1{margin:0;}
 .name,.length{width:4rem;}.long thead th{white-space:normal;}td.bar{width:50%;}}
-@media print{body,section{background:#fff;color:#000;border:0;padding:0;}header form,header button,form,.buttons,details,fieldset button,#skip,#under,#route .note a,#found{display:none;}header{background:none;color:#000;padding:0;}
-.table,.long{overflow:visible;max-height:none;height:auto;border:0;}thead th{position:static;}section,tr,#diagram{break-inside:avoid;}#diagram{border:0;overflow:visible;}#diagram svg{min-width:0;filter:none;print-color-adjust:exact;}
-.swatch,.track svg{filter:none;print-color-adjust:exact;}}
+@page{margin:12mm;}@page wide{size:landscape;}@media print{body,section{background:#fff;color:#000;border:0;padding:0;}body{font-size:11pt;}main{padding:0;}body:has(#route:not([hidden])){page:wide;}
+header form,header button,form,.buttons,details,fieldset button,#skip,#under,.hands,.note > a,#found,input[type=checkbox]{display:none;}#asked:not(:has(#hits table,#ways ul)){display:none;}
+header{background:none;color:#000;padding:0 0 .5rem;}a{color:inherit;text-decoration:none;}#network,#route,#edit,#asset,main{display:block;}section{margin:0 0 1rem;}h2,h3,.note,legend{break-after:avoid;}
+.table,.long{overflow:visible;max-height:none;height:auto;border:0;}.long table{width:auto;}table{font-size:9pt;}th,td{padding:.1rem .4rem;border-color:#767676;}thead th{position:static;}thead button{display:contents;}
+.long tbody tr{height:auto;}#rows :is(th,td):last-child{display:none;}#routes table{width:100%;}tr,#diagram,.class{break-inside:avoid;}#diagram{border:0;overflow:visible;}#diagram svg{min-width:0;print-color-adjust:exact;}
+fieldset{max-height:none;overflow:visible;border:0;padding:0;}.swatch,.track svg{print-color-adjust:exact;}}
 </style>
 </head>
 <body>
 <button id="skip" type="button">To the content</button>
 <header>
 <h1><a href="#">Road inventory</a></h1>
-<form id="finding" role="search">
+<form id="finding" role="search" aria-label="Find">
 <label>Find by <select id="kind"><option value="asset">number of an asset</option><option value="value">value</option><option value="class">class</option>
 <option value="key">key of an edit</option><option value="ref">referent</option><option value="route">route</option></select></label>
 <label>What is sought <input id="wanted" autocomplete="off" required></label> <button>Find</button></form>
@@ -64,7 +71,7 @@ tr.again td.word{background:var(--known-ground);color:var(--known);border-left:6
 <p id="address-said" class="note" role="status"></p>
 <form id="filtering"><label>Part of a route's name <input id="filter" type="search" autocomplete="off"></label></form>
 <p id="routes-said" class="note" role="status"></p>
-<div id="routes" class="long" role="region" aria-label="Routes"></div>
+<div id="routes" class="long" role="region" aria-label="Routes. The arrow keys go from row to row."></div>
 </section>
 <section aria-labelledby="totals-title"><h2 id="totals-title">Totals by class</h2>
 <p id="totals-said" class="note" role="status"></p>
@@ -90,11 +97,11 @@ tr.again td.word{background:var(--known-ground);color:var(--known);border-left:6
 <button type="button" id="whole">Whole route</button> <a id="plain">Plain SVG of this diagram</a></p>
 <div id="diagram" tabindex="0" role="group" aria-label="Diagram. The arrow keys move along the route, plus and minus zoom, Enter asks what lies in the middle."></div>
 <p id="under" aria-live="off"></p>
-<p class="note">Above the axis is the left side, below it the right side. A wheel or two fingers zoom, a mouse drags, a click asks what lies there.</p>
+<p class="note">Above the axis is the left side, below it the right side.<span class="hands"> A wheel or two fingers zoom, a mouse drags, a click asks what lies there.</span></p>
 <fieldset><legend>Classes and values</legend><button type="button" id="all">All</button><button type="button" id="none">None</button><div id="classes"></div></fieldset>
 <p id="classes-said" class="note" role="status"></p></div>
 </section>
-<section id="asked" aria-labelledby="at-title" hidden><h2 id="at-title">What lies at a position</h2>
+<section id="asked" aria-labelledby="at-title" hidden><h2 id="at-title" tabindex="-1">What lies at a position</h2>
 <form id="asking"><label>Said by <select id="method"><option value="abs">measure, as 3000</option><option value="rel">referent and mm, as KM2+500</option>
 <option value="int">proportion, as 1/3</option><option value="chainage">chainage in metres</option></select></label>
 <label>Position <input id="pos" class="short" autocomplete="off"></label> <button>Ask</button></form>
@@ -105,10 +112,37 @@ tr.again td.word{background:var(--known-ground);color:var(--known);border-left:6
 <section id="listed" aria-labelledby="rows-title" hidden><h2 id="rows-title">Rows of this stretch</h2>
 <form id="row-filtering"><label>Words in a row <input id="row-filter" type="search" autocomplete="off"></label> <a id="csv" href="#">Save as CSV</a></form>
 <p id="rows-said" class="note" role="status"></p>
-<div id="rows" class="long" role="region" aria-labelledby="rows-title"></div>
+<div id="rows" class="long" role="region" aria-label="Rows. The arrow keys go from row to row."></div>
 </section>
 </div>
-<details id="sheets"><summary>Send a sheet</summary>
+<div id="edit" hidden>
+<section aria-labelledby="edit-title"><p class="note"><a href="#">&#8592; The network</a></p>
+<h2 id="edit-title" tabindex="-1">Edit</h2>
+<p id="edit-said" class="note" role="status"></p>
+<div id="record" class="table" tabindex="0" role="region" aria-labelledby="edit-title"></div>
+<p id="beside" class="buttons"></p>
+</section>
+<section aria-labelledby="taken-title"><h2 id="taken-title">What it retired or abandoned</h2>
+<p id="taken-said" class="note" role="status"></p>
+<div id="taken" class="long" role="region" aria-label="Parts. The arrow keys go from row to row."></div>
+</section>
+</div>
+<div id="asset" hidden>
+<section aria-labelledby="asset-title"><p class="note"><a href="#">&#8592; The network</a></p>
+<h2 id="asset-title" tabindex="-1">Asset</h2>
+<p id="asset-said" class="note" role="status"></p>
+<div id="lies" class="table" tabindex="0" role="region" aria-labelledby="asset-title"></div>
+</section>
+<section aria-labelledby="entered-title"><h2 id="entered-title">The edit that entered it</h2>
+<p id="entered-said" class="note" role="status"></p>
+<div id="entered" class="table" tabindex="0" role="region" aria-labelledby="entered-title"></div>
+</section>
+<section aria-labelledby="lost-title"><h2 id="lost-title">What was taken away of it since</h2>
+<p id="lost-said" class="note" role="status"></p>
+<div id="lost" class="long" role="region" aria-label="Parts. The arrow keys go from row to row."></div>
+</section>
+</div>
+<details id="sheets" aria-label="Send a sheet"><summary>Send a sheet</summary>
 <div id="drop"><p>Drop an edit sheet or a survey on this page. You see what it has before it is sent.</p>
 <label>Or choose a file <input id="file" type="file" accept=".csv,text/csv,text/plain" multiple></label></div>
 <div id="preview" hidden><div id="looked"></div>
@@ -129,6 +163,7 @@ function linkTo(address, text) {return make("a", text, { href: `#${address}` });
 function rowOf(cells) {const row = make("tr");for (const cell of cells) Object.assign(row.insertCell(), { className: typeof cell === "number" ? "number" : "" }).append(cell);return row;}
 function tableOf(heads, rows) {const table = make("table"), top = table.createTHead().insertRow();for (const head of heads) top.append(make("th", head, { scope: "col" }));table.createTBody().append(...rows);return table;}
 function say(id, text, isBad = false) {$(id).textContent = isBad ? `Error: ${text}` : text;$(id).classList.toggle("bad", isBad);}
+function leaving(ids, next, work) {const wasThere = ids.some(id => $(id).contains(document.activeElement));work();if (wasThere) $(next).focus();}
 const attempt = (id, work) => work().catch(error => say(id, error.message, true));function offer(link, parts, type) {URL.revokeObjectURL(link.href);
 Object.assign(link, { hidden: false, href: URL.createObjectURL(new Blob(parts, { type })) });}
 const CAUSES = {AssetKnown: "the number of the asset was used before", BadCsv: "a record has not as many fields as the header",BadHeader: "the first line is not the header of this kind of sheet",
@@ -149,12 +184,17 @@ function sentence(cause) {const [name, argument] = cause.split(":"), known = CAU
 function causeOf(text) {try {return JSON.parse(text).error;} catch {return undefined;}
 }
 function reason(status, text) {const cause = causeOf(text);return cause ? `${sentence(cause)}.` : `${STATUSES[status] || "The request failed."} (Status ${status}.)`;}
-const MOST_KEPT = 30;const kept = new Map();let edits;const query = pairs => "?" + new URLSearchParams(pairs);async function send(path, settings) {try {const reply = await fetch(path, { cache: "no-store", ...settings });
-return { status: reply.status, text: await reply.text() };} catch {throw new Error(LOST);}
+const MOST_KEPT = 100000000;const kept = new Map(), lengths = new WeakMap();let edits;const query = pairs => "?" + new URLSearchParams(pairs);async function send(path, settings) {try {
+const reply = await fetch(path, { cache: "no-store", ...settings });return { status: reply.status, text: await reply.text() };} catch {throw new Error(LOST);}
 }
 async function get(path, pairs = []) {const { status, text } = await send(pairs.length ? path + query(pairs) : path);if (status !== 200) throw new Error(reason(status, text), { cause: causeOf(text) });return text;}
-const answer = async (path, pairs) => JSON.parse(await get(path, pairs));function known(path, pairs = [], asking = answer) {const name = path + query(pairs), found = kept.get(name) || asking(path, pairs);kept.delete(name);
-kept.set(name, found);if (kept.size > MOST_KEPT) kept.delete(kept.keys().next().value);found.catch(() => kept.get(name) === found && kept.delete(name));return found;}
+async function answer(path, pairs) {const text = await get(path, pairs), value = JSON.parse(text);lengths.set(value, text.length);return value;}
+async function firstLines(path, pairs) {const reply = await fetch(path + query(pairs), { cache: "no-store" }).catch(() => { throw new Error(LOST); });if (reply.status !== 200) throw new Error(reason(reply.status, await reply.text()));
+const reader = reply.body.pipeThrough(new TextDecoderStream()).getReader(), ends = /^.*\n.*\n/;let text = "";for (let piece = await reader.read(); !piece.done && !ends.test((text += piece.value)); ) piece = await reader.read();
+reader.cancel();return ends.exec(text)?.[0] ?? text;}
+function known(path, pairs = [], asking = answer) {const name = `${asking.name} ${path}${query(pairs)}`, entry = kept.get(name) || { found: asking(path, pairs), length: 0 };kept.delete(name);kept.set(name, entry);entry.found.then(
+value => (entry.length = lengths.get(value) ?? value.length, forgetOldest()),() => kept.get(name) === entry && kept.delete(name),);return entry.found;}
+function forgetOldest() {let length = 0;for (const entry of kept.values()) length += entry.length;for (const [name, entry] of kept) if (length > MOST_KEPT) kept.delete(name), (length -= entry.length);}
 async function renew() {const health = await answer("health").catch(error => ({ error }));if (health.error || health.edits !== edits) kept.clear();edits = health.edits;if (health.error) throw health.error;return edits;}
 const metres = mm => `${Math.floor(mm / 1000)}.${String(mm % 1000).padStart(3, "0")}`;function millimetres(text) {const parts = /^(\d{1,9})(?:\.(\d{0,3}))?$/.exec(text.trim());
 return parts && Number(parts[1]) * 1000 + Number((parts[2] || "").padEnd(3, "0"));}
@@ -167,32 +207,71 @@ function short(measure) {const [n, d] = measure.split("/");return d ? `\u2248 ${
 const counted = (count, one, more = `${one}s`) => `${count} ${count === 1 ? one : more}`;
 async function askHealth() {try {const edits = await renew();say("health", `${counted(edits, "edit")}. The program answers.`);return edits;} catch (error) {return void say("health", error.message, true);}
 }
-const SPARE = 10, MOST_PRINTED = 2000;const tables = [];let isPrinting = false;class LongTable {constructor(box, heads, makeRow) {Object.assign(this, { box, makeRow, items: [], rows: new Map(), height: 30 });this.table = make("table");
-this.head = this.table.createTHead().insertRow();this.head.append(...heads);this.above = this.table.createTBody();this.body = this.table.createTBody();this.below = this.table.createTBody();box.replaceChildren(this.table);box.tabIndex = -1;
-box.onscroll = () => this.draw();box.addEventListener("keydown", event => this.step(event));new ResizeObserver(() => this.draw()).observe(box);tables.push(this);}
-show(items) {const at = this.body.contains(document.activeElement) && document.activeElement.textContent;this.items = items;this.rows.clear();this.body.replaceChildren();this.box.scrollTop = 0;
-this.table.setAttribute("aria-rowcount", items.length + 1);this.draw();if (at) ([...this.body.querySelectorAll("a")].find(link => link.textContent === at) || this.box).focus({ preventScroll: true });}
-draw() {const first = isPrinting ? 0 : Math.max(Math.floor(this.box.scrollTop / this.height) - SPARE, 0);
+const METHODS = { abs: "measure", rel: "from a referent", int: "proportion", chainage: "chainage, in metres" };const ROUTE = /^[A-Z0-9][A-Z0-9-]{0,11}$/;function readAddress(text) {
+if (text.startsWith("route=")) return readOlder(new URLSearchParams(text));const [, kind, number] = /^(edit|asset)\/(\d{1,13})$/.exec(text) || [];if (kind) return { [kind]: number };
+const [route, ...parts] = decoded(text).split(/\/(?=(?:abs|rel|int|chainage|asset):)/);const address = { route: ROUTE.test(route) ? route : undefined };for (const part of parts) Object.assign(address, readPart(part));
+return route ? address : null;}
+function readPart(part) {const [, method, said] = /^(\w+):(.*)$/s.exec(part), [from, to] = said.split("..");if (method === "asset") return { asset: said };
+return to === undefined ? { place: { method, pos: said } } : { stretch: { method, from, to } };}
+function decoded(text) {try {return decodeURIComponent(text);} catch {return text;}
+}
+function readOlder(pairs) {const [from, to] = ["from", "to"].map(name => (/^\d+$/.test(pairs.get(name)) ? metres(Number(pairs.get(name))) : ""));
+return { route: pairs.get("route"), ...((from || to) && { stretch: { method: "chainage", from, to } }) };}
+function writeAddress({ route, stretch, place, asset, edit }) {if (!route) return edit ? `edit/${edit}` : `asset/${asset}`;let text = route;if (stretch) text += `/${stretch.method}:${stretch.from}..${stretch.to}`;
+if (place) text += `/${place.method}:${place.pos}`;return asset ? `${text}/asset:${asset}` : text;}
+const chainages = (from, to) => ({ method: "chainage", from: metres(from), to: metres(to) });
+const MOST_SEARCHED = 100000;const ENTERED = ["asset", "class", "route", "side", "method", "from", "to", "value", "offset"];const VERBS = {
+link: ["makes a link", "link", "length"], class: ["makes a class", "class", "kind"], route: ["makes a route", "route", "pieces", "marks"],
+ref: ["names a place on a route", "referent", "route", "method", "position"], unref: ["removes a referent", "referent"],
+enter: ["enters an asset", ...ENTERED], retire: ["takes an asset away over a stretch", "asset", "route", "method", "from", "to"],supersede: ["enters an asset, and retires what lay there of its class", ...ENTERED],
+split: ["divides a route", "route", "chainage", "new route"], renumber: ["gives a route another name", "route", "new route"],
+recalibrate: ["gives a route new marks", "route", "marks"], join: ["appends a second route to a first one", "first", "second"],
+turn: ["reverses a route", "route"], realign: ["replaces a stretch of a route", "route", "from", "to", "pieces", "marks"], close: ["ends a route", "route"],};
+const NAMES_ROUTE = /^(route|new route|first|second)$/, MILLIMETRES = /^(length|chainage)$/;const linkToEdit = (edit, text = edit) => linkTo(writeAddress({ edit }), text);
+const linkToAsset = (asset, text = asset) => linkTo(writeAddress({ asset }), text);function recordsOf(log) {return log.split("\n").slice(1).filter(Boolean).map(recordOf);}
+function recordOf(line) {const [key, verb, ...fields] = line.split(",");return { key, verb, fields };}
+async function recordAt(edit) {const [record] = recordsOf(await known("v1/log", [["from", edit]], firstLines));if (!record) throw new Error(`${sentence("NoEdit")}.`);return record;}
+async function findEdit(edits, passes) {const first = Math.max(edits - MOST_SEARCHED + 1, 1);const lines = edits ? (await known("v1/log", [["from", first]], get)).split("\n").slice(1) : [];for (let at = lines.length - 1; at >= 0; at--)
+if (passes(...lines[at].split(",", 3))) return { edit: first + at, record: recordOf(lines[at]) };return { edit: 0, within: first > 1 ? `, of the last ${MOST_SEARCHED}` : "" };}
+async function routeNames() {const { routes } = await known("v1/routes");return new Set(routes.map(route => route.name));}
+function fieldsOf({ verb, fields }, names) {const part = make("span");fields.forEach((field, at) => field && part.append(linked(VERBS[verb]?.[at + 1], field, names), " "));return part;}
+function linked(name, field, names) {if (name === "asset") return linkToAsset(field);return NAMES_ROUTE.test(name) && names.has(field) ? linkTo(field, field) : field;}
+function recordTable({ key, verb, fields }, names, edit) {const table = make("table", "", { className: "record" }), [does, ...heads] = VERBS[verb] || [""];
+const pairs = [["edit", edit && linkToEdit(edit)], ["key", key], ["verb", does ? `${verb}: ${does}` : verb], ...fields.map((field, at) => [heads[at] ?? "", inWords(verb, heads[at], field, names)])];
+table.createTBody().append(...pairs.filter(([, field]) => field).map(pairRow));return table;}
+function pairRow([name, field]) {const row = rowOf(["", field]);row.cells[0].replaceWith(make("th", name, { scope: "row" }));return row;}
+function inWords(verb, name, field, names) {if (!field) return "";if (name === "side") return SIDES[field];if (name === "method") return METHODS[field];if (name === "offset") return `${field} mm`;
+if (MILLIMETRES.test(name) || (verb === "realign" && /^(from|to)$/.test(name))) return `${metres(Number(field))} m`;return linked(name, field, names);}
+const SPARE = 10, MOST_PRINTED = 2000;const tables = [];let isPrinting = false;const headsOf = (names, widths = []) => names.map((name, at) => make("th", name, { scope: "col", className: widths[at] || "" }));class LongTable {
+constructor(box, heads, makeRow) {Object.assign(this, { box, makeRow, items: [], rows: new Map(), height: 30, stop: 0 });this.table = make("table");this.head = this.table.createTHead().insertRow();this.head.append(...heads);
+this.above = this.table.createTBody();this.body = this.table.createTBody();this.below = this.table.createTBody();box.replaceChildren(this.table);box.tabIndex = -1;box.onscroll = () => this.draw();
+box.addEventListener("keydown", event => this.step(event));this.body.addEventListener("focusin", event => this.stopAt(Number(event.target.closest("tr").ariaRowIndex) - 2));new ResizeObserver(() => this.draw()).observe(box);
+tables.push(this);}
+show(items) {const at = this.body.contains(document.activeElement) && document.activeElement.href, top = items === this.items ? this.box.scrollTop : 0;if (items !== this.items) this.stop = 0;this.items = items;this.rows.clear();
+this.body.replaceChildren();this.box.scrollTop = top;this.table.setAttribute("aria-rowcount", items.length + 1);this.draw();
+if (at) ([...this.body.querySelectorAll("a")].find(link => link.href === at) || this.box).focus({ preventScroll: true });}
+draw() {this.width = this.box.clientWidth;if (!this.width) return;const first = isPrinting ? 0 : Math.max(Math.floor(this.box.scrollTop / this.height) - SPARE, 0);
 const last = Math.min(isPrinting ? MOST_PRINTED : first + Math.ceil(this.box.clientHeight / this.height) + 2 * SPARE, this.items.length);
 for (const [at, row] of this.rows) if ((at < first || at >= last) && !row.contains(document.activeElement)) this.rows.delete(at), row.remove();let behind = null;for (let at = last - 1; at >= first; at--) {
 const row = this.rows.get(at) || this.makeAt(at);if (row.nextSibling !== behind || !row.isConnected) this.body.insertBefore(row, behind);behind = row;}
-this.measure();this.spread(this.above, first);this.spread(this.below, isPrinting ? 0 : this.items.length - last);}
-makeAt(at) {const row = this.makeRow(this.items[at]);row.setAttribute("aria-rowindex", at + 2);this.rows.set(at, row);return row;}
+if (!this.rows.has(this.stop)) this.stopAt(Math.min(first + (first && SPARE), last - 1));this.measure();this.spread(this.above, first);this.spread(this.below, this.items.length - last, isPrinting);}
+makeAt(at) {const row = this.makeRow(this.items[at]);row.setAttribute("aria-rowindex", at + 2);this.rows.set(at, row);this.reach(at, at === this.stop);return row;}
+stopAt(at) {this.reach(this.stop, false);this.stop = at;this.reach(at, true);}
+reach(at, can) {for (const link of this.rows.get(at)?.querySelectorAll("a") || []) link.tabIndex = can ? 0 : -1;}
 measure() {const row = this.body.rows[0];if (row && row.offsetHeight) this.height = row.offsetHeight;}
-spread(part, count) {if (!count) return part.replaceChildren();const row = part.rows[0] || part.appendChild(rowOf([""]));row.setAttribute("aria-hidden", "true");row.cells[0].colSpan = this.head.cells.length;
-row.cells[0].style.cssText = `height: ${count * this.height}px; padding: 0; border: 0`;}
-step(event) {const by = { ArrowDown: 1, ArrowUp: -1 }[event.key], row = event.target.closest("tr");if (!by || event.target.matches("input, select") || row?.parentNode !== this.body) return;
-const next = by > 0 ? row.nextSibling : row.previousSibling, target = next && next.querySelector("a, button");event.preventDefault();if (target) target.focus();}
+spread(part, count, isTold = false) {if (!count) return part.replaceChildren();const row = part.rows[0] || part.appendChild(rowOf([""])), cell = row.cells[0];row.setAttribute("aria-hidden", "true");cell.colSpan = this.head.cells.length;
+cell.textContent = isTold ? `${count} more, which are not printed` : "";cell.style.cssText = isTold ? "" : `height: ${count * this.height}px; padding: 0; border: 0`;}
+step(event) {const by = { ArrowDown: 1, ArrowUp: -1 }[event.key], row = event.target.closest("tr");if (!by || row?.parentNode !== this.body) return;event.preventDefault();
+const next = by > 0 ? row.nextSibling : row.previousSibling, column = [...row.querySelectorAll("a")].indexOf(event.target);next?.querySelectorAll("a")[column]?.focus();}
 }
 function prints(now) {isPrinting = now;for (const table of tables) table.draw();}
 window.onbeforeprint = () => prints(true);window.onafterprint = () => prints(false);
-const LAST_EDITS = 10, LEAST_GAP = 8, LETTER = 8;const ROUTE_FIELDS = { route: 0, ref: 1, enter: 2, supersede: 2, retire: 1, split: 0, renumber: 1, recalibrate: 0, join: 0, turn: 0, realign: 0 };
-const network = { routes: [], names: new Set(), longest: 1, posts: new Map(), edits: undefined };let bars, drawnFor = {};const headOf = (name, width) => make("th", name, { scope: "col", className: width });async function loadNetwork() {
-bars ||= new LongTable($("routes"), [headOf("Route", "name"), headOf("Length, m", "length"), headOf("Posts, to one scale", "bar")], routeRow);network.edits = await askHealth();
+const LAST_EDITS = 10, LEAST_GAP = 8, LETTER = 8;const network = { routes: [], longest: 1, posts: new Map(), edits: undefined };let bars, drawnFor = {};async function loadNetwork() {
+bars ||= new LongTable($("routes"), headsOf(["Route", "Length, m", "Posts, to one scale"], ["name", "length", "bar"]), routeRow);network.edits = await askHealth();
 await Promise.all([attempt("routes-said", loadRoutes), attempt("totals-said", loadTotals), attempt("edits-said", loadEdits)]);}
 function isNew(name, value) {const before = drawnFor[name];drawnFor[name] = value;return before !== value;}
 async function loadRoutes() {const lists = await Promise.all(["routes", "marks", "refs"].map(name => known(`v1/${name}`)));if (!isNew("routes", lists[0]) && !isNew("refs", lists[2])) return;network.routes = lists[0].routes;
-network.names = new Set(network.routes.map(route => route.name));network.longest = network.routes.reduce((most, route) => Math.max(most, route.length), 1);network.posts = postsOf(lists[1].marks, lists[2].refs);listRoutes();}
+network.longest = network.routes.reduce((most, route) => Math.max(most, route.length), 1);network.posts = postsOf(lists[1].marks, lists[2].refs);listRoutes();}
 function postsOf(marks, refs) {const posts = new Map();for (const { route, chainage, ref } of refs) (posts.get(route) || posts.set(route, []).get(route)).push([chainage, ref]);const named = new Set(posts.keys());
 for (const { route, chainage, measure } of marks)
 if (!named.has(route)) (posts.get(route) || posts.set(route, []).get(route)).push([chainage, String(measure)]);for (const list of posts.values()) list.sort(([a], [b]) => a - b);return posts;}
@@ -200,7 +279,7 @@ function listRoutes() {const part = $("filter").value.trim().toUpperCase(), foun
 const scale = found.length ? ` The longest has ${metres(network.longest)} m.` : "";say("routes-said", `${found.length} of ${counted(network.routes.length, "route")}.${scale}`);}
 function routeRow({ name, length }) {const row = rowOf(["", metres(length), barOf(name, length)]), head = make("th", "", { scope: "row" });head.append(linkTo(name, name));row.cells[0].replaceWith(head);row.cells[1].className = "number";
 row.cells[2].className = "bar";row.onclick = event => event.target.closest("a") || !getSelection().isCollapsed || (location.hash = name);return row;}
-function barOf(name, length) {const track = make("div", "", { className: "track" }), posts = network.posts.get(name) || [];const share = length / network.longest, whole = $("routes").clientWidth * 0.65, wide = whole * share;
+function barOf(name, length) {const track = make("div", "", { className: "track" }), posts = network.posts.get(name) || [];const share = length / network.longest, whole = bars.width * 0.65, wide = whole * share;
 const bar = drawn("svg", { viewBox: `0 0 ${length} 1`, preserveAspectRatio: "none", "aria-hidden": "true" });bar.append(drawn("path", { d: posts.map(([at]) => `M${at} 0v1`).join("") || "M0 0v1", "vector-effect": "non-scaling-stroke" }));
 bar.style.width = `${share * 100}%`;track.append(bar);let free = 0;for (const [at, text] of posts) {const place = (at / length) * share, long = text.length * LETTER, left = Math.min((at / length) * wide, whole - long);
 if (left < free) continue;const label = make("span", text);label.style.left = `min(${place * 100}%, 100% - ${long}px)`;track.append(label);free = left + long + LEAST_GAP;}
@@ -211,24 +290,11 @@ return [total.class, kind, ...["present", "entered", "retired", "abandoned"].map
 $("totals").replaceChildren(tableOf(["Class", "Kind", "Present", "Entered", "Retired", "Abandoned"], rows.map(numbersBehind(2))));
 say("totals-said", totals.length ? "Both sides are added; of points they are counted." : "There is no class yet.");}
 const numbersBehind = count => cells => {const row = rowOf(cells);for (const cell of [...row.cells].slice(count)) cell.className = "number";return row;};async function loadEdits() {
-if (!network.edits) return say("edits-said", "There is no edit yet."), $("edits").replaceChildren();const first = Math.max(network.edits - LAST_EDITS + 1, 1), log = await known("v1/log", [["from", first]], get);
-if (!isNew("edits", log)) return;const records = recordsOf(log).map((record, at) => [first + at, record]).reverse();
-$("edits").replaceChildren(tableOf(["Edit", "Key", "Verb", "Fields"], records.map(([edit, record]) => rowOf([edit, record.key, record.verb, fieldsOf(record)]))));say("edits-said", "");}
-function recordsOf(log) {const rows = log.split("\n").slice(1).filter(Boolean);return rows.map(row => row.split(",")).map(([key, verb, ...fields]) => ({ key, verb, fields }));}
-function fieldsOf({ verb, fields }) {const part = make("span");fields.forEach((field, at) => {if (!field) return;part.append(ROUTE_FIELDS[verb] === at && network.names.has(field) ? linkTo(field, field) : field, " ");});return part;}
-const firstRoute = () => $("routes").querySelector("tbody a");
-const METHODS = { abs: "measure", rel: "from a referent", int: "proportion", chainage: "chainage, in metres" };const ROUTE = /^[A-Z0-9][A-Z0-9-]{0,11}$/;function readAddress(text) {
-if (text.startsWith("route=")) return readOlder(new URLSearchParams(text));const [route, ...parts] = decoded(text).split(/\/(?=(?:abs|rel|int|chainage|asset):)/);const address = { route: ROUTE.test(route) ? route : undefined };
-for (const part of parts) Object.assign(address, readPart(part));return route ? address : null;}
-function readPart(part) {const [, method, said] = /^(\w+):(.*)$/s.exec(part), [from, to] = said.split("..");if (method === "asset") return { asset: said };
-return to === undefined ? { place: { method, pos: said } } : { stretch: { method, from, to } };}
-function decoded(text) {try {return decodeURIComponent(text);} catch {return text;}
+if (!network.edits) return say("edits-said", "There is no edit yet."), $("edits").replaceChildren();
+const first = Math.max(network.edits - LAST_EDITS + 1, 1), [log, names] = await Promise.all([known("v1/log", [["from", first]], get), routeNames()]);if (!isNew("edits", log)) return;
+const rows = recordsOf(log).map((record, at) => rowOf([linkToEdit(first + at), record.key, record.verb, fieldsOf(record, names)]));$("edits").replaceChildren(tableOf(["Edit", "Key", "Verb", "Fields"], rows.reverse()));say("edits-said", "");
 }
-function readOlder(pairs) {const [from, to] = ["from", "to"].map(name => (/^\d+$/.test(pairs.get(name)) ? metres(Number(pairs.get(name))) : ""));
-return { route: pairs.get("route"), ...((from || to) && { stretch: { method: "chainage", from, to } }) };}
-function writeAddress({ route, stretch, place, asset }) {let text = route;if (stretch) text += `/${stretch.method}:${stretch.from}..${stretch.to}`;if (place) text += `/${place.method}:${place.pos}`;
-return asset ? `${text}/asset:${asset}` : text;}
-const chainages = (from, to) => ({ method: "chainage", from: metres(from), to: metres(to) });
+const firstRoute = () => $("routes").querySelector("tbody a");
 async function locate(route, method, pos, end) {try {if (method === "chainage") return typedChainage(pos, route.length);const found = await known("v1/translate", [["route", route.name], ["method", method], ["pos", pos], ["to", "int"]]);
 return chainageOf(found.pos, route.length);} catch (error) {throw new Error(`${end}: ${error.message}${error.cause === "OffRoute" ? ` ${extentOf(route)}` : ""}`);}
 }
@@ -252,28 +318,31 @@ function addWords(inside, words) {if (!words.trim()) return;if (!inside || (insi
 function withLooks(made, looks) {for (const [, name, value] of looks.matchAll(LOOK)) {if (name === "xmlns" && value === SVG) continue;if (!LOOKS.test(name)) refusePicture();made.setAttribute(name, value);}
 return made;}
 function refusePicture() {throw new Error("The diagram cannot be read.");}
-const SHADES = 24;const classShades = new Map();const shade = at => `hsl(${Math.round(210 + at * 137.5) % 360} ${60 - (at % 3) * 10}% ${[74, 82, 66][at % 3]}%)`;function shadeOf(name, value) {
+const SHADES = 24;const classShades = new Map();const shade = at => `oklch(var(--depth-${at % 2}) 0.09 ${Math.round(25 + at * 137.5) % 360})`;function shadeOf(name, value) {
 const values = classShades.get(name) || classShades.set(name, new Map()).get(name);if (!values.has(value)) values.set(value, values.size % SHADES);return `shade-${values.get(value)}`;}
 function makeShades() {const sheet = new CSSStyleSheet();for (let at = 0; at < SHADES; at++) sheet.insertRule(`#route .shade-${at} { stroke: ${shade(at)}; stroke-opacity: 1; background: ${shade(at)}; }`);
 document.adoptedStyleSheets = [sheet];}
-const NEAR = 60, MOST_UNDER = 12;const seen = { from: 0, to: 0, things: [] };const shownDiagram = () => $("diagram").querySelector("svg");const across = chainage => 1000 + ((chainage - seen.from) * 10000) / (seen.to - seen.from);
-const chainageAt = x => seen.from + ((x - 1000) * (seen.to - seen.from)) / 10000;function putDiagram(text) {const svg = pictureOf(text);
-Object.assign(seen, { from: Number(svg.dataset.from), to: Number(svg.dataset.to), things: thingsOf(svg) });for (const { kind, path, class: name, value } of seen.things) if (kind !== "point") path.setAttribute("class", shadeOf(name, value));
-countPoints(seen.things);$("diagram").replaceChildren(svg);}
-function thingsOf(svg) {const things = [];for (const group of svg.querySelectorAll("g[data-class]")) {const { class: name, kind } = group.dataset;let side = "";for (const part of group.children) {
-if (part.localName === "text") side = part.textContent.slice(name.length + 1);else if (part.localName === "g") for (const path of part.querySelectorAll("path")) things.push({ ...placeOf(path), path, class: name, kind, side });}
-}
-return things;}
-function placeOf(path) {const [, x, wide] = /^M(\d+) -?\d+(?:h(\d+)|v\d+)$/.exec(path.getAttribute("d")) || [], [asset, value] = path.textContent.split(": ");return { x: Number(x), end: Number(x) + Number(wide || 0), asset, value };}
-function countPoints(things) {const lines = new Map();for (const { kind, path, x } of things) {if (kind !== "point") continue;const counts = lines.get(path.parentNode) || lines.set(path.parentNode, new Map()).get(path.parentNode);
-counts.set(x, (counts.get(x) || 0) + 1);}
-for (const [line, counts] of lines)
-for (const [x, count] of counts)
-if (count > 1) line.append(drawn("text", { "data-count": count, x: x - 20, y: -25, "text-anchor": "end" }, `${count}\u00d7`));}
+const NEAR = 60, MOST_UNDER = 12, MOST_SINGLE = 1000, WIDE_COUNT = 250;const ROW = /^<path d='(M(\d+) -?\d+(?:h(\d+)|v\d+))'><title>(\d+): ([\w.-]+)<\/title><\/path>$/;
+const CLASS = /^<g data-class='(?<class>\w+)' data-kind='(?<kind>\w+)'>$/, SIDE = /^<text x='40' y='\d+'>\w+ (?<side>[LR])<\/text>$/;const seen = { from: 0, to: 0, things: [] };let put;
+const shownDiagram = () => $("diagram").querySelector("svg");const across = chainage => 1000 + ((chainage - seen.from) * 10000) / (seen.to - seen.from);const chainageAt = x => seen.from + ((x - 1000) * (seen.to - seen.from)) / 10000;
+function putDiagram(text) {if (text === put && shownDiagram()) return void (shownDiagram().style.transform = "");const [shown, things] = shaded(text), svg = pictureOf(shown);
+Object.assign(seen, { from: Number(svg.dataset.from), to: Number(svg.dataset.to), things });$("diagram").replaceChildren(svg);put = text;}
+function shaded(text) {const things = [], lines = [], line = {}, isMany = text.split("<title>").length > MOST_SINGLE;let run = [];for (const part of text.split("\n")) {const [row, d, x, wide, asset, value] = ROW.exec(part) || [];if (row) {
+run.push({ d, x: Number(x), end: Number(x) + Number(wide || 0), asset, value, ...line });continue;}
+for (const thing of run) things.push(thing);lines.push(...shapesOf(run, isMany), part);run = [];Object.assign(line, CLASS.exec(part)?.groups, SIDE.exec(part)?.groups);}
+return [lines.join("\n"), things];}
+function shapesOf(run, isMany) {const isPoints = run[0]?.kind === "point", joined = new Map();const looks = run.map(({ class: name, value, side }) => (isPoints ? `data-side='${side}'` : `class='${shadeOf(name, value)}'`));
+if (!isMany) return run.map(({ d, asset, value }, at) => `<path ${looks[at]} d='${d}'><title>${asset}: ${value}<\/title><\/path>`).concat(isPoints ? countsOf(run) : []);
+run.forEach(({ d }, at) => (joined.get(looks[at]) || joined.set(looks[at], new Set()).get(looks[at])).add(d));return [...joined].map(([look, parts]) => `<path ${look} d='${[...parts].join("")}'/>`).concat(isPoints ? countsOf(run) : []);}
+function countsOf(points) {const counts = new Map(), texts = [];for (const { x } of points) counts.set(x, (counts.get(x) || 0) + 1);let free = 0;for (const [x, count] of counts) {if (count === 1 || x < free) continue;
+texts.push(`<text data-count='${count}' x='${x - 20}' y='-25' text-anchor='end'>${count}\u00d7<\/text>`);free = x + WIDE_COUNT;}
+return texts;}
+function pointNear(tick, x) {const { side } = tick.dataset, { class: name } = tick.closest("g[data-class]").dataset;const points = seen.things.filter(thing => thing.class === name && thing.side === side);
+return points.reduce((best, thing) => (best && Math.abs(best.x - x) <= Math.abs(thing.x - x) ? best : thing), undefined);}
 function drawMarks(marks) {const svg = shownDiagram();if (!svg) return;for (const old of svg.querySelectorAll("[data-mark]")) old.remove();const tall = svg.viewBox.baseVal.height;for (const { from, to, text } of marks) {
 if (to <= seen.from || from >= seen.to) continue;const left = across(Math.max(from, seen.from)), wide = Math.max(across(Math.min(to, seen.to)) - left, 30);const group = drawn("g", { "data-mark": text, "pointer-events": "none" });
-group.append(drawn("rect", { x: left - 20, y: 20, width: wide + 40, height: tall - 40, fill: "none", stroke: "#9b1c1c", "stroke-width": 30, "stroke-dasharray": "90 45" }),
-drawn("text", { x: Math.min(left + 40, 9800), y: 170, "font-size": 150, fill: "#7a1414", stroke: "#fff", "stroke-width": 40, "paint-order": "stroke" }, text),);svg.append(group);}
+group.append(drawn("rect", { x: left - 20, y: 20, width: wide + 40, height: tall - 40, "stroke-width": 30, "stroke-dasharray": "90 45" }),
+drawn("text", { x: Math.min(left + 40, 9800), y: 170, "font-size": 150, "stroke-width": 40, "paint-order": "stroke" }, text),);svg.append(group);}
 }
 function unitsAt(event) {return new DOMPoint(event.clientX, event.clientY).matrixTransform(shownDiagram().getScreenCTM().inverse()).x;}
 function thingsAt(x, off) {const found = seen.things.filter(thing => !off.has(thing.class) && (thing.kind === "point" ? Math.abs(thing.x - x) <= NEAR : thing.x <= x && x < thing.end));
@@ -301,29 +370,31 @@ for (const listener of whenSwitched) listener();}
 const switchAll = on => switchClasses(classes, on);function hideClasses() {for (const group of $("diagram").querySelectorAll("g[data-class]")) group.style.display = off.has(group.dataset.class) ? "none" : "";if (!view.route) return;
 const on = classes.filter(name => !off.has(name)), chosen = on.length < classes.length ? on.map(name => ["class", name]) : [];$("plain").href = "v1/diagram" + query([["route", view.route.name], ...rangeOf(view), ...chosen]);}
 function rangeOf({ route, from, to }) {return from === 0 && to === route.length ? [] : [["from", from], ["to", to]];}
-const COLUMNS = { class: "Class", value: "Value", side: "Side", from_measure: "From measure", to_measure: "To measure", from: "From, m", to: "To, m", asset: "Asset", offset: "Offset, mm", entered_by: "Edit" };
-const SAVED = ["route", "from", "to", "from_measure", "to_measure", "side", "asset", "class", "value", "offset", "entered_by"];const sorted = { by: "from", down: false };let table, rows = [], chosen = [];const sorterOf = name => {
-const head = make("th", "", { scope: "col" }), button = make("button", COLUMNS[name], { type: "button", className: "plain", value: name });button.onclick = () => sortBy(name);head.append(button);return head;};async function loadRows() {
-const { route, from, to } = view;table ||= new LongTable($("rows"), Object.keys(COLUMNS).map(sorterOf), assetRow);const all = await rowsOf(view);if (view.route !== route || view.from !== from || view.to !== to) return;
+const COLUMNS = { class: "Class", value: "Value", side: "Side", from_measure: "From measure", to_measure: "To measure", from: "From, m", to: "To, m", asset: "Asset", offset: "Offset, mm", entered_by: "Edit" };const HISTORY = "History";
+const SAVED = ["route", "from", "to", "from_measure", "to_measure", "side", "asset", "class", "value", "offset", "entered_by"];const sorted = { by: "from", down: false }, listed = {};let table, rows = [], chosen = [];
+const sorterOf = name => {const head = make("th", "", { scope: "col" }), button = make("button", COLUMNS[name], { type: "button", className: "plain", value: name });button.onclick = () => sortBy(name);head.append(button);return head;};
+async function loadRows() {const { route, from, to } = view;table ||= new LongTable($("rows"), [...Object.keys(COLUMNS).map(sorterOf), ...headsOf([HISTORY])], assetRow);const all = await rowsOf(view);
+if (view.route !== route || view.from !== from || view.to !== to) return;const name = `${from} ${to}`;if (listed.all === all && listed.name === name) return table.show(chosen);Object.assign(listed, { all, name });
 rows = all.filter(row => row.from < to && row.to > from);listRows();}
 function rowsOf({ route, from, to }) {return known("v1/rows", [["route", route.name]])
 .catch(error => (rangeOf({ route, from, to }).length ? known("v1/rows", [["route", route.name], ["from", from], ["to", to]]) : Promise.reject(error)))
 .then(found => found.rows);}
-function keyOf(row, name) {const key = row[name];if (!name.endsWith("measure")) return key;const [n, d = 1] = key.split("/").map(Number);return n / d;}
-function compared(a, b) {if (typeof a === "number") return a - b;const [x, y] = [Number(a), Number(b)];return Number.isNaN(x) || Number.isNaN(y) ? (a < b ? -1 : Number(a > b)) : x - y;}
+function keyOf(row, name) {const key = row[name], [n, d = 1] = name.endsWith("measure") ? key.split("/").map(Number) : [Number(key)];return Number.isNaN(n) ? key : n / d;}
+function compared(a, b) {if (typeof a === typeof b) return a < b ? -1 : Number(a > b);return typeof a === "number" ? -1 : 1;}
 function sortBy(name) {Object.assign(sorted, { down: sorted.by === name && !sorted.down, by: name });listRows();}
 function matches(row, words) {const text = `${row.class} ${row.value} ${row.asset} ${SIDES[row.side]}`.toLowerCase();return words.every(word => text.includes(word));}
-function listRows() {const words = $("row-filter").value.toLowerCase().split(/\s+/).filter(Boolean), sign = sorted.down ? -1 : 1;chosen = rows.filter(row => !off.has(row.class) && matches(row, words));
-chosen.sort((a, b) => sign * compared(keyOf(a, sorted.by), keyOf(b, sorted.by)) || a.from - b.from);for (const button of table.head.querySelectorAll("button")) {
-const way = button.value === sorted.by ? (sorted.down ? "descending" : "ascending") : "none";button.parentNode.setAttribute("aria-sort", way);}
+function listRows() {const words = $("row-filter").value.toLowerCase().split(/\s+/).filter(Boolean), sign = sorted.down ? -1 : 1;
+const keyed = rows.filter(row => !off.has(row.class) && matches(row, words)).map(row => [keyOf(row, sorted.by), row]);chosen = keyed.sort(([a, x], [b, y]) => sign * compared(a, b) || x.from - y.from).map(([, row]) => row);
+for (const button of table.head.querySelectorAll("button")) {const way = button.value === sorted.by ? (sorted.down ? "descending" : "ascending") : "none";button.parentNode.setAttribute("aria-sort", way);}
 table.show(chosen);say("rows-said", `${chosen.length} of ${counted(rows.length, "row")} of this stretch.`);}
 function assetRow(row) {const { route, address } = view, link = linkTo(writeAddress(aroundAsset(route.name, row.from, row.to, row.asset, route.length)), row.asset);
 if (address.asset === String(row.asset)) link.setAttribute("aria-current", "true");
-const made = rowOf([row.class, row.value, SIDES[row.side], short(row.from_measure), short(row.to_measure), metres(row.from), metres(row.to), link, row.offset, row.entered_by]);
-for (const at of [3, 4, 5, 6, 7]) made.cells[at].className = "number";return made;}
+const made = rowOf([row.class, row.value, SIDES[row.side], short(row.from_measure), short(row.to_measure), metres(row.from), metres(row.to), link, row.offset, linkToEdit(row.entered_by), linkToAsset(row.asset, HISTORY)]);
+for (const at of [3, 4, 5, 6, 7, 9]) made.cells[at].className = "number";return made;}
 function saveRows() {const lines = chosen.map(row => SAVED.map(name => row[name]).join(","));$("csv").download = `${view.route.name}.csv`;offer($("csv"), [[SAVED.join(","), ...lines, ""].join("\n")], "text/csv");}
 whenSwitched.push(() => table && listRows());
-const MOST_WAYS = 12;let asks = 0;const markAll = () => drawMarks([...view.asset, ...view.place]);const clearPlace = () => (asks++, (view.place = []), $("hits").replaceChildren(), $("ways").replaceChildren(), say("at-said", ""));
+const MOST_WAYS = 12;let asks = 0;const markAll = () => drawMarks([...view.asset, ...view.place]);function clearPlace() {asks++;view.place = [];
+leaving(["hits", "ways"], "at-title", () => ($("hits").replaceChildren(), $("ways").replaceChildren()));say("at-said", "");}
 function askPlace({ method, pos }) {return attempt("at-said", async () => {clearPlace();const mine = asks, { route } = view;say("at-said", "The position is being asked.");const found = await whatLies(route, method, pos);
 if (mine === asks) showPlace(found, method, pos);});}
 function showPlace(found, method, pos) {const { route } = view, way = found.dir === "+" ? "along the link" : "against the link", few = found.hits.length ? "" : " No asset lies there.";
@@ -332,25 +403,25 @@ if (found.hits.length) $("hits").append(tableOf(["Asset", "Class", "Value", "Sid
 $("ways").append(make("h3", "The same millimetre begins at"), waysOf(found, route));if (method === "chainage") fill($("pos"), route, $("method").value, found.at);
 else Object.assign($("method"), { value: method }), ($("pos").value = pos), delete $("pos").dataset.chainage;view.place = [{ from: found.at, to: found.at + 1, text: "asked" }];markAll();}
 function hitRow(hit, found) {const link = linkTo(writeAddress({ ...view.address, asset: hit.asset }), hit.asset);link.title = "Mark this asset";
-return rowOf([link, hit.class, hit.value, SIDES[hit.side] || hit.side, hit.offset, hit.entry, found.link, found.mm]);}
+return rowOf([link, hit.class, hit.value, SIDES[hit.side] || hit.side, hit.offset, linkToEdit(hit.entry), found.link, found.mm]);}
 function waysOf({ at, link, mm, positions }, { name }) {const list = make("ul", "", { className: "ways" }), distance = ({ method, pos }) => (method === "rel" ? Number(/\d+$/.exec(pos)[0]) : -1);
 const ways = [...positions].sort((a, b) => distance(a) - distance(b)).slice(0, MOST_WAYS);for (const { method, pos } of [{ method: "chainage", pos: metres(at) }, ...ways]) {
 const item = make("li", `${METHODS[method]}: `), canBeAsked = method !== "abs" || !pos.includes("/");item.append(canBeAsked ? linkTo(writeAddress({ route: name, place: { method, pos } }), pos) : `${pos} (${short(pos)})`);list.append(item);}
 list.append(make("li", `on link ${link}: ${mm} mm`));return list;}
 function askTyped() {const place = said($("pos"), $("method").value);return place.pos ? go({ ...view.address, place }) : say("at-said", "Type a position.", true);}
 const askChainage = mm => go({ ...view.address, place: { method: "chainage", pos: metres(mm) } });async function askClick(event) {const x = shownDiagram() ? unitsAt(event) : 0;if (x < 950 || x > 11050) return;
-const clicked = Math.floor(chainageAt(x));return askChainage((await pointAt(event.target, clicked)) ?? Math.min(Math.max(clicked, seen.from), seen.to - 1));}
-async function pointAt(target, clicked) {const tick = target.closest("g[data-kind=point] path"), title = tick && tick.querySelector("title");if (!title) return null;
-const { rows } = await known("v1/find", [["asset", title.textContent.split(":")[0]]]);const near = rows.filter(row => row.route === view.route.name).map(row => row.from);
-return near.sort((a, b) => Math.abs(a - clicked) - Math.abs(b - clicked))[0] ?? null;}
+const clicked = Math.floor(chainageAt(x)), tick = event.target.closest("g[data-kind=point] .t path"), point = tick && pointNear(tick, x);
+return askChainage((point && (await placeOfPoint(point, clicked))) ?? Math.min(Math.max(clicked, seen.from), seen.to - 1));}
+async function placeOfPoint({ asset }, clicked) {const { rows } = await known("v1/find", [["asset", asset]]);const near = rows.filter(row => row.route === view.route.name).map(row => row.from);
+return near.sort((a, b) => Math.abs(a - clicked) - Math.abs(b - clicked))[0];}
 const PARTS = ["view", "asked", "listed"];let shown = 0;async function showRoute(address) {const isNew = !view.route || view.route.name !== address.route;$("route-title").textContent = document.title = `Route ${address.route}`;
 say("route-said", "The diagram is being drawn.");if (isNew) leaveRoute();const mine = ++shown;try {const drawn = await drawingOf(address, isNew);if (mine === shown) putRoute(address, drawn, isNew);} catch (error) {
-if (mine !== shown) return;leaveRoute();say("route-said", error.message, true);}
+if (mine !== shown) return;leaving(PARTS, "route-title", leaveRoute);say("route-said", error.message, true);}
 }
 function leaveRoute() {shown++;Object.assign(view, { route: null, address: {}, asset: [] });clearPlace();$("pos").value = "";for (const id of PARTS) $(id).hidden = true;}
 async function drawingOf({ route: name, stretch }, isNew) {if (isNew) await askHealth();const route = await known(`v1/route/${name}`), drawing = { route, from: 0, to: route.length };
-if (stretch) await endsOf(route, stretch, stretch).then(([from, to]) => Object.assign(drawing, { from, to }), refusal => Object.assign(drawing, { refusal }));
-return { ...drawing, text: await get("v1/diagram", [["route", name], ...rangeOf(drawing)]) };}
+if (stretch) await endsOf(route, stretch, stretch).then(([from, to]) => Object.assign(drawing, { from, to }), refusal => Object.assign(drawing, { refusal }));const text = known("v1/diagram", [["route", name], ...rangeOf(drawing)], get);
+rowsOf(drawing).catch(() => {});return { ...drawing, text: await text };}
 async function endsOf(route, { from, to }, { method, fromMethod = method, toMethod = method }) {
 const [start, end] = await Promise.all([from ? locate(route, fromMethod, from, "From") : 0, to ? locate(route, toMethod, to, "To") : route.length]);
 if (start >= end) throw new Error(`From must be before To: they are at ${metres(start)} m and ${metres(end)} m.`);return [start, end];}
@@ -372,28 +443,50 @@ const isOne = from.method === to.method, stretch = isOne ? { method: from.method
 async function markAsset(asset) {view.asset = [];if (asset) {const { route } = view, { rows } = await known("v1/find", [["asset", asset]]);if (view.route !== route) return;
 view.asset = rows.filter(row => row.route === route.name).map(({ from, to }) => ({ from, to, text: `asset ${asset}` }));}
 markAll();}
-const MOST_FOUND = 200, MOST_SEARCHED = 100000;const upper = text => text.toUpperCase();const KINDS = { asset: findAsset, value: findValue, class: findClass, key: findKey, ref: findRef, route: findRoute };function search() {
+const PART = ["Link", "From, mm", "To, mm", "Side of the link"];const PLACES = ["Route", "Side", "From measure", "To measure", "From, m", "To, m", "Offset, mm"];let taken, lost, turn = 0;
+const partOf = ({ link, from, to, side }) => [link, from, to, SIDES[side]];const takenRow = part => rowOf([part.reason, linkToAsset(part.asset), part.class, part.value, ...partOf(part)]);
+const lostRow = part => rowOf([part.reason, linkToEdit(part.edit), ...partOf(part)]);function clear(parts, tables) {const mine = ++turn;for (const id of parts) $(id).replaceChildren();for (const table of tables) table.show([]);
+return (id, asking, showing) => {if (mine === turn) say(`${id}-said`, "It is being asked.");return asking.then(found => mine === turn && showing(found)).catch(error => mine === turn && say(`${id}-said`, error.message, true));};}
+async function showEdit({ edit }) {taken ||= new LongTable($("taken"), headsOf(["Why", "Asset", "Class", "Value", ...PART]), takenRow);const shows = clear(["record", "beside"], [taken]);
+$("edit-title").textContent = document.title = `Edit ${edit}`;const edits = await askHealth();return Promise.all([
+shows("edit", Promise.all([recordAt(edit), routeNames()]), found => showRecord(Number(edit), edits, ...found)),shows("taken", known("v1/gone", [["edit", edit]]), ({ gone }) => {taken.show(gone);
+say("taken-said", gone.length ? `${counted(gone.length, "part")}.` : "It took nothing away.");}),]);}
+function showRecord(edit, edits, record, names) {say("edit-said", edits ? `Of ${counted(edits, "edit")}.` : "");$("record").replaceChildren(recordTable(record, names));
+if (edit > 1) $("beside").append(linkToEdit(edit - 1, `Edit ${edit - 1}`));if (edit < edits) $("beside").append(linkToEdit(edit + 1, `Edit ${edit + 1}`));}
+async function showAsset({ asset }) {lost ||= new LongTable($("lost"), headsOf(["Why", "By edit", ...PART]), lostRow);const shows = clear(["lies", "entered"], [lost]);$("asset-title").textContent = document.title = `Asset ${asset}`;
+const edits = await askHealth(), rows = known("v1/rows", [["asset", asset]]);return Promise.all([
+shows("asset", Promise.all([rows, known("v1/routes")]), ([found, { routes }]) => showPlaces(found.rows, new Map(routes.map(route => [route.name, route.length])))),
+shows("entered", Promise.all([rows.then(found => entryOf(asset, found.rows, edits)), routeNames()]), ([found, names]) => showEntry(found, names)),shows("lost", rows.then(() => known("v1/gone")), ({ gone }) => showLost(asset, gone)),]);}
+function showPlaces(rows, lengths) {const [row] = rows, holds = rows.length === 1 ? "one stretch" : `${rows.length} stretches`;say("asset-said", row ? `${row.class} ${row.value}. It holds ${holds} today.` : "It lies on no route today.");
+if (row) $("lies").replaceChildren(tableOf(PLACES, rows.map(found => heldRow(found, lengths.get(found.route)))));}
+function heldRow({ route, from, to, from_measure: start, to_measure: end, side, asset, offset }, length) {const link = linkTo(writeAddress(aroundAsset(route, from, to, asset, length)), route);
+const row = rowOf([link, SIDES[side], short(start), short(end), metres(from), metres(to), offset]);for (const cell of [...row.cells].slice(2)) cell.className = "number";return row;}
+async function entryOf(asset, rows, edits = 0) {if (rows.length) return { edit: rows[0].entered_by, record: await recordAt(rows[0].entered_by) };
+return findEdit(edits, (_, verb, first) => first === asset && /^(enter|supersede)$/.test(verb));}
+function showEntry({ edit, record, within }, names) {say("entered-said", edit ? "" : `No edit entered it${within}.`);if (edit) $("entered").replaceChildren(recordTable(record, names, edit));}
+function showLost(asset, gone) {const parts = gone.filter(part => String(part.asset) === asset);lost.show(parts);say("lost-said", `${counted(parts.length, "part")}. In all ${counted(gone.length, "part is", "parts are")} gone.`);}
+const MOST_FOUND = 200;const upper = text => text.toUpperCase();const KINDS = { asset: findAsset, value: findValue, class: findClass, key: findKey, ref: findRef, route: findRoute };function search() {
 const kind = $("kind").value, text = $("wanted").value.trim();$("found").hidden = false;$("results").replaceChildren();say("find-said", "It is being sought.");return attempt("find-said", async () => {
-const edits = await askHealth(), { told, items } = await KINDS[kind](text, edits);$("results").replaceChildren(...items.slice(0, MOST_FOUND));say("find-said", items.length > MOST_FOUND ? `${told} The first ${MOST_FOUND} are shown.` : told);
-});}
+const edits = await askHealth(), { told, found = [], itemOf } = await KINDS[kind](text, edits);$("results").replaceChildren(...found.slice(0, MOST_FOUND).map(entry => itemOf(entry)));
+say("find-said", found.length > MOST_FOUND ? `${told} The first ${MOST_FOUND} are shown.` : told);});}
 function item(...parts) {const made = make("li");made.append(...parts);return made;}
 function stretchItem({ route, from, to, from_measure: start, to_measure: end, side, asset, class: name, value }, length) {
 const link = linkTo(writeAddress(aroundAsset(route, from, to, asset, length)), `${route}: measures ${short(start)} to ${short(end)}`);
-return item(link, ` (${metres(from)} to ${metres(to)} m), ${SIDES[side]}: ${name} ${value}, asset ${asset}`);}
-async function stretchItems(rows) {const { routes } = await known("v1/routes"), lengths = new Map(routes.map(route => [route.name, route.length]));return rows.map(row => stretchItem(row, lengths.get(row.route)));}
-async function findAsset(text) {const { rows } = await known("v1/rows", [["asset", text]]);
-const told = rows.length ? `Asset ${text} holds ${rows.length === 1 ? "one stretch" : `${rows.length} stretches`}.` : `Asset ${text} is known, and lies on no route now.`;return { told, items: await stretchItems(rows) };}
-async function findClass(text) {const { rows } = await known("v1/rows", [["class", upper(text)]]);return { told: `${upper(text)} has ${counted(rows.length, "row")}.`, items: await stretchItems(rows) };}
+return item(link, ` (${metres(from)} to ${metres(to)} m), ${SIDES[side]}: ${name} ${value}, `, linkToAsset(asset, `asset ${asset}`));}
+async function stretches(told, found) {const { routes } = await known("v1/routes"), lengths = new Map(routes.map(route => [route.name, route.length]));return { told, found, itemOf: row => stretchItem(row, lengths.get(row.route)) };}
+async function findAsset(text) {const { rows } = await known("v1/rows", [["asset", text]]);if (rows.length) return stretches(`Asset ${text} holds ${rows.length === 1 ? "one stretch" : `${rows.length} stretches`}.`, rows);
+return { told: `Asset ${text} is known, and lies on no route now.`, found: [text], itemOf: asset => item(linkToAsset(asset, `The history of asset ${asset}`)) };}
+async function findClass(text) {const { rows } = await known("v1/rows", [["class", upper(text)]]);return stretches(`${upper(text)} has ${counted(rows.length, "row")}.`, rows);}
 async function findValue(text) {const { lengths } = await known("v1/lengths"), names = lengths.filter(entry => entry.value === text).map(entry => entry.class);
 const lists = await Promise.all(names.map(name => known("v1/rows", [["class", name]])));const rows = lists.flatMap(list => list.rows).filter(row => row.value === text);
-return { told: rows.length ? `${counted(rows.length, "row")} ${rows.length === 1 ? "has" : "have"} the value ${text}.` : `No row has the value ${text}.`, items: await stretchItems(rows) };}
-async function findKey(text, edits = 0) {const first = Math.max(edits - MOST_SEARCHED + 1, 1);const records = edits ? recordsOf(await known("v1/log", [["from", first]], get)) : [], at = records.findIndex(record => record.key === text);
-if (at < 0) return { told: `No edit has the key ${text}${first > 1 ? `, of the last ${MOST_SEARCHED}` : ""}.`, items: [] };return { told: `Key ${text} is edit ${first + at}.`, items: [item(`${records[at].verb} `, fieldsOf(records[at]))] };}
+return stretches(rows.length ? `${counted(rows.length, "row")} ${rows.length === 1 ? "has" : "have"} the value ${text}.` : `No row has the value ${text}.`, rows);}
+async function findKey(text, edits) {const [{ edit, record, within }, names] = await Promise.all([findEdit(edits, key => key === text), routeNames()]);if (!edit) return { told: `No edit has the key ${text}${within}.` };
+return { told: `Key ${text} is edit ${edit}.`, found: [edit], itemOf: () => item(linkToEdit(edit, `Edit ${edit}`), `: ${record.verb} `, fieldsOf(record, names)) };}
 async function findRef(text) {const { refs } = await known("v1/refs"), found = refs.filter(entry => entry.ref.includes(upper(text)));
-const link = ({ ref, route }) => linkTo(writeAddress({ route, place: { method: "rel", pos: `${ref}+0` } }), ref);const items = found.map(entry => item(link(entry), ` on ${entry.route}, at ${metres(entry.chainage)} m`));
-return { told: `${counted(found.length, "referent")} of this name or part of a name.`, items };}
+const link = ({ ref, route }) => linkTo(writeAddress({ route, place: { method: "rel", pos: `${ref}+0` } }), ref);const itemOf = entry => item(link(entry), ` on ${entry.route}, at ${metres(entry.chainage)} m`);
+return { told: `${counted(found.length, "referent")} of this name or part of a name.`, found, itemOf };}
 async function findRoute(text) {const { routes } = await known("v1/routes"), found = routes.filter(route => route.name.includes(upper(text)));
-return { told: `${counted(found.length, "route")} of this name or part of a name.`, items: found.map(({ name, length }) => item(linkTo(name, name), ` ${metres(length)} m`)) };}
+return { told: `${counted(found.length, "route")} of this name or part of a name.`, found, itemOf: ({ name, length }) => item(linkTo(name, name), ` ${metres(length)} m`) };}
 const MOST_LINES = 500, MOST_BYTES = 1000000, FIRST_RECORDS = 6, MOST_SHOWN = 2000;const PATHS = {"key,verb,a,b,c,d,e,f,g,h,i": ["v1/edits", "an edit sheet"],
 "key,asset,class,route,side,method,from,to,value,offset": ["v1/surveys", "a survey"],};function* recordEnds(bytes) {let quoted = false, fresh = true;for (let at = 0; at < bytes.length; at++) {
 const byte = bytes[at], ends = !quoted && (byte === 10 || (byte === 13 && bytes[at + 1] !== 10));if (byte === 34 && (quoted || fresh)) quoted = !quoted, fresh = !quoted;else fresh = !quoted && (byte === 44 || byte === 13 || byte === 10);
@@ -418,7 +511,7 @@ if (body.rows.length + rows.length < MOST_LINES * (word === "done" || word === "
 body.append(...rows);$("lines").hidden = !body.rows.length;const faults = counts.fault ? ", 1 fault" : "", rest = notShown ? ` ${notShown} lines more are not shown here: save them to see all.` : "";
 say("counts", `${counts.done} done, ${counts.again} again, ${counts.refused} refused${faults}.${rest}`);offer($("save"), replied, "text/csv");}
 function replyRow(key, word, more) {const row = rowOf([key, word, word === "done" || word === "again" ? `edit ${more}` : sentence(more)]);row.className = word;row.cells[1].className = "word";return row;}
-async function sendParts(sheet, refresh) {const { name, path, bodies } = sheet;(stopped = undefined), ($("resume").hidden = true);try {for (; sheet.at < bodies.length; sheet.at++, sheet.resumes = false) {
+async function sendParts(sheet, refresh) {const { name, path, bodies } = sheet;stopped = undefined;leaving(["resume"], "file", () => ($("resume").hidden = true));try {for (; sheet.at < bodies.length; sheet.at++, sheet.resumes = false) {
 say("sheet-said", `${name}: part ${sheet.at + 1} of ${bodies.length} is being sent.`);await sendPart(path + (sheet.resumes ? "?resume=1" : ""), bodies[sheet.at]);}
 say("sheet-said", `${name} was sent to its end, in ${bodies.length === 1 ? "one part" : `${bodies.length} parts`}. Look at the lines: a record that is refused changes nothing.`);} catch (error) {
 if (error.message.endsWith(GO_ON)) (stopped = { ...sheet, resumes: true }), ($("resume").hidden = false);throw error;} finally {await refresh();}
@@ -458,18 +551,20 @@ if (event.key === "Enter") askChainage(Math.floor((seen.from + seen.to) / 2));}
 function watch() {const box = $("diagram");box.addEventListener("wheel", wheel, { passive: false });for (const name of ["touchstart", "touchmove"]) box.addEventListener(name, touch, { passive: false });
 for (const name of ["touchend", "touchcancel"]) box.addEventListener(name, endTouch);Object.assign(box, { onpointerdown: startDrag, onpointermove: dragOn, onpointerup: endDrag, onpointercancel: endDrag, onclick: click, onkeydown: press });
 $("in").onclick = () => zoom(0.5);$("out").onclick = () => zoom(2);$("back").onclick = () => move(-0.5);$("on").onclick = () => move(0.5);$("whole").onclick = () => showRange(0, view.route.length);}
-let isFirst = true;function show(address) {const isRoute = Boolean(address && address.route), changes = $("route").hidden === isRoute && !isFirst;isFirst = false;$("route").hidden = !isRoute;$("network").hidden = isRoute;
-if (changes) $(isRoute ? "route-title" : "network-title").focus({ preventScroll: true }), scrollTo(0, 0);if (isRoute) return showRoute(address);leaveRoute();document.title = "Road inventory";
-say("address-said", address ? "The address names no route." : "", Boolean(address));return loadNetwork();}
+let shownBefore;const SHOWN = { network: showNetwork, route: showRoute, edit: showEdit, asset: showAsset };const viewOf = address => ["route", "edit", "asset"].find(name => address?.[name]) || "network";function show(address) {
+const name = viewOf(address), now = name === "edit" || name === "asset" ? `${name} ${address[name]}` : name;for (const other of Object.keys(SHOWN)) $(other).hidden = other !== name;
+if (shownBefore && shownBefore !== now) $(`${name}-title`).focus({ preventScroll: true }), scrollTo(0, 0);shownBefore = now;if (name !== "route") leaveRoute();return SHOWN[name](address);}
+function showNetwork(address) {document.title = "Road inventory";say("address-said", address ? "The address names no route." : "", Boolean(address));return loadNetwork();}
 async function refresh() {await askHealth();await showAgain();}
 const submits = (id, work) => ($(id).onsubmit = event => (event.preventDefault(), work()));submits("filtering", () => firstRoute()?.click());submits("finding", search);submits("range", () => attempt("route-said", showTyped));
 submits("asking", askTyped);submits("row-filtering", () => {});$("filter").oninput = listRoutes;$("row-filter").oninput = listRows;$("csv").onclick = saveRows;$("by").onchange = () => changeMethod($("by"), [$("from"), $("to")]);
 $("method").onchange = () => changeMethod($("method"), [$("pos")]);for (const id of ["from", "to", "pos"]) $(id).oninput = () => delete $(id).dataset.chainage;$("all").onclick = () => switchAll(true);
-$("none").onclick = () => switchAll(false);$("close").onclick = () => ($("found").hidden = true);$("refresh").onclick = refresh;$("skip").onclick = () => $("main").focus();$("send").onclick = () => sendReady(refresh);
-$("forget").onclick = forget;$("resume").onclick = () => goOn(refresh);$("file").onchange = () => {const files = [...$("file").files];$("file").value = "";attempt("sheet-said", () => lookAt(files));};document.ondragover = event => {
-if (!event.dataTransfer.types.includes("Files")) return;event.preventDefault();document.body.classList.add("over");};document.ondragleave = event => event.relatedTarget || document.body.classList.remove("over");document.ondrop = event => {
-const files = [...event.dataTransfer.files];if (!files.length) return;event.preventDefault();document.body.classList.remove("over");$("sheets").open = true;attempt("sheet-said", () => lookAt(files));};
-window.onbeforeunload = event => void (isSending() && event.preventDefault());makeShades();watch();start(show);
+$("none").onclick = () => switchAll(false);$("close").onclick = () => leaving(["found"], "wanted", () => ($("found").hidden = true));$("refresh").onclick = refresh;$("skip").onclick = () => $("main").focus();
+$("send").onclick = () => leaving(["preview"], "file", () => sendReady(refresh));$("forget").onclick = () => leaving(["preview"], "file", forget);$("resume").onclick = () => goOn(refresh);$("file").onchange = () => {
+const files = [...$("file").files];$("file").value = "";attempt("sheet-said", () => lookAt(files));};document.ondragover = event => {if (!event.dataTransfer.types.includes("Files")) return;event.preventDefault();
+document.body.classList.add("over");};document.ondragleave = event => event.relatedTarget || document.body.classList.remove("over");document.ondrop = event => {const files = [...event.dataTransfer.files];if (!files.length) return;
+event.preventDefault();document.body.classList.remove("over");$("sheets").open = true;attempt("sheet-said", () => lookAt(files));};window.onbeforeunload = event => void (isSending() && event.preventDefault());makeShades();watch();
+start(show);
 </script>
 </body>
 </html>
