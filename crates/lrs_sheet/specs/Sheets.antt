@@ -35,7 +35,7 @@ HaveWidth sheet records = AllByRecursion (λ fields. length fields ≡ width_of 
 
 -- how many records are done together, of a sheet that is there as a whole
 abbrev pub records_together : ℕ
-records_together = 256
+records_together = 1024
 
 -- The records are answered in order, and the lines of their replies are written.
 pub record AreAnswered (sheet : Sheet) (limits : Limits) (before : State) (records : List (List Text)) (replies : List Reply) (after : State) (old new : Option Text) : Type 0 where

@@ -23,7 +23,7 @@ pub(crate) const MAX_RECORDS: u32 = 100_000_000;
 
 /// How many records are done together of a sheet that is there as a whole: some tens of milliseconds over a file, a
 /// few hundred bytes of memory each.
-pub const RECORDS_TOGETHER: usize = 256;
+pub const RECORDS_TOGETHER: usize = 1_024;
 
 /// How a sheet is run: of which kind it is, how many records are done together at most, and how many first ones are
 /// passed over.
