@@ -1,4 +1,5 @@
 pub mod Written
+pub mod Summed
 pub mod Plain
 pub mod Padding
 pub mod Reading

@@ -1,3 +1,4 @@
 pub mod Log
 pub mod Differences
+pub mod Sums
 pub mod Laws

@@ -2,6 +2,7 @@
 
 ghost use Rattle.lrs_sheet_log.specs.Differences.{TablesMakeImages};
 ghost use Rattle.lrs_sheet_log.specs.Laws.{LogReadsAsRecords, LogRecordsSay};
+ghost use Rattle.lrs_sheet_log.specs.Sums.{SumsFollow};
 
 /// The record of an edit says the command that was accepted, under its key.
 pub fn log_records_say_their_commands()
@@ -16,4 +17,9 @@ pub fn a_log_reads_as_its_records()
 /// Images that have the same rows in all tables are the same.
 pub fn same_tables_make_the_same_image()
     ensures { TablesMakeImages }
+{}
+
+/// The sum up to an edit follows from the sum up to the edit before it, its number and its line.
+pub fn sums_follow()
+    ensures { SumsFollow }
 {}

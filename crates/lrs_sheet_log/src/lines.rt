@@ -21,7 +21,7 @@ fn commas_in(line: &[u8]) -> usize
 }
 
 /// The commas before the empty fields of a record: one for each field that a line has fewer than nine behind its verb.
-fn empty_fields(line: &[u8]) -> &'static [u8]
+pub(crate) fn empty_fields(line: &[u8]) -> &'static [u8]
     ensures { result.now ≡ replicate (9 - count_by (λ byte. byte == 44) line.now) 44 }
 {
     let commas: &[u8] = b",,,,,,,,,";
