@@ -1,5 +1,5 @@
 -- From what a task asks for to what the input asks for.
-use Rattle.std.proofs.Common.{ℕ, List, Option, None, Some, IfSome, Result, Ok, Err, IfOk, inl, inr, refl}
+use Rattle.std.proofs.Common.{ℕ, ◌≡◌, ◌⊎◌, List, Option, None, Some, IfSome, Result, Ok, Err, IfOk, inl, inr, refl}
 use Rattle.lrs_machine.specs.declared.image.Image.{Image}
 use Rattle.lrs_machine.specs.declared.table.Table.{Table}
 use Rattle.lrs_sheet.specs.DeskView.{DeskView}
@@ -7,6 +7,14 @@ use Rattle.lrs_web_requests.specs.Request.{Asked, Asks, refused}
 use Rattle.lrs_web_requests.specs.Text.{Answer, empty_answer}
 use Rattle.lrs_web.specs.declared.request.WebFault.{WebFault}
 use Rattle.lrs_web.specs.RequestAnswers.{Does, Responds, Serves, Writes}
+
+-- what is written once a task was done is the response to it
+pub responded : {K : Type 0} (holds : K → Result Image Table → Type 0) (w v : Option (List ℕ)) (asked : Asked) (old new : DeskView K) (due : Answer) (r : Result ℕ WebFault)
+    → Does holds asked old due new
+    → IfOk r (λ status. (answer : Answer) × ((answer ≡ due) ⊎ (answer ≡ empty_answer 503)) × Writes w v status answer)
+    → IfOk r (λ status. (answer : Answer) × Writes w v status answer × Responds holds asked old answer new)
+responded holds w v asked old new due (Ok status) does (answer, given, writes) = (answer, writes, (due, does, given))
+responded holds w v asked old new due (Err fault) does written = tt
 
 serves : {K : Type 0} (holds : K → Result Image Table → Type 0) (a : Option (List ℕ)) (asked : Asked) (old new : DeskView K) (answer : Answer)
     → IfSome a (λ input. Asks input asked) → Responds holds asked old answer new → IfSome a (λ input. Serves holds input old answer new)

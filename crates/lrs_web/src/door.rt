@@ -5,7 +5,8 @@ ghost use Rattle.lrs_web_requests.specs.Routes.{rows};
 ghost use Rattle.lrs_web.specs.Door.{HasRisen};
 ghost use Rattle.lrs_web.specs.Visits.{IsCut, IsFull, Visited};
 
-use crate::request::{WebFault, refuse, respond};
+use crate::recipient::{Client, Recipient};
+use crate::request::{WebFault, do_task, refuse, write_to};
 use lrs_sheet::{Desk, Keeper};
 use lrs_web_requests::{BodyFault, Resource, receive, routes};
 use matchit::Router;
@@ -24,8 +25,8 @@ pub trait Door {
     /// The part of a connection from which its request is read.
     type Reader: Read + Drop;
 
-    /// The part of a connection to which the reply is written. The door has it back.
-    type Writer: Write;
+    /// The part of a connection to which the reply is written, and that knows of the client. The door has it back.
+    type Writer: Write + Client;
 
     /// The connections that it has still to give, where it tells them.
     ghost waiting: { Self → Option (List (Self.Reader × Self.Writer)) } = { λ _. None };
@@ -78,7 +79,7 @@ fn is_full(written: Result<u16, WebFault>) -> bool
 }
 
 /// Serves the request of a connection, and answers whether it was served in full.
-fn serve_by<R: Read, W: Write, K: Keeper>(
+fn serve_by<R: Read, W: Write + Client, K: Keeper>(
     alloc: Global,
     most: usize,
     router: &Router<Resource>,
@@ -95,7 +96,14 @@ fn serve_by<R: Read, W: Write, K: Keeper>(
     ensures cut { IsCut K.may_hold (R.remaining reader.old) desk.old desk.new }
 {
     match receive(alloc, router, reader) {
-        Ok(task) => is_full(respond(alloc, most, &task, writer, desk)),
+        Ok(task) => {
+            let to = Recipient {
+                client: &*writer,
+                most,
+            };
+            let reply = do_task(alloc, &to, &task, desk);
+            is_full(write_to(alloc, &reply, writer))
+        }
         Err(BodyFault::Memory) => {
             let _ = refuse(writer);
             false
@@ -104,7 +112,7 @@ fn serve_by<R: Read, W: Write, K: Keeper>(
     }
 }
 
-fn serve_connection<R: Read, W: Write, K: Keeper>(
+fn serve_connection<R: Read, W: Write + Client, K: Keeper>(
     alloc: Global,
     most: usize,
     reader: &mut R,
@@ -128,7 +136,7 @@ fn serve_connection<R: Read, W: Write, K: Keeper>(
 }
 
 /// Serves a number of connections of a door, one after another: the request of each is read, done and answered as
-/// `serve_one` does it. A connection that fails ends alone.
+/// `serve_one` does it; a sheet whose client is gone ends where it is. A connection that fails ends alone.
 ///
 /// # Errors
 /// The door gave no connection; those before it are served.

@@ -3,9 +3,11 @@
 
 mod door;
 mod questions;
+mod recipient;
 mod request;
 mod sheet;
 
 pub use door::{Door, DoorFault, Served, serve_all};
 pub use lrs_sheet::{Desk, Keeper};
+pub use recipient::Client;
 pub use request::{WebFault, serve_one};

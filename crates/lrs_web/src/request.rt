@@ -12,6 +12,7 @@ ghost use Rattle.lrs_web.specs.RequestAnswers as spec;
 ghost use Rattle.lrs_web.specs.RequestAnswers.{Does, Responds, Serves, Writes, allowed_answer, sheet_at};
 
 use crate::questions::answer_questions;
+use crate::recipient::{AnyClient, Client, Recipient};
 use crate::sheet::do_sheet;
 use http::StatusCode;
 use lrs_sheet::{Desk, Keeper, Sheet};
@@ -161,9 +162,9 @@ fn query_reply<K: Keeper>(
 }
 
 /// Does a sheet, or answers the questions where it is of no kind that is done.
-fn do_posted<K: Keeper>(
+fn do_posted<C: Client, K: Keeper>(
     alloc: Global,
-    most: usize,
+    to: &Recipient<'_, C>,
     kind: Option<Sheet>,
     resumes: bool,
     bytes: &[u8],
@@ -174,13 +175,18 @@ fn do_posted<K: Keeper>(
         desk.new) }
 {
     match kind {
-        Some(kind) => do_sheet(alloc, most, kind, resumes, bytes, desk),
-        None => answer_questions(alloc, most, bytes, desk),
+        Some(kind) => do_sheet(alloc, to, kind, resumes, bytes, desk),
+        None => answer_questions(alloc, to, bytes, desk),
     }
 }
 
-/// Does what is asked for. A reply with more bytes than that is an empty 503, as where memory runs out.
-fn do_task<K: Keeper>(alloc: Global, most: usize, task: &Request, desk: &mut Desk<K>) -> Response
+/// Does what is asked for. A reply with more bytes than its recipient may have is an empty 503, as where memory runs out.
+pub(crate) fn do_task<C: Client, K: Keeper>(
+    alloc: Global,
+    to: &Recipient<'_, C>,
+    task: &Request,
+    desk: &mut Desk<K>,
+) -> Response
     requires { IsServed (asked_by task.now) }
     ensures { Does K.may_hold (asked_by task.now) desk.old (answer_of result) desk.new }
 {
@@ -188,16 +194,21 @@ fn do_task<K: Keeper>(alloc: Global, most: usize, task: &Request, desk: &mut Des
         Request::Refused(status) => Response::empty(*status),
         Request::NotAllowed(verb) => allowed_reply(*verb),
         Request::Query(resource, argument) => {
-            query_reply(alloc, most, *resource, argument.as_slice(), desk)
+            query_reply(alloc, to.most, *resource, argument.as_slice(), desk)
         }
         Request::Sheet(resource, resumes, bytes) => {
             let kind = sheet_of(*resource);
-            do_posted(alloc, most, kind, *resumes, bytes.as_slice(), desk)
+            do_posted(alloc, to, kind, *resumes, bytes.as_slice(), desk)
         }
     }
 }
 
-fn write_to<W: Write>(alloc: Global, reply: &Response, writer: &mut W) -> Result<u16, WebFault>
+/// Writes a reply, or for lack of memory an empty 503, and answers the status that was written.
+pub(crate) fn write_to<W: Write>(
+    alloc: Global,
+    reply: &Response,
+    writer: &mut W,
+) -> Result<u16, WebFault>
     ensures written { IfOk result (λ status. (answer : Answer)
         × ((answer ≡ answer_of reply.now) ⊎ (answer ≡ empty_answer 503))
         × Writes (W.contents writer.old) (W.contents writer.new) status answer) }
@@ -218,24 +229,6 @@ pub(crate) fn refuse<W: Write>(writer: &mut W) -> Result<u16, WebFault>
         Ok(()) => Ok(503),
         Err(_) => Err(WebFault::Write),
     }
-}
-
-/// Does what is asked for, and writes the reply, of at most so many bytes.
-pub(crate) fn respond<W: Write, K: Keeper>(
-    alloc: Global,
-    most: usize,
-    task: &Request,
-    writer: &mut W,
-    desk: &mut Desk<K>,
-) -> Result<u16, WebFault>
-    requires { IsServed (asked_by task.now) }
-    ensures written { IfOk result (λ status. (answer : Answer) × Writes (W.contents writer.old) (W.contents writer.new) status answer
-        × Responds K.may_hold (asked_by task.now) desk.old answer desk.new) }
-    ensures done { (due : Answer) × Does K.may_hold (asked_by task.now) desk.old due desk.new }
-    ensures fault { result ≡ Err WebFault.Read → ⊥ }
-{
-    let reply = do_task(alloc, most, task, desk);
-    write_to(alloc, &reply, writer)
 }
 
 /// Serves the request at the front of the input: reads it, does it at the desk and writes the reply, whose status is
@@ -266,7 +259,15 @@ pub fn serve_one<R: Read, W: Write, K: Keeper>(
         return refuse(writer);
     };
     match receive(alloc, &router, reader) {
-        Ok(task) => respond(alloc, usize::MAX, &task, writer, desk),
+        Ok(task) => {
+            let client = AnyClient;
+            let to = Recipient {
+                client: &client,
+                most: usize::MAX,
+            };
+            let reply = do_task(alloc, &to, &task, desk);
+            write_to(alloc, &reply, writer)
+        }
         Err(BodyFault::Memory) => refuse(writer),
         Err(BodyFault::Read(_)) => Err(WebFault::Read),
     }

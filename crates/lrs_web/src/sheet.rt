@@ -4,11 +4,11 @@ ghost use Rattle.std.specs.Prelude.{◌≡◌, ◌⊎◌, false, true};
 ghost use Rattle.lrs_web_requests.specs.Text.{answer_of, empty_answer};
 ghost use Rattle.lrs_web.specs.Sheets.{DoesSheet, IsAnswerAfter, RunsSheet, fault_answer, lines_answer};
 
+use crate::recipient::{Client, Recipient, ReplyLines};
 use http::StatusCode;
 use lrs_sheet::{
     Desk, Keeper, RECORDS_TOGETHER, ResumeFault, Sheet, SheetFault, Tally, resume_sheet, run_sheet,
 };
-use lrs_web_replies::BoundedBytes;
 use lrs_web_requests::{Content, ContentType, Response};
 use std::alloc::Global;
 
@@ -56,44 +56,46 @@ pub(crate) fn reply_after<T: Drop>(ended: Result<T, SheetFault>, lines: Vec<u8>)
 }
 
 /// Does a whole sheet.
-fn do_whole<K: Keeper>(
+fn do_whole<C: Client, K: Keeper>(
     alloc: Global,
-    most: usize,
+    to: &Recipient<'_, C>,
     sheet: Sheet,
     bytes: &[u8],
     desk: &mut Desk<K>,
 ) -> Response
     ensures { RunsSheet K.may_hold sheet false bytes.now desk.old (answer_of result) desk.new }
 {
-    let mut lines = BoundedBytes::new(alloc, most);
+    let mut lines = ReplyLines::new(alloc, to);
     let ended = run_sheet(alloc, sheet, RECORDS_TOGETHER, bytes, &mut lines, desk);
-    reply_after(ended, lines.bytes)
+    reply_after(ended, lines.text.bytes)
 }
 
 /// Goes on with a sheet behind its last record that is an edit, unless a key stands twice in it.
-fn go_on<K: Keeper>(
+fn go_on<C: Client, K: Keeper>(
     alloc: Global,
-    most: usize,
+    to: &Recipient<'_, C>,
     sheet: Sheet,
     bytes: &[u8],
     desk: &mut Desk<K>,
 ) -> Response
     ensures { DoesSheet K.may_hold sheet true bytes.now desk.old (answer_of result) desk.new }
 {
-    let mut lines = BoundedBytes::new(alloc, most);
+    let mut lines = ReplyLines::new(alloc, to);
     match resume_sheet(alloc, sheet, RECORDS_TOGETHER, bytes, &mut lines, desk) {
-        Ok(tally) => reply_after(Ok(tally), lines.bytes),
-        Err(ResumeFault::Sheet(fault)) => reply_after::<Tally>(Err(fault), lines.bytes),
-        Err(ResumeFault::RepeatedKey(_)) => { faulty_reply(lines.bytes, b"-,fault,RepeatedKey\n") }
+        Ok(tally) => reply_after(Ok(tally), lines.text.bytes),
+        Err(ResumeFault::Sheet(fault)) => reply_after::<Tally>(Err(fault), lines.text.bytes),
+        Err(ResumeFault::RepeatedKey(_)) => {
+            faulty_reply(lines.text.bytes, b"-,fault,RepeatedKey\n")
+        }
     }
 }
 
 /// Does a sheet whose bytes have all come, or goes on with it behind its last record that is an edit. Where memory or the
-/// keeper fails, or the reply would have too many bytes, some of its records may be done, and the reply is an empty 503;
-/// then the sheet can go on.
-pub(crate) fn do_sheet<K: Keeper>(
+/// keeper fails, the reply would have too many bytes or its client is gone, some of its records may be done, and the reply
+/// is an empty 503; then the sheet can go on.
+pub(crate) fn do_sheet<C: Client, K: Keeper>(
     alloc: Global,
-    most: usize,
+    to: &Recipient<'_, C>,
     sheet: Sheet,
     resumes: bool,
     bytes: &[u8],
@@ -102,8 +104,8 @@ pub(crate) fn do_sheet<K: Keeper>(
     ensures { DoesSheet K.may_hold sheet resumes bytes.now desk.old (answer_of result) desk.new }
 {
     if resumes {
-        go_on(alloc, most, sheet, bytes, desk)
+        go_on(alloc, to, sheet, bytes, desk)
     } else {
-        do_whole(alloc, most, sheet, bytes, desk)
+        do_whole(alloc, to, sheet, bytes, desk)
     }
 }

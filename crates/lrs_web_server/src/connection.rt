@@ -6,9 +6,11 @@ use crate::arrival::Behind;
 use crate::departure::{OutgoingReply, Returns, Stage, give_back};
 use crate::journal::JournalEntry;
 use crate::judge::copy_from;
+use lrs_web::Client;
 use lrs_web_requests::write_unavailable;
 use mio::Token;
 use std::alloc::Global;
+use std::cell::Cell;
 use std::io;
 use std::io::{ErrorKind, Read, Write};
 use std::net::TcpStream;
@@ -16,6 +18,9 @@ use std::time::{Duration, Instant};
 
 // Where memory for a reply is missing, its client is waited for so long, and others wait.
 const TAKING_MILLIS: u64 = 4_000;
+
+// Each reply begins with this byte.
+const FIRST_BYTE: &[u8] = b"H";
 
 /// The request of a connection, which has come, so that it is read from memory.
 #[derive(Drop)]
@@ -74,6 +79,8 @@ pub struct ReplyWriter<'a> {
     rest: Vec<u8>,
     sent: usize,
     room: usize,
+    // How many bytes were sent before there was a reply: none, or the first one.
+    ahead: Cell<usize>,
     progress: Progress,
     has_waited: bool,
     entry: Option<JournalEntry>,
@@ -98,6 +105,7 @@ impl<'a> ReplyWriter<'a> {
             rest: Vec::new(alloc),
             sent: 0,
             room,
+            ahead: Cell::new(0),
             progress: Progress::Nothing,
             has_waited: false,
             entry,
@@ -143,7 +151,7 @@ impl<'a> ReplyWriter<'a> {
         Ok(())
     }
 
-    // Puts an empty 503 in the place of a reply of which nothing has been sent.
+    // Puts an empty 503 in the place of a reply of which nothing has been sent, or the first byte.
     fn refuse(&mut self) -> io::Error {
         self.progress = Progress::Refused;
         self.rest.clear();
@@ -173,10 +181,13 @@ impl<'a> ReplyWriter<'a> {
     fn write_head(&mut self, buf: &[u8]) -> io::Result<usize>
         ensures { IfOk result (λ count. count ≤ length buf.now) }
     {
+        let ahead = self.ahead.get().min(buf.len());
         if self.rest.extend_from_slice(buf).is_err() {
             self.progress = Progress::Begun;
-            return self.write_or_keep(buf);
+            let count = self.write_or_keep(&buf[ahead..])?;
+            return Ok(ahead + count);
         }
+        self.sent = ahead;
         self.progress = Progress::Head;
         Ok(buf.len())
     }
@@ -209,6 +220,35 @@ fn is_later(kind: ErrorKind) -> bool {
     matches!(kind, ErrorKind::WouldBlock | ErrorKind::Interrupted)
 }
 
+// Whether a connection has been reset: then it does not take even nothing.
+fn is_reset(mut stream: &TcpStream) -> bool {
+    match stream.write(&[]) {
+        Ok(_) => false,
+        Err(error) => !is_later(error.kind()),
+    }
+}
+
+// Whether nothing comes behind what was read, since the client has ended its side.
+fn has_ended(stream: &TcpStream) -> bool {
+    let mut next = [0u8; 1];
+    matches!(stream.peek(&mut next), Ok(0))
+}
+
+impl<'a> Client for ReplyWriter<'a> {
+    // A client that has ended its side waits for its reply, or has closed the connection, and the system does not tell which.
+    // So the first byte of the reply is sent ahead: a closed connection is reset by it, as the next look finds.
+    fn is_gone(&self) -> bool {
+        if is_reset(&self.stream) {
+            return true;
+        }
+        if self.ahead.get() == 0 && has_ended(&self.stream) {
+            let mut stream = &self.stream;
+            self.ahead.set(stream.write(FIRST_BYTE).unwrap_or(0));
+        }
+        false
+    }
+}
+
 impl<'a> Write for ReplyWriter<'a> {
     fn write(&mut self, buf: &[u8]) -> io::Result<usize> {
         let count = self.write_on(buf)?;
@@ -232,6 +272,7 @@ impl<'a> Drop for ReplyWriter<'a> {
             rest,
             sent,
             room: _,
+            ahead: _,
             progress,
             has_waited: _,
             entry,
