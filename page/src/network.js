@@ -7,7 +7,7 @@ import { counted, metres } from "./numbers.js";
 import { fieldsOf, linkToEdit, recordsOf, routeNames } from "./edits.js";
 import { LongTable, headsOf } from "./sight.js";
 
-const LAST_EDITS = 10, LEAST_GAP = 8, LETTER = 8;
+const LAST_EDITS = 10, LEAST_GAP = 8, LETTER = 9;
 const network = { routes: [], longest: 1, posts: new Map(), edits: undefined };
 let bars, drawnFor = {};
 

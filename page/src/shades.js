@@ -4,7 +4,7 @@ const SHADES = 24;
 const classShades = new Map();
 
 // The style sheet says the two depths for each scheme: such that words stand out on the shade, and the shade on its ground.
-const shade = at => `oklch(var(--depth-${at % 2}) 0.09 ${Math.round(25 + at * 137.5) % 360})`;
+const shade = at => `oklch(var(--depth-${at % 2}) 0.09 ${Math.round(255 + at * 137.5) % 360})`;
 
 export function shadeOf(name, value) {
   const values = classShades.get(name) || classShades.set(name, new Map()).get(name);

@@ -1,4 +1,4 @@
-"""The page as such: one file, whose parts are put together; who cannot see or point; dark, narrow, printed; and nginx before it."""
+"""The page as such: one file, whose parts are put together; narrow, printed; and nginx before it."""
 
 import base64
 import re
@@ -117,38 +117,6 @@ def test_each_field_has_a_label_and_is_reached_by_keys(page):
     # all that can be pressed is large enough
     small = "return [...document.querySelectorAll('button, input, select, summary')].filter(e => e.offsetHeight && e.offsetHeight < 24).map(e => e.outerHTML)"
     assert browser.runs(small) == []
-
-
-# The texts in sight whose colour differs too little from the ground below them.
-FAINT = """
-const parts = text => text.match(/[\\d.]+/g).map(Number);
-const light = ([r, g, b]) => { const f = c => (c /= 255) <= 0.03928 ? c / 12.92 : ((c + 0.055) / 1.055) ** 2.4; return 0.2126 * f(r) + 0.7152 * f(g) + 0.0722 * f(b); };
-const ground = e => { for (; e; e = e.parentElement) { const c = parts(getComputedStyle(e).backgroundColor); if (c.length < 4 || c[3] > 0) return c; } return [255, 255, 255]; };
-const ratio = e => { const [a, b] = [light(parts(getComputedStyle(e).color)), light(ground(e))].sort((x, y) => y - x); return (a + 0.05) / (b + 0.05); };
-const written = e => [...e.childNodes].some(n => n.nodeType === 3 && n.data.trim()) && e.getClientRects().length;
-return [...document.querySelectorAll('body *:not(svg *)')].filter(e => written(e) && ratio(e) < 4.5).map(e => [e.outerHTML.slice(0, 200), ratio(e)]);
-"""
-
-
-@pytest.mark.parametrize("scheme", ["light", "dark"])
-def test_texts_stand_out_in_each_scheme(page, scheme):
-    browser = page.browser
-    try:
-        page.emulates("setEmulatedMedia", features=[{"name": "prefers-color-scheme", "value": scheme}, {"name": "prefers-reduced-motion", "value": "reduce"}])
-        page.opens()
-        browser.shows("#edits", "e5")
-        assert browser.runs(FAINT) == []
-        page.pictured(f"{scheme}_network")
-        page.opens_route("A1")
-        browser.types("#pos", "9001" + ENTER)
-        browser.shows("#at-said", "Error: OffRoute")
-        page.sends(page.file("roads.csv", sheet_of("s1,link,1,5000", "q1,class,WIDTH,exclusive", "q2,enter,10,WIDTH,A1,B,abs,0,9000,7,0")))
-        browser.shows("#sheet-said", "to its end")
-        browser.shows("#classes", "WIDTH")
-        assert browser.runs(FAINT) == [] and browser.runs("return document.getAnimations().length") == 0
-        page.pictured(scheme)
-    finally:
-        page.emulates("setEmulatedMedia", features=[])
 
 
 # What is wider than the paper, or has a part that only scrolling would show.

@@ -1,7 +1,10 @@
 """The page over 10,000 routes, one of which has 20,000 rows: how long the first view and each click take, and what is asked again.
 
-The bounds are three times what we want: a second for the first view, 200 ms for a click. The least of some tries counts.
+What counts is the least of some tries, and how long a processor works for it, since much may run beside it. The bounds are three times what
+was measured. How long a person waits is told too (`pytest -s`).
 """
+
+import subprocess
 
 import pytest
 
@@ -9,7 +12,9 @@ from program import ends, sheet_of
 from stores import edit
 from web_page import browser, page, service
 
-FIRST_VIEW, CLICK, TRIES = 3_000, 600, 3
+# Seconds of a processor.
+BOUNDS = {"the first view": 0.6, "the wide route": 1.1}
+CLICK, TRIES = 0.45, 2
 ROUTES = range(1, 10_000)
 
 
@@ -93,30 +98,36 @@ CLICKS = {
 }
 
 
-def seen_after(page, doing, seeing):
-    return page.browser.send("POST", "/execute/async", {"script": SEEN_AFTER, "args": [doing, seeing]})
+def taken(page, doing, seeing):
+    """The seconds that a processor has worked until then, and those that a person has waited."""
+    before = page.work()
+    if not doing:
+        page.goes_to()
+    waited = page.browser.send("POST", "/execute/async", {"script": SEEN_AFTER, "args": [doing, seeing]})
+    worked = page.work()
+    # a page that is opened anew is counted anew
+    return worked - (before if worked >= before else 0), waited / 1000
 
 
 @pytest.fixture(scope="module")
 def large(browser, tmp_path_factory):
     folder = tmp_path_factory.mktemp("large")
-    ends(edit(folder / "roads.db", large_inventory(), stdout=None), b"", 0)
+    ends(edit(folder / "roads.db", large_inventory(), stdout=subprocess.DEVNULL), b"", 0)
     with service(browser, folder) as opened:
         yield opened
 
 
 def test_the_first_view_and_each_click_take_little_time(large):
-    least = {}
+    first = {"the first view": ("", f"{told('routes-said', '10000 of')} && {told('edits', 'e19999')} && {told('totals', 'LANE')}")}
+    large.work()
+    tries = []
     for _ in range(TRIES):
-        large.goes_to()
-        taken = {"the first view": seen_after(large, "", f"{told('routes-said', '10000 of')} && {told('edits', 'e19999')} && {told('totals', 'LANE')}")}
-        taken |= {name: seen_after(large, *click) for name, click in CLICKS.items()}
-        least = {name: min(time, least.get(name, time)) for name, time in taken.items()}
+        tries.append({name: taken(large, *click) for name, click in (first | CLICKS).items()})
         # what has not changed is asked once, and a table has few rows
         names = [name for name in large.requests() if not name.endswith("/health")]
         assert len(names) == len(set(names)), names
         assert max(len(large.rows(css)) for css in ["#routes", "#rows"]) < 60
-    print("\n".join(f"{time:6.0f} ms {name}" for name, time in least.items()))
-    assert least.pop("the first view") < FIRST_VIEW
-    assert {name: time for name, time in least.items() if time >= CLICK} == {}
+    least = {name: [min(times[name][at] for times in tries) for at in range(2)] for name in tries[0]}
+    print(*(f"{work:.3f} s of work, {waited:.3f} s until {name}" for name, (work, waited) in least.items()), sep="\n")
+    assert {name: work for name, (work, _) in least.items() if work >= BOUNDS.get(name, CLICK)} == {}
     large.is_as_it_should_be()

@@ -7,7 +7,7 @@ pub static PAGE: &str = r##"<!doctype html>
 <meta charset="utf-8">
 <meta name="viewport" content="width=device-width, initial-scale=1">
 <meta name="color-scheme" content="light dark">
-<meta http-equiv="Content-Security-Policy" content="default-src 'none'; style-src 'unsafe-inline'; script-src 'sha256-ZGK4Y0FYcwksAD6f8Qt00lDeq0tDIlPl591Mn3xJLQo='; img-src data:; connect-src 'self'; form-action 'none'; base-uri 'none'">
+<meta http-equiv="Content-Security-Policy" content="default-src 'none'; style-src 'unsafe-inline'; script-src 'sha256-cXwePLMEQ+gIKC9gE4qYLxj+3u0XLn+72YxgQRjw58M='; img-src data:; connect-src 'self'; form-action 'none'; base-uri 'none'">
 <title>Road inventory</title>
 <link rel="icon" href="data:,">
 <style>
@@ -266,7 +266,7 @@ const next = by > 0 ? row.nextSibling : row.previousSibling, column = [...row.qu
 }
 function prints(now) {isPrinting = now;for (const table of tables) table.draw();}
 window.onbeforeprint = () => prints(true);window.onafterprint = () => prints(false);
-const LAST_EDITS = 10, LEAST_GAP = 8, LETTER = 8;const network = { routes: [], longest: 1, posts: new Map(), edits: undefined };let bars, drawnFor = {};async function loadNetwork() {
+const LAST_EDITS = 10, LEAST_GAP = 8, LETTER = 9;const network = { routes: [], longest: 1, posts: new Map(), edits: undefined };let bars, drawnFor = {};async function loadNetwork() {
 bars ||= new LongTable($("routes"), headsOf(["Route", "Length, m", "Posts, to one scale"], ["name", "length", "bar"]), routeRow);network.edits = await askHealth();
 await Promise.all([attempt("routes-said", loadRoutes), attempt("totals-said", loadTotals), attempt("edits-said", loadEdits)]);}
 function isNew(name, value) {const before = drawnFor[name];drawnFor[name] = value;return before !== value;}
@@ -318,7 +318,7 @@ function addWords(inside, words) {if (!words.trim()) return;if (!inside || (insi
 function withLooks(made, looks) {for (const [, name, value] of looks.matchAll(LOOK)) {if (name === "xmlns" && value === SVG) continue;if (!LOOKS.test(name)) refusePicture();made.setAttribute(name, value);}
 return made;}
 function refusePicture() {throw new Error("The diagram cannot be read.");}
-const SHADES = 24;const classShades = new Map();const shade = at => `oklch(var(--depth-${at % 2}) 0.09 ${Math.round(25 + at * 137.5) % 360})`;function shadeOf(name, value) {
+const SHADES = 24;const classShades = new Map();const shade = at => `oklch(var(--depth-${at % 2}) 0.09 ${Math.round(255 + at * 137.5) % 360})`;function shadeOf(name, value) {
 const values = classShades.get(name) || classShades.set(name, new Map()).get(name);if (!values.has(value)) values.set(value, values.size % SHADES);return `shade-${values.get(value)}`;}
 function makeShades() {const sheet = new CSSStyleSheet();for (let at = 0; at < SHADES; at++) sheet.insertRule(`#route .shade-${at} { stroke: ${shade(at)}; stroke-opacity: 1; background: ${shade(at)}; }`);
 document.adoptedStyleSheets = [sheet];}
