@@ -14,7 +14,7 @@ from program import TOP
 RECIPE = TOP / "docs" / "recipes" / "postgresql"
 
 # Seconds that a step of the cluster may take on a machine with much beside it.
-SOON = 60
+SOON = 120
 
 SETTINGS = {"listen_addresses": "", "fsync": "off", "shared_buffers": "16MB", "max_connections": "20", "max_wal_size": "256MB"}
 
