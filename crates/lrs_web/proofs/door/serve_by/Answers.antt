@@ -12,7 +12,7 @@ returns-in-Ok-clause-full g c =
     let old = c.args.desk.now in
     let new = c.do_task-reply.new.desk in
     λ yes. full_by g.K.Holder.may_hold (g.R.Read.remaining c.args.reader.now) before after asked old new c.write_to.result c.in-Ok.ensures.asked
-        (responded g.K.Holder.may_hold before after asked old new (answer_of c.do_task-reply.result) c.write_to.result c.do_task-reply.ensures c.write_to.ensures.written) (c.is_full.ensures yes)
+    (responded g.K.Holder.may_hold before after asked old new (answer_of c.do_task-reply.result) c.write_to.result c.do_task-reply.ensures c.write_to.ensures.written) (c.is_full.ensures yes)
 
 pub returns-in-Ok-clause-cut : goal.returns-in-Ok-clause-cut
 returns-in-Ok-clause-cut g c =
