@@ -45,6 +45,7 @@ two_faults holds before after (Ok x) unwritten = tt
 two_faults holds before after (Err program.Memory) unwritten = inl refl
 two_faults holds before after (Err program.Write) unwritten = inr refl
 two_faults holds before after (Err program.Open) unwritten = absurd unwritten
+two_faults holds before after (Err (program.OtherInventory found)) unwritten = absurd unwritten
 two_faults holds before after (Err (program.Unsound t)) unwritten = absurd unwritten
 two_faults holds before after (Err program.Keep) unwritten = absurd unwritten
 two_faults holds before after (Err program.MustReopen) unwritten = absurd unwritten
