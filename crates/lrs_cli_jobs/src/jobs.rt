@@ -211,7 +211,7 @@ fn do_and_close<F: Files, S: Sheets, W: Write + Drop>(
 ) -> Result<(W, Ending), ProgramFault>
     requires behind { desk.is_ahead ≡ false }
     ensures { (after : DeskView F.Kept) × HasWorkedAt F.Kept.may_hold
-        (S.text_of world.now.sheets.now) target.expected work.entry desk after
+        (S.text_of world.now.sheets.now) target.entry.expected work.entry desk after
         (W.contents to) (printed W.contents result)
         × FindsKept F.Kept.may_hold after (F.may_find files.new) }
 {
@@ -231,7 +231,7 @@ fn do_with_log<F: Files, S: Sheets, W: Write + Drop>(
     work: Work<'_>,
     to: W,
 ) -> Result<(W, Ending), ProgramFault>
-    ensures { EndsWithLog (S.text_of world.now.sheets.now) target.expected F.Kept.may_hold F.has_opened
+    ensures { EndsWithLog (S.text_of world.now.sheets.now) target.entry.expected F.Kept.may_hold F.has_opened
         (F.may_find files.new) work.entry (W.contents to) (printed W.contents result) }
 {
     let turn = turn_at(world.rt, target, Purpose::Change);
@@ -286,7 +286,7 @@ fn do_in_file<F: Files, S: Sheets, W: Write + Drop>(
 ) -> Result<(W, Ending), ProgramFault>
     ensures { EndsInFile ⟦<Plain as Holder>⟧.may_hold F.Kept.may_hold F.Seen.may_hold
         F.has_opened F.has_read (F.may_find files.new) (S.text_of world.now.sheets.now)
-        target.expected work.entry (W.contents to) (printed W.contents result) }
+        target.entry.expected work.entry (W.contents to) (printed W.contents result) }
 {
     if matches!(work, Work::Audit) {
         return audit_with_log(world, files, target, work, to);
@@ -330,7 +330,7 @@ fn audit_with_log<F: Files, S: Sheets, W: Write + Drop>(
     work: Work<'_>,
     to: W,
 ) -> Result<(W, Ending), ProgramFault>
-    ensures { EndsWithLog (S.text_of world.now.sheets.now) target.expected F.Kept.may_hold F.has_opened
+    ensures { EndsWithLog (S.text_of world.now.sheets.now) target.entry.expected F.Kept.may_hold F.has_opened
         (F.may_find files.new) work.entry (W.contents to) (printed W.contents result) }
 {
     match try_to_look(world.rt, files, target) {
@@ -381,7 +381,7 @@ fn do_in_new<F: Files, S: Sheets, W: Write + Drop>(
 ) -> Result<(W, Ending), ProgramFault>
     ensures { EndsInFile ⟦<Plain as Holder>⟧.may_hold F.Kept.may_hold F.Seen.may_hold
         F.has_opened F.has_read (F.may_find files.new) (S.text_of world.now.sheets.now)
-        target.expected work.entry (W.contents to) (printed W.contents result) }
+        target.entry.expected work.entry (W.contents to) (printed W.contents result) }
 {
     if makes(&work) {
         tell_making(world.rt, target.path, world.shown);
@@ -415,7 +415,7 @@ fn do_at_path<F: Files, S: Sheets, W: Write + Drop>(
 ) -> Result<(W, Ending), ProgramFault>
     ensures { EndsInFile ⟦<Plain as Holder>⟧.may_hold F.Kept.may_hold F.Seen.may_hold
         F.has_opened F.has_read (F.may_find files.new) (S.text_of world.now.sheets.now)
-        target.expected work.entry (W.contents to) (printed W.contents result) }
+        target.entry.expected work.entry (W.contents to) (printed W.contents result) }
 {
     match settled_site(world.rt, target) {
         Site::Inventory => do_in_file(world, files, target, work, to),
