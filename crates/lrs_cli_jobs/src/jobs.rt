@@ -356,18 +356,11 @@ fn is_all_or_nothing(work: &Work<'_>) -> bool {
     matches!(work, Work::Sheet { all: true, .. })
 }
 
-// The same target, with a file that is made for it where nothing is. It is taken away again only where nothing is to be
-// done unless all is.
-fn made_for<'a>(rt: &HostRuntime, target: Target<'a>, work: &Work<'_>) -> Target<'a> {
-    let made = make_file(rt, target.path);
-    Target {
-        path: target.path,
-        new_has_sums: target.new_has_sums,
-        existing: target.existing,
-        patience: target.patience,
-        made: if is_all_or_nothing(work) { made } else { None },
-        expected: target.expected,
-    }
+// The file that is made at a path where nothing is, if it may be taken away again: only where nothing is to be done
+// unless all is.
+fn made_for(rt: &HostRuntime, path: &str, work: &Work<'_>) -> Option<MadeFile> {
+    let made = make_file(rt, path);
+    if is_all_or_nothing(work) { made } else { None }
 }
 
 // Makes an inventory, or goes on with one whose making was cut off, and does work in it. What makes none has none; but a
@@ -385,7 +378,14 @@ fn do_in_new<F: Files, S: Sheets, W: Write + Drop>(
 {
     if makes(&work) {
         tell_making(world.rt, target.path, world.shown);
-        let target = made_for(world.rt, target, &work);
+        let target = Target {
+            path: target.path,
+            new_has_sums: target.new_has_sums,
+            existing: target.existing,
+            patience: target.patience,
+            made: made_for(world.rt, target.path, &work),
+            expected: target.expected,
+        };
         return do_with_log(world, files, target, work, to);
     }
     if matches!(work, Work::Check { .. }) {
@@ -451,24 +451,6 @@ fn give_tidied<S: Sheets, W: Write + Drop>(
     do_tidy(world, kind, from, to)
 }
 
-// The file that a job works in, as its options have it.
-fn target_at<'a>(
-    rt: &HostRuntime,
-    path: &'a str,
-    new_has_sums: bool,
-    options: Options,
-    shown: ProgressDisplay,
-) -> Target<'a> {
-    Target {
-        path,
-        new_has_sums,
-        existing: options.has_to_be(),
-        patience: Patience::new(rt, options.wait, shown != ProgressDisplay::Nowhere),
-        made: None,
-        expected: options.expected,
-    }
-}
-
 // Does a task: writes the page, tidies a sheet, or works in the inventory that it names.
 fn do_task<F: Files, S: Sheets, W: Write + Drop>(
     world: &World<'_, HostRuntime, S>,
@@ -489,7 +471,15 @@ fn do_task<F: Files, S: Sheets, W: Write + Drop>(
             if is_in_memory(db) {
                 return do_in_memory(world, options.expected, work, to);
             }
-            let target = target_at(world.rt, db, new_has_sums, options, world.shown);
+            let tells = world.shown != ProgressDisplay::Nowhere;
+            let target = Target {
+                path: db,
+                new_has_sums,
+                existing: options.has_to_be(),
+                patience: Patience::new(world.rt, options.wait, tells),
+                made: None,
+                expected: options.expected,
+            };
             do_at_path(world, files, target, work, to)
         }
     }
