@@ -595,12 +595,3 @@ def test_two_inventories_by_path(postgres, tmp_path):
         reader.stop()
         assert got(port, "/north/v1/edits", sheet_of("s8,class,LAST,point")) == (200, b"s8,done,8\n")
         assert asked(port, "/north/health") == {"edits": 8}
-        # where an inventory has no other program, a question waits until that is started again
-        south.stop()
-        answers = []
-        asking = threading.Thread(target=lambda: answers.append(got(port, "/south/v1/totals")), daemon=True)
-        asking.start()
-        time.sleep(1)
-        with started(port=south.port):
-            asking.join(SOON)
-            assert answers == [(200, b'{"totals":[]}')]
