@@ -178,23 +178,18 @@ def test_a_link_is_followed_to_a_file_that_may_not_be_written(full, answered, tm
         assert answers(tmp_path / "link.db") == answered
 
 
-def test_the_file_may_be_asked_by_many_at_once_and_written_by_none_meanwhile(full, tmp_path):
+def test_the_file_may_be_asked_by_many_at_once_and_written_once_they_have_read_it(full, tmp_path):
     path = tmp_path / "roads.db"
     shutil.copy(full, path)
-    with untouched(tmp_path):
-        asking = subprocess.Popen([PROGRAM, "ask", path, "stdin"], stdin=subprocess.PIPE, stdout=subprocess.PIPE)
-        try:
-            header, first, second = QUESTIONS.splitlines(keepends=True)
+    header, first, second = QUESTIONS.splitlines(keepends=True)
+    with subprocess.Popen([PROGRAM, "ask", path, "stdin"], stdin=subprocess.PIPE, stdout=subprocess.PIPE) as asking:
+        with untouched(tmp_path):
             asking.stdin.write(header + first)
             asking.stdin.flush()
             assert asking.stdout.readline().startswith(b"q1,")
             ends(run("find", str(path), "10"), run("find", str(full), "10").stdout, 0)
-            faults(run("edit", str(path), "stdin", "--wait", "0", given=FIRST), "Open")
-            assert b"q2," in asking.communicate(second, timeout=PATIENCE)[0] and asking.returncode == 0
-        finally:
-            asking.kill()
-            asking.wait()
-    ends(edit(path, FIRST), FIRST_REPLIES.replace(b"done", b"again"), 0)
+        ends(run("edit", str(path), "stdin", "--wait", "0", given=FIRST), FIRST_REPLIES.replace(b"done", b"again"), 0)
+        assert b"q2," in asking.communicate(second, timeout=PATIENCE)[0] and asking.returncode == 0
 
 
 # Another program has the file until its standard input ends: this one would drop the lock once it read the file.
