@@ -136,14 +136,14 @@ def test_a_check_shows_how_far_it_is(long):
 
 def test_questions_show_how_far_they_are(top):
     ends(edit(top / "roads.db", FIRST), FIRST_REPLIES, 0)
-    asked = b"".join(b"q%d,translate,A1,int,1/3,abs\n" % n for n in range(60_000))
+    asked = b"".join(b"q%d,translate,A1,int,1/3,abs\n" % n for n in range(300_000))
     (top / "questions.csv").write_bytes(b"key,question,a,b,c,d\n" + asked)
     ended, shown = run_slowly(
         ["stderr"], "ask", top / "roads.db", top / "questions.csv", is_enough=has_shown(COUNT + rb" lines", rb", \d{1,3}%, .*left")
     )
-    ends(ended, b"".join(b"q%d,position,A1,abs,3200\n" % n for n in range(60_000)), 0)
+    ends(ended, b"".join(b"q%d,position,A1,abs,3200\n" % n for n in range(300_000)), 0)
     assert re.fullmatch(rb"(?:" + line(COUNT + rb" lines") + rb")+" + TAKEN_AWAY, shown), shown[-500:]
-    assert counts_of(shown, b"lines")[-1] <= 60_000
+    assert counts_of(shown, b"lines")[-1] <= 300_000
 
 
 def test_an_audit_says_how_many_edits_there_are(top):
