@@ -166,7 +166,8 @@ fn numbered(number: u64) -> [(&'static str, Cause); 5] {
 
 /// The cause of this name about a number.
 fn read_numbered(name: &[u8], number: u64) -> Option<Cause> {
-    for (known, cause) in &numbered(number) {
+    let causes = numbered(number);
+    for (known, cause) in &causes {
         if name == known.as_bytes() {
             return Some(*cause);
         }
