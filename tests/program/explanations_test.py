@@ -118,7 +118,8 @@ def test_files_that_cannot_be_opened(top):
 def test_an_inventory_that_is_not_there(top):
     """What is said goes by whether the command makes one."""
     assert "edit and survey make one" in is_unopened(top / "x", "no such file", "rows", "DB")[1]
-    assert "without --existing" in is_unopened(top / "x", "no such file", "edit", "DB", "stdin", "--existing")[1]
+    for option in (["--existing"], ["--expect", "0123456789abcdef"]):
+        assert "without --existing and --expect a new one is made" in is_unopened(top / "x", "no such file", "edit", "DB", "stdin", *option)[1]
     assert "make the folder" in is_unopened(top / "none" / "x", "there is no folder", "edit", "DB", "stdin")[1]
     is_unopened("/proc/x", "it is not there, and was not made", "edit", "DB", "stdin")
     assert list(top.iterdir()) == []
@@ -144,7 +145,7 @@ def test_a_file_that_is_missing_or_cut_short_beside_a_log(top, kept, log):
         if not is_remnant:
             assert said[1] == "explain: bring the file back: what was committed is in both; or remove the log, to begin anew", said
         elif "--existing" in words:
-            assert said[1] == "explain: name an inventory; without --existing one is made in an empty file", said
+            assert said[1] == "explain: name an inventory; without --existing and --expect one is made in an empty file", said
 
 
 def test_a_link_is_followed_to_the_log_beside_its_file(top):

@@ -100,7 +100,7 @@ fn cure_of_nothing(job: &Job<'_>, existing: bool) -> &'static str {
     if !makes_inventory(job) {
         "name a file that is there; edit and survey make one"
     } else if existing {
-        "name a file that is there; without --existing a new one is made"
+        "name a file that is there; without --existing and --expect a new one is made"
     } else {
         "name a file in a folder where you may write, and make room"
     }
@@ -111,7 +111,7 @@ fn cure_of_empty(job: &Job<'_>, existing: bool) -> &'static str {
     if !makes_inventory(job) {
         "name an inventory; edit and survey make one in an empty file"
     } else if existing {
-        "name an inventory; without --existing one is made in an empty file"
+        "name an inventory; without --existing and --expect one is made in an empty file"
     } else {
         "the file, its log named -wal and their folder must be open to you to write"
     }
