@@ -145,9 +145,13 @@ def test_what_is_waited_for_is_said_on_a_terminal_after_a_second():
 
 
 def test_who_serves_the_file_is_named_with_its_port():
-    with folder() as path, started(db=path, options=["--most-reply", "70000"]) as server:
-        said = run("totals", str(path), "--wait", "0", "--explain").stderr.decode()
-        assert f"process {server.child.pid}" in said and f"http://127.0.0.1:{server.port}/v1/totals" in said, said
+    """Whatever options stand before the file."""
+    with folder() as path:
+        make(path)
+        identity = run("log", str(path), "1", "--sum").stdout.split()[1][:16].decode()
+        with started(db=path, options=["--most-reply", "70000", "--expect", identity, "--wait", "1"]) as server:
+            said = run("totals", str(path), "--wait", "0", "--explain").stderr.decode()
+            assert f"process {server.child.pid}" in said and f"http://127.0.0.1:{server.port}/v1/totals" in said, said
 
 
 def test_a_question_whose_answer_is_not_read_keeps_no_writer_out():

@@ -105,7 +105,7 @@ def test_files_that_cannot_be_opened(top):
     (top / "lost-wal").write_bytes(b"x" * 5000)
     (top / "lost").unlink()
     cases = [("none", "there is no such file"), ("none/x", f"there is no folder {top}/none"), ("folder", "it is a folder"), ("pipe", "it is a device, a pipe")]
-    cases += [("text", "not a database"), ("other", "other tables than an inventory's: t u"), ("lost", "its log beside it")]
+    cases += [("text", "not a database"), ("other", "other tables than an inventory's: t u"), ("lost", "and a log, named -wal, lies beside it")]
     for name, part in cases:
         before = there(top)
         is_unopened(top / name, part)
@@ -118,10 +118,51 @@ def test_files_that_cannot_be_opened(top):
 def test_an_inventory_that_is_not_there(top):
     """What is said goes by whether the command makes one."""
     assert "edit and survey make one" in is_unopened(top / "x", "no such file", "rows", "DB")[1]
-    assert "without --existing" in is_unopened(top / "x", "no such file", "edit", "DB", "stdin", "--existing")[1]
+    for option in (["--existing"], ["--expect", "0123456789abcdef"]):
+        assert "without --existing and --expect a new one is made" in is_unopened(top / "x", "no such file", "edit", "DB", "stdin", *option)[1]
     assert "make the folder" in is_unopened(top / "none" / "x", "there is no folder", "edit", "DB", "stdin")[1]
     is_unopened("/proc/x", "it is not there, and was not made", "edit", "DB", "stdin")
     assert list(top.iterdir()) == []
+
+
+@pytest.mark.parametrize("log", [b"", b"x", None, b"x" * 5000], ids=["an empty log", "a byte of a log", "the log of a good end", "a long log"])
+@pytest.mark.parametrize("kept", [None, 0, 1, 50, 99])
+def test_a_file_that_is_missing_or_cut_short_beside_a_log(top, kept, log):
+    """What was found, and not that the folder may not be written; an inventory is made where a making was cut off alone."""
+    db = top / "roads.db"
+    make_full(db)
+    beside = top / "roads.db-wal"
+    assert beside.stat().st_size == 41
+    if log is not None:
+        beside.write_bytes(log)
+    if kept is None:
+        db.unlink()
+    else:
+        os.truncate(db, kept)
+    is_remnant = kept in (0, 1) and log in (b"", b"x")
+    for words in (["totals", "DB"], ["audit", "DB"], ["edit", "DB", "stdin", "--existing"], *([] if is_remnant else [["edit", "DB", "stdin"]])):
+        said = is_unopened(db, "the file is empty" if is_remnant else "it is missing or cut short, and a log, named -wal, lies beside it", *words)
+        if not is_remnant:
+            assert said[1] == "explain: bring the file back: what was committed is in both; or remove the log, to begin anew", said
+        elif "--existing" in words:
+            assert said[1] == "explain: name an inventory; without --existing and --expect one is made in an empty file", said
+
+
+def test_a_link_is_followed_to_the_log_beside_its_file(top):
+    (top / "kept").mkdir()
+    make_full(top / "kept" / "roads.db")
+    (top / "link").symlink_to("kept/roads.db")
+    os.truncate(top / "kept" / "roads.db", 0)
+    assert "a log, named -wal, lies beside it" in is_unopened(top / "link", "cut short", "edit", "DB", "stdin")[0]
+    (top / "kept" / "roads.db").unlink()
+    for words in (["totals", "DB"], ["edit", "DB", "stdin"]):
+        assert "name a file" in is_unopened(top / "link", "it is a link to a file that is not there", *words)[1]
+
+
+def test_a_file_of_a_byte_is_no_database(top):
+    (top / "byte").write_bytes(b"x")
+    for words in (["totals", "DB"], ["edit", "DB", "stdin"], ["edit", "DB", "stdin", "--existing"]):
+        is_unopened(top / "byte", "it is not a database of SQLite's", *words)
 
 
 ADDED = {

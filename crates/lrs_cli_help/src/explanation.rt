@@ -79,9 +79,8 @@ fn tell_found(rt: &HostRuntime, job: &Job<'_>, existing: bool, db: &str, found: 
             let _ = eprintln!(rt; "explain: {db}: there is no folder {folder}");
             return;
         }
-        Found::LogAlone => {
-            "it is missing or empty, and its log beside it, named -wal, has commits"
-        }
+        Found::LooseLink => "it is a link to a file that is not there",
+        Found::LogAlone => "it is missing or cut short, and a log, named -wal, lies beside it",
         Found::Folder => "it is a folder",
         Found::NoFile => "it is a device, a pipe or a socket",
         Found::SecondName => "the file has a second name, by a hard link",
@@ -101,18 +100,20 @@ fn cure_of_nothing(job: &Job<'_>, existing: bool) -> &'static str {
     if !makes_inventory(job) {
         "name a file that is there; edit and survey make one"
     } else if existing {
-        "name a file that is there; without --existing a new one is made"
+        "name a file that is there; without --existing and --expect a new one is made"
     } else {
         "name a file in a folder where you may write, and make room"
     }
 }
 
 // What to do about an empty file.
-fn cure_of_empty(job: &Job<'_>) -> &'static str {
-    if makes_inventory(job) {
-        "the file, its log named -wal and their folder must be open to you to write"
-    } else {
+fn cure_of_empty(job: &Job<'_>, existing: bool) -> &'static str {
+    if !makes_inventory(job) {
         "name an inventory; edit and survey make one in an empty file"
+    } else if existing {
+        "name an inventory; without --existing and --expect one is made in an empty file"
+    } else {
+        "the file, its log named -wal and their folder must be open to you to write"
     }
 }
 
@@ -165,15 +166,15 @@ fn tell_cure(rt: &HostRuntime, job: &Job<'_>, existing: bool, db: &str, found: &
         Found::NoFolder(_) => say(rt, "make the folder, or name another"),
         Found::LogAlone => say(
             rt,
-            "bring the file back to its log; what was committed is in both together",
+            "bring the file back: what was committed is in both; or remove the log, to begin anew",
         ),
-        Found::Folder | Found::NoFile => say(rt, "name a file"),
+        Found::Folder | Found::NoFile | Found::LooseLink => say(rt, "name a file"),
         Found::SecondName => say(
             rt,
             "take one of the names away: the log can lie beside one alone",
         ),
         Found::Journal => say(rt, "open it with sqlite3, which plays the journal back"),
-        Found::Empty => say(rt, cure_of_empty(job)),
+        Found::Empty => say(rt, cure_of_empty(job, existing)),
         Found::Refused(_) => say(
             rt,
             "the file, its log named -wal and their folder must be open to you to write",

@@ -137,7 +137,7 @@ fn port_among(words: &[&str]) -> Option<u64> {
         if is_value {
             is_value = false;
         } else if word.starts_with('-') {
-            is_value = *word == "--most-reply" || *word == "--wait";
+            is_value = *word == "--most-reply" || *word == "--wait" || *word == "--expect";
         } else if has_db {
             return word.parse::<u64>().ok();
         } else {

@@ -2,6 +2,7 @@
 
 use crate::contents::{Contents, contents_at};
 use crate::holder::{Holder, holder_of, is_locked};
+use crate::site::{Site, log_path, site_at};
 use std::alloc::Global;
 use std::io::{ErrorKind, Read};
 use std::os::unix::fs::MetadataExt;
@@ -16,7 +17,9 @@ pub(crate) enum Found {
     Nothing,
     /// The folder of the path is not there.
     NoFolder(String),
-    /// No file, or an empty one, beside a log.
+    /// A link to a file that is not there.
+    LooseLink,
+    /// No file, or one that is too short for a database, beside a log.
     LogAlone,
     Folder,
     /// A device, a pipe or a socket.
@@ -29,6 +32,7 @@ pub(crate) enum Found {
     InUse(Option<Holder>),
     /// A journal of SQLite's, which only SQLite can play back, or something else of its name.
     Journal,
+    /// A file in which an inventory can be made.
     Empty,
     /// No database of SQLite's.
     NoDatabase,
@@ -38,17 +42,14 @@ pub(crate) enum Found {
     Unknown,
 }
 
-// The fewest bytes of a log that has a commit: its header, and one frame with its header and the smallest page.
-const SHORTEST_LOG: u64 = 32 + 24 + 512;
-
-// Whether there is a log with commits beside a path.
+// Whether there is a log beside a path, or something else of its name.
 fn has_log(rt: &HostRuntime, path: &str) -> bool {
-    let Ok(log) = format!(in rt.alloc(); "{path}-wal") else {
+    let Ok(log) = log_path(rt, path) else {
         return false;
     };
     match fs::metadata(rt, log.as_str()) {
-        Ok(found) => found.len() >= SHORTEST_LOG,
-        Err(_) => false,
+        Ok(_) => true,
+        Err(error) => error.kind() != ErrorKind::NotFound,
     }
 }
 
@@ -96,7 +97,7 @@ fn begins_as_sqlite(rt: &HostRuntime, path: &str) -> io::Result<bool> {
     }
 }
 
-// What is found in a file that nobody else has open.
+// What is found in a file.
 fn inside(rt: &HostRuntime, path: &str) -> Found {
     match begins_as_sqlite(rt, path) {
         Ok(true) => Found::Database(contents_at(rt, path)),
@@ -105,23 +106,25 @@ fn inside(rt: &HostRuntime, path: &str) -> Found {
     }
 }
 
+// What is found of a file that nobody else has open.
+fn free_file_found(rt: &HostRuntime, path: &str) -> Found {
+    match site_at(rt, path) {
+        Site::Vacant | Site::Remnant => Found::Empty,
+        Site::Foreign if has_log(rt, path) => Found::LogAlone,
+        _ if has_journal(rt, path) => Found::Journal,
+        _ => inside(rt, path),
+    }
+}
+
 // What is found of a file.
-fn file_found(rt: &HostRuntime, path: &str, len: u64) -> Found {
+fn file_found(rt: &HostRuntime, path: &str) -> Found {
     if let Some(holder) = holder_of(rt, path) {
         return Found::InUse(Some(holder));
     }
     if is_locked(rt, path) {
         return Found::InUse(None);
     }
-    if len == 0 && has_log(rt, path) {
-        Found::LogAlone
-    } else if len < 2 {
-        Found::Empty
-    } else if has_journal(rt, path) {
-        Found::Journal
-    } else {
-        inside(rt, path)
-    }
+    free_file_found(rt, path)
 }
 
 // What is found of a path where nothing is: whether its folder is there.
@@ -139,20 +142,25 @@ fn folder_found(rt: &HostRuntime, path: &str) -> Found {
     }
 }
 
+// What is found of a path that leads to nothing.
+fn nothing_found(rt: &HostRuntime, path: &str) -> Found {
+    if has_log(rt, path) {
+        Found::LogAlone
+    } else if fs::symlink_metadata(rt, path).is_ok() {
+        Found::LooseLink
+    } else {
+        folder_found(rt, path)
+    }
+}
+
 /// Looks at a path. Nothing there is made or changed, and no lock is kept.
 pub(crate) fn inspect(rt: &HostRuntime, path: &str) -> Found {
     match fs::metadata(rt, path) {
         Ok(found) if found.is_dir() => Found::Folder,
         Ok(found) if !found.is_file() => Found::NoFile,
         Ok(found) if found.nlink() > 1 => Found::SecondName,
-        Ok(found) => file_found(rt, path, found.len()),
-        Err(error) if error.kind() == ErrorKind::NotFound => {
-            if has_log(rt, path) {
-                Found::LogAlone
-            } else {
-                folder_found(rt, path)
-            }
-        }
+        Ok(_) => file_found(rt, path),
+        Err(error) if error.kind() == ErrorKind::NotFound => nothing_found(rt, path),
         Err(error) => refused(rt.alloc(), &error),
     }
 }

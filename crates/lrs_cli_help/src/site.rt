@@ -42,8 +42,8 @@ fn object_at(rt: &HostRuntime, path: &str) -> Object {
     }
 }
 
-// The path of the log: beside the file that a link leads to.
-fn log_path(rt: &HostRuntime, path: &str) -> io::Result<String> {
+/// The path of the log: beside the file that a link leads to.
+pub(crate) fn log_path(rt: &HostRuntime, path: &str) -> io::Result<String> {
     match fs::canonicalize(rt, path) {
         Ok(real) => Ok(format!(in rt.alloc(); "{}-wal", real.as_str())?),
         Err(_) => Ok(format!(in rt.alloc(); "{path}-wal")?),
