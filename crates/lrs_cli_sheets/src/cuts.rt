@@ -129,13 +129,13 @@ fn do_first<R: Runtime<A = Global>, K: Keeper>(
     rows: &mut Reader<&[u8]>,
     row: &mut ByteRecord,
 ) -> u64 {
-    let mut told = 0;
+    let mut told: u64 = 0;
     for _turn in 0..MOST_DONE {
         if told == MOST_TOLD || !has_next(rows, row) {
             return told;
         }
         if do_row(rt, desk, row) {
-            told += 1;
+            told = told.saturating_add(1);
         }
     }
     told
