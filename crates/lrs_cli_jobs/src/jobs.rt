@@ -5,6 +5,7 @@ ghost use Rattle.lrs_desk.specs.DeskView.{DeskView};
 ghost use Rattle.lrs_cli_jobs.specs.Jobs.{EndsInFile, EndsInMemory, EndsJob, EndsPage, EndsTask, EndsTidied, EndsWithLog, FindsKept, HasWorked, HasWorkedAt, IsExpected, Looks, identity_at, printed};
 
 use crate::desk::{open_desk, open_desk_to_look};
+use crate::question::do_question;
 use crate::service::do_service;
 use lrs_cli_help::{
     MadeFile, Options, Patience, Purpose, Site, Turn, make_file, remove_file, site_at, take_turn,
@@ -13,7 +14,7 @@ use lrs_cli_sheets::{
     Pace, ProgressDisplay, Sheets, World, do_audit, do_check, do_questions, do_records, do_tidy,
 };
 use lrs_cli_tasks::{
-    Ending, ProgramFault, Task, Work, answer, answer_sum, do_page, is_in_memory, open_in_memory,
+    Ending, ProgramFault, Task, Work, answer_sum, do_page, is_in_memory, open_in_memory,
     task_of,
 };
 use lrs_cli_words::{Job, QuestionFault, new_has_sums};
@@ -68,7 +69,7 @@ fn do_work<R: Runtime<A = Global> + Net, S: Sheets, W: Write + Drop, K: Keeper>(
         } => do_records(world, desk, kind, resumes, all, whole, from, of_file, to),
         Work::Check { kind, from } => do_check(world, desk, kind, from, to),
         Work::Question { question, as_text } => {
-            answer(world.rt.alloc(), desk, question, as_text, to)
+            do_question(world.rt, world.shown, desk, question, as_text, to)
         }
         Work::Questions { from } => do_questions(world, desk, from, to),
         Work::Sum { up_to } => answer_sum(world.rt.alloc(), desk, up_to, to),

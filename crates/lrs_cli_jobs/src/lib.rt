@@ -6,6 +6,7 @@ mod explanation;
 mod jobs;
 mod output;
 mod program;
+mod question;
 mod service;
 #[cfg(test)]
 mod tests;

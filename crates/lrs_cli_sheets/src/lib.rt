@@ -4,7 +4,11 @@
 
 mod advice;
 mod audit;
+mod chainage_notes;
+mod chainages;
+mod cuts;
 mod difference;
+mod likely_measures;
 mod progress;
 mod question_sheets;
 mod report;
@@ -15,6 +19,7 @@ mod trial;
 mod world;
 
 pub use audit::do_audit;
+pub use chainage_notes::tell_chainages;
 pub use progress::{Extent, ProgressDisplay};
 pub use question_sheets::{QuestionPace, answer_sheet, do_questions};
 pub use sheets::Pace;

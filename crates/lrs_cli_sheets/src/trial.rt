@@ -8,6 +8,7 @@ ghost use Rattle.lrs_cli_sheets.specs.Sheets.{DoesNotGoOn, IsUnwritten, ending_o
 ghost use Rattle.lrs_cli_sheets.specs.Trials.{ArePassed, EndsAll, EndsCheck, EndsRecords, EndsTried, HasTried, IsFull, IsTried};
 
 use crate::advice::{Trial, advise};
+use crate::cuts::tell_cuts;
 use crate::progress::{Extent, Measured, ProgressLine};
 use crate::report::LongWork;
 use crate::sheets::{
@@ -38,7 +39,7 @@ fn copy_of(alloc: Global, inventory: &Inventory) -> Result<Plain, ProgramFault>
 }
 
 /// A desk with full limits over a copy of the inventory of another, in memory.
-fn copy_desk<K: Keeper>(alloc: Global, desk: &Desk<K>) -> Result<Desk<Plain>, ProgramFault>
+pub(crate) fn copy_desk<K: Keeper>(alloc: Global, desk: &Desk<K>) -> Result<Desk<Plain>, ProgramFault>
     ensures image { IfOk result (λ copy. copy.image ≡ desk.now.image) }
     ensures limits { IfOk result (λ copy. IsFull copy.limits) }
     ensures memory { IfErr result (λ e. e ≡ ProgramFault.Memory) }
@@ -150,8 +151,25 @@ fn check_text<R: Runtime<A = Global>, S: Sheets, W: Write + Drop, K: Keeper>(
     }
 }
 
+// Does the same, and then tells a terminal where the sheet cuts routes.
+fn check_and_tell<R: Runtime<A = Global>, S: Sheets, W: Write + Drop, K: Keeper>(
+    world: &World<'_, R, S>,
+    desk: &Desk<K>,
+    kind: Sheet,
+    text: &[u8],
+    to: W,
+) -> Result<(W, Ending), ProgramFault>
+    ensures ended { IfOk result (λ done. EndsCheck kind (Some text.now) desk.now.image
+        (W.contents to) (W.contents done.0) done.1) }
+    ensures failed { IfErr result (λ e. e ≡ ProgramFault.Write) }
+{
+    let given = check_text(world, desk, kind, text, to);
+    tell_cuts(world.rt, world.shown, desk, kind, text);
+    given
+}
+
 /// Writes what a sheet would be answered at a desk, and on standard error what to do about each record that would be
-/// refused. Nothing is done: the sheet is tried at a copy of the inventory.
+/// refused; on a terminal, also where it cuts routes. Nothing is done: the sheet is tried at a copy of the inventory.
 ///
 /// # Errors
 /// `Write` where not all replies were written.
@@ -168,7 +186,7 @@ pub fn do_check<R: Runtime<A = Global>, S: Sheets, W: Write + Drop, K: Keeper>(
     ensures failed { IfErr result (λ e. e ≡ ProgramFault.Write) }
 {
     match read_whole(world, name) {
-        Ok(text) => check_text(world, desk, kind, text.as_slice(), to),
+        Ok(text) => check_and_tell(world, desk, kind, text.as_slice(), to),
         Err(error) => Ok((to, unopened(world.rt, name, error))),
     }
 }
