@@ -323,6 +323,17 @@ static FIND: JobLine = JobLine {
     ],
 };
 
+static ROUTE_SHEET: JobLine = JobLine {
+    name: "route",
+    about: "Prints the commands that make a route as an edit sheet",
+    example: "Example: roadlrs route roads.db A1 > a1.csv",
+    usage: None,
+    parts: &[
+        LinePart::Required("DB", DB),
+        LinePart::Required("ROUTE", ROUTE),
+    ],
+};
+
 static ASK: JobLine = JobLine {
     name: "ask",
     about: "Answers a sheet of questions",
@@ -437,6 +448,7 @@ fn line_in_table(job: JobName) -> &'static JobLine
         JobName::Totals => &TOTALS,
         JobName::Lengths => &LENGTHS,
         JobName::Find => &FIND,
+        JobName::Route => &ROUTE_SHEET,
         JobName::Ask => &ASK,
         JobName::List => &LIST,
         JobName::Rows => &ROWS,
@@ -504,6 +516,7 @@ pub(crate) fn program<'a>(alloc: Global) -> Result<Command<'a>, AllocError>
             JobName::Totals,
             JobName::Lengths,
             JobName::Find,
+            JobName::Route,
             JobName::Ask,
             JobName::List,
             JobName::Rows,

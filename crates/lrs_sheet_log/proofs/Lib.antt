@@ -7,3 +7,6 @@ pub mod Redoing
 pub mod Pieces
 pub mod Each
 pub mod Tables
+pub mod CoursePieces
+pub mod RouteTexts
+pub mod RouteRecords
