@@ -143,7 +143,8 @@ def test_words_that_are_too_few_or_too_many():
 
 def test_each_command_shows_an_example_that_is_understood():
     for name, (example, status, named) in EXAMPLES.items():
-        for words in [[name, "--help"], ["help", name]]:
+        # help on the word route is on the verb of edit sheets
+        for words in [[name, "--help"], ["help", name]][: 1 if name == "route" else 2]:
             ended = run(*words)
             assert (ended.stderr, ended.status) == (b"", 0), ended
             assert re.search(rf"^Examples?: roadlrs {re.escape(example)}$", ended.stdout.decode(), re.M), ended
