@@ -5,14 +5,17 @@ use Rattle.std.specs.List.{flat_map}
 use Rattle.std.specs.Io.KnownBytes.{Appends}
 use Rattle.std.proofs.lemmas.List.Concat.{flat_map-append}
 use Rattle.std.proofs.lemmas.List.Folds.{flat_map-map}
+use Rattle.lrs_measure.specs.Lists.{is_nothing}
 use Rattle.lrs_position.specs.declared.route.Referent.{Referent}
 use Rattle.lrs_position.specs.declared.route.Route.{Route}
 use Rattle.lrs_machine.specs.Lines.{Text, words}
 use Rattle.lrs_machine.specs.Machine.{Record}
 use Rattle.lrs_machine.specs.Texts.{after_words}
 use Rattle.lrs_machine.proofs.Words.{one_more}
+use Rattle.lrs_sheet_records.specs.Kinds.{edit_header}
 use Rattle.lrs_sheet_log.proofs.Written.{appends-more}
-use Rattle.lrs_sheet_log.specs.RouteSheets.{calibrated, chainage_marks, command_line, laid, laid_with_referents, set_on}
+use Rattle.lrs_sheet_log.specs.Log.{record_text}
+use Rattle.lrs_sheet_log.specs.RouteSheets.{calibrated, chainage_marks, command_line, laid, laid_with_referents, route_sheet, set_on}
 
 -- ---- words between spaces
 
@@ -52,3 +55,13 @@ all-lines r =
     let end : flat_map command_line (calibrated r ∷ []) ≡ last = append-nil last in
     append_assoc first (flat_map (λ x. command_line (set_on r.name x)) r.refs) last
     ∙ ap (λ (t : Text). first ++ t) ((λ i. sym refs i ++ sym end i) ∙ sym (flat_map-append command_line (map (set_on r.name) r.refs) (calibrated r ∷ [])))
+
+-- ---- the sheet
+
+pub sheet-without : (r : Route) → is_nothing r.refs ≡ true → record_text edit_header ++ command_line (laid r r.marks) ≡ route_sheet r
+sheet-without r e =
+    ap (λ (t : Text). record_text edit_header ++ t) (sym (append-nil (command_line (laid r r.marks))))
+    ∙ ap (λ (b : Bool). record_text edit_header ++ flat_map command_line (if b then laid r r.marks ∷ [] else laid_with_referents r)) (sym e)
+
+pub sheet-with : (r : Route) → is_nothing r.refs ≡ false → record_text edit_header ++ flat_map command_line (laid_with_referents r) ≡ route_sheet r
+sheet-with r e = ap (λ (b : Bool). record_text edit_header ++ flat_map command_line (if b then laid r r.marks ∷ [] else laid_with_referents r)) (sym e)

@@ -3,6 +3,7 @@
 ghost use Rattle.std.specs.Prelude.{◌≡◌, ◌++◌, ◌∷◌, [], OnOk, if◌then◌else◌, length};
 ghost use Rattle.std.specs.List.{flat_map};
 ghost use Rattle.std.specs.Io.KnownBytes.{Appends};
+ghost use Rattle.lrs_measure.specs.Lists.{is_nothing};
 ghost use Rattle.lrs_machine.specs.Lines.{mark_text, marks_text, piece_text, pieces_text};
 ghost use Rattle.lrs_sheet_log.specs.RouteSheets as spec;
 ghost use Rattle.lrs_sheet_log.specs.RouteSheets.{calibrated, command_line, laid, laid_with_referents, route_sheet, set_on};
@@ -158,6 +159,13 @@ fn write_with_referents<W: Write>(writer: &mut W, route: &Route) -> io::Result<(
     write_calibrated(writer, route)
 }
 
+/// Whether a route has no referents.
+fn lacks_referents(route: &Route) -> bool
+    ensures { result ≡ is_nothing route.now.refs }
+{
+    route.refs.as_slice().is_empty()
+}
+
 /// Writes an edit sheet of the commands that make a route on its links: `route`; with referents, `route` with the chainage
 /// as the measure, `ref` for each of them in its millimetre, and `recalibrate`. A key is the verb, a dash and the name of
 /// the route or referent. It takes no memory beyond the writer's, and does not flush the writer.
@@ -169,7 +177,7 @@ pub fn write_route_sheet<W: Write>(writer: &mut W, route: &Route) -> io::Result<
         (route_sheet route.now)) }
 {
     write_header(writer)?;
-    if route.refs.as_slice().is_empty() {
+    if lacks_referents(route) {
         write_laid(writer, route, route.marks.list())
     } else {
         write_with_referents(writer, route)
