@@ -1,30 +1,29 @@
 -- The sheet of a route is the log of the commands that make it.
 use Rattle.std.proofs.Common.{◌≡◌, ℕ, ◌+◌, ◌<◌, ◌≤◌, Bool, true, false, List, [], ◌∷◌, ◌++◌, length, map, refl, sym, ap, subst, ◌∙◌, arith, length-append}
-use Rattle.std.specs.Prelude.{IsTrue, codes, nat_le, not, pos, ◌&&◌, ◌==◌}
+use Rattle.std.specs.Prelude.{if◌then◌else◌, IsTrue, codes, nat_le, not, pos, ◌&&◌}
 use Rattle.std.specs.List.{AllByRecursion, flat_map, list_all}
 use Rattle.std.proofs.lemmas.Bool.{and_from, and_parts}
 use Rattle.std.proofs.lemmas.Bool.Decides.{nat_tests}
 use Rattle.std.proofs.lemmas.List.Folds.{list_all-append}
 use Rattle.lrs_measure.specs.Alphabets.{has_dash_first, has_length, is_capital, is_lone_dash, is_text}
-use Rattle.lrs_measure.specs.Limits.{greatest_measure, longest_route}
+use Rattle.lrs_measure.specs.Limits.{greatest_measure}
+use Rattle.lrs_measure.specs.Lists.{is_nothing}
 use Rattle.lrs_element.specs.declared.marks.Mark.{Mark}
 use Rattle.lrs_position.specs.Names.{is_referent_name, is_route_byte, is_route_name}
 use Rattle.lrs_position.specs.declared.expression.Expr.TheVariants.{Abs}
 use Rattle.lrs_position.specs.declared.route.Referent.{Referent}
 use Rattle.lrs_position.specs.declared.route.Route.{Route}
-use Rattle.lrs_machine.specs.EnteredNumbers.{are_entered_marks, is_chainage, is_entered_mark}
+use Rattle.lrs_machine.specs.EnteredNumbers.{are_entered_marks, is_chainage}
 use Rattle.lrs_machine.specs.Keys.{is_key, is_key_byte}
 use Rattle.lrs_machine.specs.Lines.{Text}
 use Rattle.lrs_machine.specs.Machine.{Record}
 use Rattle.lrs_machine.specs.WellFormedCommands.{IsPosition}
-use Rattle.lrs_sheet_records.specs.CanonicalRecords.{record_of}
-use Rattle.lrs_sheet_records.specs.Kinds.{edit_header, width_of}
+use Rattle.lrs_sheet_records.specs.Kinds.{edit_header}
 use Rattle.lrs_sheet_records.specs.Records.{SaysCommand}
 use Rattle.lrs_sheet_records.specs.Rows.{AreAll}
-use Rattle.lrs_sheet_records.specs.declared.sheet.Sheet.TheVariants.{Edits}
 use Rattle.lrs_sheet_log.proofs.Padding.{log_records_say, record-is}
 use Rattle.lrs_sheet_log.proofs.Reading.{log_reads_as_records}
-use Rattle.lrs_sheet_log.specs.Laws.{IsEnteredReferent, IsEnteredRoute, IsOfCommand, IsPrintable, ReadsAsMade, RouteSheetsRead, edit_of}
+use Rattle.lrs_sheet_log.specs.Laws.{IsEnteredReferent, IsEnteredRoute, IsOfCommand, IsPrintable, RouteSheetsRead, edit_of}
 use Rattle.lrs_sheet_log.specs.Log.{log_line, log_record, log_text, record_text}
 use Rattle.lrs_sheet_log.specs.RouteSheets.{calibrated, chainage_marks, command_line, laid, laid_with_referents, makes_route, route_sheet, set_on}
 
@@ -76,7 +75,7 @@ laid-printable r marks h entered =
     record {
       key = key-of (codes "route") r.name (omega arith) (omega arith) refl refl name.0 name.1;
       command = (h.name, h.pieces, entered);
-      lowest = (tt, tt, tt, tt);
+      lowest = (tt, (tt, (tt, tt)));
     }
 
 calibrated-printable : (r : Route) → IsEnteredRoute r → IsPrintable (calibrated r)
@@ -85,7 +84,7 @@ calibrated-printable r h =
     record {
       key = key-of (codes "recalibrate") r.name (omega arith) (omega arith) refl refl name.0 name.1;
       command = (h.name, h.marks);
-      lowest = (tt, tt, tt);
+      lowest = (tt, (tt, tt));
     }
 
 below-measure : (n : ℕ) → is_chainage n ≡ true → nat_le n greatest_measure ≡ true
@@ -98,7 +97,7 @@ set-printable route x named h =
     record {
       key = key-of (codes "ref") x.name (omega arith) (omega arith) refl refl name.0 name.1;
       command = (h.0, named, at);
-      lowest = (tt, tt, tt, tt, tt);
+      lowest = (tt, (tt, (tt, (tt, tt))));
     }
 
 marks-entered : (n : ℕ) → is_chainage n ≡ true → are_entered_marks (chainage_marks n) ≡ true
@@ -110,11 +109,11 @@ rest-printable r [] h all = (calibrated-printable r h, tt)
 rest-printable r (x ∷ refs) h all = (set-printable r.name x h.name all.0, rest-printable r refs h all.1)
 
 pub all-printable : (r : Route) → IsEnteredRoute r → AllByRecursion IsPrintable (makes_route r)
-all-printable r h = by r.refs h.refs
+all-printable r h = by (is_nothing r.refs)
   where
-    by : (refs : List Referent) → AllByRecursion IsEnteredReferent refs → AllByRecursion IsPrintable (makes_route (record { name = r.name; course = r.course; marks = r.marks; refs = refs }))
-    by [] all = (laid-printable r r.marks h h.marks, tt)
-    by (x ∷ refs) all = (laid-printable r (chainage_marks (length r.course)) h (marks-entered (length r.course) h.length), rest-printable r (x ∷ refs) h all)
+    by : (b : Bool) → AllByRecursion IsPrintable (if b then laid r r.marks ∷ [] else laid_with_referents r)
+    by true = (laid-printable r r.marks h h.marks, tt)
+    by false = (laid-printable r (chainage_marks (length r.course)) h (marks-entered (length r.course) h.length), rest-printable r r.refs h h.refs)
 
 -- ---- the sheet
 

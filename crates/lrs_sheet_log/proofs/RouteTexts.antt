@@ -1,15 +1,13 @@
 -- What is written of a route, put together.
-use Rattle.std.proofs.Common.{◌≡◌, ℕ, ◌+◌, ◌<◌, Bool, true, false, Option, List, [], ◌∷◌, ◌++◌, length, take, map, refl, sym, ap, subst, ◌∙◌, append_assoc, append-nil}
+use Rattle.std.proofs.Common.{◌≡◌, ℕ, ◌+◌, ◌<◌, Bool, true, false, Option, List, [], ◌∷◌, ◌++◌, length, take, map, sym, ap, subst, ◌∙◌, append_assoc, append-nil}
 use Rattle.std.specs.Prelude.{if◌then◌else◌, nat_eq, slice_index_or}
 use Rattle.std.specs.List.{flat_map}
 use Rattle.std.specs.Io.KnownBytes.{Appends}
 use Rattle.std.proofs.lemmas.List.Concat.{flat_map-append}
 use Rattle.std.proofs.lemmas.List.Folds.{flat_map-map}
 use Rattle.lrs_measure.specs.Lists.{is_nothing}
-use Rattle.lrs_position.specs.declared.route.Referent.{Referent}
 use Rattle.lrs_position.specs.declared.route.Route.{Route}
 use Rattle.lrs_machine.specs.Lines.{Text, words}
-use Rattle.lrs_machine.specs.Machine.{Record}
 use Rattle.lrs_machine.specs.Texts.{after_words}
 use Rattle.lrs_machine.proofs.Words.{one_more}
 use Rattle.lrs_sheet_records.specs.Kinds.{edit_header}

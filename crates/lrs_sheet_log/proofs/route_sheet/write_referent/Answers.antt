@@ -16,5 +16,5 @@ returns g c =
     let named = subst (λ (t : List ℕ). Appends start head (codes "ref-" ++ (t ++ (codes ",ref," ++ (t ++ 44 ∷ []))))) c.bytes.ensures.text c.in_ok-write_head.ensures in
     let on = subst (λ (t : List ℕ). Appends head route t) c.bytes-2.ensures.text c.in_ok-write_all.ensures.bytes in
     let two = appends-more start head route _ r.name named on in
-    appends-last c.write.result start route (g.W.Write.contents c.write.new.self) _ _ (command_line (set_on r.name x)) two c.write.ensures.bytes
+    appends-last c.writeln.result start route (g.W.Write.contents c.writeln.new.self) _ _ (command_line (set_on r.name x)) two c.writeln.ensures.bytes
     (set-text (codes "ref-") x.name (codes ",ref,") r.name (codes ",abs,") (decimal x.at) (codes ",,,,,") (10 ∷ []))

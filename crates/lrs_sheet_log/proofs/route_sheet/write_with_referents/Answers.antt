@@ -1,4 +1,4 @@
-use Rattle.std.proofs.Common.{◌++◌, List, ℕ, length, subst}
+use Rattle.std.proofs.Common.{List, length, subst}
 use Rattle.std.specs.List.{flat_map}
 use Rattle.std.specs.Io.KnownBytes.{Appends}
 use Rattle.lrs_element.specs.declared.marks.Mark.{Mark}
