@@ -9,4 +9,5 @@ pub mod Each
 pub mod Tables
 pub mod CoursePieces
 pub mod RouteTexts
+pub mod SetReferents
 pub mod RouteRecords

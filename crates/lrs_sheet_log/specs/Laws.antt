@@ -1,8 +1,11 @@
 -- The laws of the log: it reads as its records, and each of them says the command of its edit; and the sheet of a route is such a log.
-use Rattle.std.specs.Prelude.{◌≡◌, List, ◌∷◌, IsTrue, length, map}
+use Rattle.std.specs.Prelude.{◌≡◌, ℕ, ◌<◌, List, ◌∷◌, Option, Some, IsTrue, length, map}
 use Rattle.std.specs.List.{AllByRecursion}
+use Rattle.std.specs.Option.{option_map}
+use Rattle.lrs_measure.specs.Texts.{Name}
 use Rattle.lrs_element.specs.declared.link.Ground.{Ground}
 use Rattle.lrs_element.specs.Course.{IsFewest, course_of}
+use Rattle.lrs_position.specs.Locations.{cell, located}
 use Rattle.lrs_position.specs.Names.{is_referent_name, is_route_name}
 use Rattle.lrs_position.specs.declared.route.Referent.{Referent}
 use Rattle.lrs_position.specs.declared.route.Route.{Route}
@@ -18,7 +21,7 @@ use Rattle.lrs_sheet_records.specs.Kinds.{edit_header}
 use Rattle.lrs_sheet_records.specs.Records.{SaysCommand}
 use Rattle.lrs_sheet_records.specs.Verbs.{arguments_of}
 use Rattle.lrs_sheet_log.specs.Log.{log_record, log_text}
-use Rattle.lrs_sheet_log.specs.RouteSheets.{makes_route, pieces_of, route_sheet}
+use Rattle.lrs_sheet_log.specs.RouteSheets.{at_chainage, chainage_marks, makes_route, pieces_of, route_sheet}
 
 -- A well formed command under a key; a proportion in it is in lowest terms, as fractions are kept.
 pub record IsPrintable (r : Record) : Type 0 where
@@ -45,6 +48,11 @@ LogReadsAsRecords = (edits : List Edit) → AllByRecursion IsOfCommand edits →
 -- A course has the pieces of it, and no list of fewer.
 abbrev pub PiecesMakeCourses : Type 0
 PiecesMakeCourses = (course : List Ground) → (course_of (pieces_of course) ≡ course) × IsFewest (pieces_of course)
+
+-- A referent is set in exactly its millimetre, where the measure is the chainage.
+abbrev pub ReferentsAreSetExactly : Type 0
+ReferentsAreSetExactly = (r : Route) (chainage_on : Name → Option ℕ) (x : Referent) → x.at < length r.course
+    → option_map (cell (length r.course)) (located (record { course = r.course; marks = chainage_marks (length r.course) }) chainage_on (at_chainage x.at)) ≡ Some x.at
 
 -- a referent whose name and chainage can be entered
 abbrev pub IsEnteredReferent : Referent → Type 0

@@ -8,6 +8,7 @@ use Rattle.lrs_element.specs.declared.link.Piece.{Piece}
 use Rattle.lrs_element.specs.declared.marks.Mark.{Mark}
 use Rattle.lrs_element.specs.Course.{continues}
 use Rattle.lrs_element.specs.Pieces.{ground_of}
+use Rattle.lrs_position.specs.declared.expression.Expr.{Expr}
 use Rattle.lrs_position.specs.declared.expression.Expr.TheVariants.{Abs}
 use Rattle.lrs_position.specs.declared.route.Referent.{Referent}
 use Rattle.lrs_position.specs.declared.route.Route.{Route}
@@ -55,9 +56,13 @@ under_name name command = record { key = verb_of command ++ 45 ∷ name; command
 abbrev pub laid : Route → List Mark → Record
 laid r marks = under_name r.name (verb.Route r.name (pieces_of r.course) marks)
 
--- a referent is set in its millimetre of the route, where the measure is the chainage
+-- a chainage, where it is the measure
+abbrev pub at_chainage : ℕ → Expr
+at_chainage c = Abs (record { num = pos c; den = 1 })
+
+-- a referent is set in its millimetre of the route
 abbrev pub set_on : Name → Referent → Record
-set_on route x = under_name x.name (verb.Ref x.name route (Abs (record { num = pos x.at; den = 1 })))
+set_on route x = under_name x.name (verb.Ref x.name route (at_chainage x.at))
 
 -- the route gets its marks
 abbrev pub calibrated : Route → Record
