@@ -13,6 +13,7 @@ declare -gA _roadlrs_words=(
     [totals]="db"
     [lengths]="db"
     [find]="db none"
+    [route]="db none"
     [ask]="db sheet"
     [serve]="db none+"
     [page]="folder"

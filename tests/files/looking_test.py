@@ -28,6 +28,7 @@ ASKS = [
     ("totals", b""),
     ("lengths", b""),
     ("find 10", b""),
+    ("route A1", b""),
     ("list routes", b""),
     ("rows", b""),
     ("gone", b""),

@@ -5,15 +5,13 @@ the others it names the first unsound table. Rows that sqlite does not take are 
 
 import collections
 import concurrent.futures
-import contextlib
 import os
 import random
-import sqlite3
 
-from drawn_rows import damaged, sound_store
-from program import HEADER, ends, run
+from drawn_rows import damaged, empty_store, sound_store, write
+from program import HEADER, run
 from soundness import first_unsound
-from stores import TABLES, TEXTS, edit, folder
+from stores import TABLES, folder
 
 STORES = 1_200
 
@@ -22,33 +20,6 @@ SIDE_BY_SIDE = min(os.cpu_count() or 2, 4)
 
 # By a connection, which tests the file by SQLite's rules; and without one, for questions.
 OPENINGS = ["check DB stdin", "totals DB"]
-
-
-def empty_store():
-    """The bytes of a store that the program made, with no row but that of the version."""
-    with folder() as path:
-        ends(edit(path, HEADER), b"", 0)
-        return path.read_bytes()
-
-
-def insertion(table):
-    """A text is given as its bytes, which need not be a text."""
-    columns = TABLES[table][0].split()
-    values = ["CAST(? AS TEXT)" if column in TEXTS else "?" for column in columns]
-    return f"INSERT INTO {table} VALUES ({', '.join(values)})"
-
-
-def write(path, empty, drawn, store):
-    """Writes the rows into the tables of the empty store, in an order that is drawn."""
-    path.write_bytes(empty)
-    with contextlib.closing(sqlite3.connect(path, isolation_level=None)) as db:
-        db.execute("PRAGMA synchronous = OFF")
-        db.execute("BEGIN")
-        db.execute("DELETE FROM version")
-        for table, rows in store.items():
-            in_some_order = drawn.sample(rows, len(rows))
-            db.executemany(insertion(table), [tuple(row.values()) for row in in_some_order])
-        db.execute("COMMIT")
 
 
 def is_answered(path, opening, table, number):

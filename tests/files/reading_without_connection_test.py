@@ -23,6 +23,7 @@ LOOKS = [
     "totals",
     "lengths",
     "find 10",
+    "route A1",
     "list links",
     "rows",
     "gone",

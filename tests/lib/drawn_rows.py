@@ -1,7 +1,11 @@
 """Small inventories that are drawn, as rows for soundness.py: sound ones, and ones with a fault."""
 
+import contextlib
+import sqlite3
+
 import soundness
-from stores import TABLES, TEXTS
+from program import HEADER, ends
+from stores import TABLES, TEXTS, edit, folder
 
 CLASSES = [b"A", b"B"]
 ROUTES = [b"R0", b"R1", b"R2"]
@@ -274,3 +278,33 @@ def damaged(drawn, store):
     if rows == before or not can_be_stored(table, rows):
         return damaged(drawn, store)
     return {**store, table: rows}
+
+
+# ---- files of them
+
+
+def empty_store():
+    """The bytes of a store that the program made, with no row but that of the version."""
+    with folder() as path:
+        ends(edit(path, HEADER), b"", 0)
+        return path.read_bytes()
+
+
+def insertion(table):
+    """A text is given as its bytes, which need not be a text."""
+    columns = TABLES[table][0].split()
+    values = ["CAST(? AS TEXT)" if column in TEXTS else "?" for column in columns]
+    return f"INSERT INTO {table} VALUES ({', '.join(values)})"
+
+
+def write(path, empty, drawn, store):
+    """Writes the rows into the tables of the empty store, in an order that is drawn."""
+    path.write_bytes(empty)
+    with contextlib.closing(sqlite3.connect(path, isolation_level=None)) as db:
+        db.execute("PRAGMA synchronous = OFF")
+        db.execute("BEGIN")
+        db.execute("DELETE FROM version")
+        for table, rows in store.items():
+            in_some_order = drawn.sample(rows, len(rows))
+            db.executemany(insertion(table), [tuple(row.values()) for row in in_some_order])
+        db.execute("COMMIT")

@@ -174,7 +174,7 @@ def test_sums_that_are_not_understood(words):
     is_misused(run(*words, given=FIRST))
 
 
-NAMES_OF_JOBS = ["edit", "survey", "check", "tidy", "serve", "at", "where", "translate", "strip", "diagram", "totals", "lengths", "find", "ask", "list", "rows", "gone", "log", "audit", "page"]
+NAMES_OF_JOBS = ["edit", "survey", "check", "tidy", "serve", "at", "where", "translate", "strip", "diagram", "totals", "lengths", "find", "route", "ask", "list", "rows", "gone", "log", "audit", "page"]
 
 
 OPTIONS = {

@@ -120,5 +120,5 @@ def test_a_log_of_text_is_no_edit_sheet(db):
 
 
 def test_it_is_an_option_of_lists_alone():
-    for words in [["totals", ":memory:"], ["find", ":memory:", "1"], ["ask", ":memory:", "stdin"], ["edit", ":memory:", "stdin"], ["audit", ":memory:"]]:
+    for words in [["totals", ":memory:"], ["find", ":memory:", "1"], ["route", ":memory:", "A1"], ["ask", ":memory:", "stdin"], ["edit", ":memory:", "stdin"], ["audit", ":memory:"]]:
         assert run(*words, "--text").status == 2, words

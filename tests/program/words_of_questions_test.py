@@ -12,6 +12,7 @@ QUESTIONS = {
     "diagram": ["A1"],
     "totals": [],
     "find": ["10"],
+    "route": ["A1"],
 }
 
 # the example of each command, with its status over an inventory without entries, and the cause or the fault that it names there
@@ -28,6 +29,7 @@ EXAMPLES = {
     "totals": ("totals roads.db", 0, None),
     "lengths": ("lengths roads.db --route A1", 1, "NoRoute"),
     "find": ("find roads.db 10", 1, "NoAsset"),
+    "route": ("route roads.db A1 > a1.csv", 1, "NoRoute"),
     "ask": ("ask roads.db questions.csv", 3, "fault Read"),
     "list": ("list roads.db routes", 0, None),
     "rows": ("rows roads.db --route A1 --class SPEED", 1, "NoRoute"),
@@ -70,7 +72,7 @@ def test_an_inventory_that_cannot_be_opened():
 
 def test_routes_that_cannot_be_read():
     for text in ["", "a1", "A_1", "A 1", "A1\n", "ABCDEFGHIJKLM", "\u00c4", "A1,"]:
-        for name in ["at", "translate", "strip", "diagram"]:
+        for name in ["at", "translate", "strip", "diagram", "route"]:
             is_unreadable(name, [text, *QUESTIONS[name][1:]], "ROUTE is no route name")
     for text in ["A", "0-9", "ABCDEFGHIJKL", "A-"]:
         refuses(ask("at", text, "abs", "0"), "NoRoute")
@@ -141,7 +143,8 @@ def test_words_that_are_too_few_or_too_many():
 
 def test_each_command_shows_an_example_that_is_understood():
     for name, (example, status, named) in EXAMPLES.items():
-        for words in [[name, "--help"], ["help", name]]:
+        # help on the word route is on the verb of edit sheets
+        for words in [[name, "--help"], ["help", name]][: 1 if name == "route" else 2]:
             ended = run(*words)
             assert (ended.stderr, ended.status) == (b"", 0), ended
             assert re.search(rf"^Examples?: roadlrs {re.escape(example)}$", ended.stdout.decode(), re.M), ended

@@ -10,7 +10,8 @@ fn route_in<'a>(job: &Job<'a>) -> Option<&'a str> {
         | Job::Where { route, .. }
         | Job::Translate { route, .. }
         | Job::Strip { route, .. }
-        | Job::Diagram { route, .. } => Some(route),
+        | Job::Diagram { route, .. }
+        | Job::Route { route, .. } => Some(route),
         Job::Rows { route, .. } | Job::Lengths { route, .. } => *route,
         _ => None,
     }
@@ -138,6 +139,7 @@ pub(crate) fn inventory_of<'a>(job: &Job<'a>) -> Option<&'a str> {
         | Job::Totals { db }
         | Job::Lengths { db, .. }
         | Job::Find { db, .. }
+        | Job::Route { db, .. }
         | Job::Ask { db, .. }
         | Job::List { db, .. }
         | Job::Rows { db, .. }

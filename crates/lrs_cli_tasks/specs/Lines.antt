@@ -1,12 +1,11 @@
 -- Answers as they are printed: words with a space between them, a line for each place, asset, row or class.
-use Rattle.std.specs.Prelude.{ℕ, List, [], ◌∷◌, ◌++◌, length, map}
+use Rattle.std.specs.Prelude.{ℕ, List, [], ◌∷◌, ◌++◌, map}
 use Rattle.std.specs.List.{flat_map, join_with_byte}
 use Rattle.std.specs.Fmt.{decimal}
 use Rattle.lrs_measure.specs.Fraction.{Fraction}
-use Rattle.lrs_measure.specs.FractionTexts.{fraction_text, metres_text}
+use Rattle.lrs_measure.specs.FractionTexts.{fraction_text}
 use Rattle.lrs_measure.specs.Texts.{Name}
 use Rattle.lrs_position.specs.declared.expression.Expr.{Expr}
-use Rattle.lrs_position.specs.declared.route.Route.{Route}
 use Rattle.lrs_position.specs.Readings.{expression_text}
 use Rattle.lrs_events.specs.Names.{side_text}
 use Rattle.lrs_machine.specs.declared.total.Total.{Total}
@@ -19,6 +18,7 @@ use Rattle.lrs_machine.specs.Lines.{Text, fields, method_text, words}
 use Rattle.lrs_report_lists.specs.Length.Lines.{lengths_text}
 use Rattle.lrs_report_lists.specs.Lists.{classes_text, gone_text, links_text, marks_text, refs_text, routes_text, rows_text}
 use Rattle.lrs_sheet_log.specs.Log.{edits_from, edits_under, log_text}
+use Rattle.lrs_sheet_log.specs.RouteSheets.{route_sheet}
 use Rattle.lrs_sheet_records.specs.Words.{parts_of}
 use Rattle.lrs_report.specs.Drawings.Strips.{strip_text}
 use Rattle.lrs_report.specs.Drawings.Pictures.{diagram_text}
@@ -70,10 +70,6 @@ expression_line e = expression_text e ++ 10 ∷ []
 abbrev pub link_position_text : ℕ → Fraction → Text
 link_position_text link distance = decimal link ++ 58 ∷ fraction_text distance ++ 10 ∷ []
 
--- a route and its length in metres
-abbrev pub route_text : Route → Text
-route_text r = line_of (r.name ∷ metres_text (length r.course) ∷ [])
-
 -- a position: its method, a space, and the position as it is told by itself
 abbrev pub position_line : Expr → Text
 position_line e = method_text e ++ 32 ∷ expression_line e
@@ -94,10 +90,10 @@ listing_text i (listing.Gone edit) = gone_text edit i
 listing_text i (listing.Log from) = log_text (edits_from from (state_of i).done)
 listing_text i (listing.LogOfKey key) = log_text (edits_under key (state_of i).done)
 
--- What is told to a question, in lines; lists as CSV, and a diagram as a picture.
+-- What is told to a question, in lines; lists as CSV, a route as an edit sheet, and a diagram as a picture.
 abbrev pub told_text : Told → Text
 told_text (told.At route found) = at_text route found
-told_text (told.Route route) = route_text route
+told_text (told.Route route) = route_sheet route
 told_text (told.Segments route side len classes segments) = strip_text route side len classes segments
 told_text (told.Translated route e) = expression_line e
 told_text (told.OnLink route link distance) = link_position_text link distance

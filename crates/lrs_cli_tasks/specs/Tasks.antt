@@ -24,6 +24,7 @@ inventory_of (job.Diagram db route classes from to) = Some db.now
 inventory_of (job.Totals db) = Some db.now
 inventory_of (job.Lengths db route text) = Some db.now
 inventory_of (job.Find db asset) = Some db.now
+inventory_of (job.Route db route) = Some db.now
 inventory_of (job.Ask db questions) = Some db.now
 inventory_of (job.List db what text) = Some db.now
 inventory_of (job.Rows db route from to class asset text) = Some db.now

@@ -4,19 +4,19 @@ ghost use Rattle.std.specs.Prelude.{◌≡◌, OnOk};
 ghost use Rattle.std.specs.List.{flat_map};
 ghost use Rattle.std.specs.Io.KnownBytes.{Appends};
 ghost use Rattle.lrs_machine.specs.Lines.{method_text};
-ghost use Rattle.lrs_cli_tasks.specs.Lines.{at_text, expression_line, found_text, hit_text, link_position_text, listing_text, place_text, position_line, route_text, row_text, told_text, total_text, totals_text, whereabouts_text};
+ghost use Rattle.lrs_cli_tasks.specs.Lines.{at_text, expression_line, found_text, hit_text, link_position_text, listing_text, place_text, position_line, row_text, told_text, total_text, totals_text, whereabouts_text};
 
 use lrs_desk::Inventory;
 use lrs_machine::{Hit, Listing, Total};
-use lrs_measure::{Frac, Metres};
-use lrs_position::{Expr, Route, RouteName};
+use lrs_measure::Frac;
+use lrs_position::{Expr, RouteName};
 use lrs_report::{strip_of, write_diagram};
 use lrs_report_answers::{AtAnswer, FoundRow, Told, Whereabouts};
 use lrs_report_lists::{
     write_classes, write_gone, write_lengths, write_links, write_marks, write_refs, write_routes,
     write_rows,
 };
-use lrs_sheet_log::{write_log, write_log_of_key};
+use lrs_sheet_log::{write_log, write_log_of_key, write_route_sheet};
 use std::io;
 use std::io::Write;
 
@@ -130,16 +130,6 @@ fn write_link_position<W: Write>(writer: &mut W, link: u32, distance: Frac) -> i
     writeln!(writer, "{link}:{distance}")
 }
 
-/// Writes the line of a route: its name, and its length in metres.
-fn write_route<W: Write>(writer: &mut W, route: &Route) -> io::Result<()>
-    ensures { OnOk result (Appends (W.contents writer.old) (W.contents writer.new)
-        (route_text route.now)) }
-{
-    let length = Metres::new(route.length());
-    writer.write_all(route.name.bytes())?;
-    writeln!(writer, " {length}")
-}
-
 /// The word for the method of a position.
 fn method_of(position: Expr) -> &'static str
     ensures { result.now ≡ method_text position }
@@ -214,8 +204,8 @@ fn write_listing<W: Write>(
     }
 }
 
-/// Writes what is told to a question, in lines; lists as CSV, and a diagram as an SVG picture. It takes no memory beyond the
-/// writer's, and does not flush the writer.
+/// Writes what is told to a question, in lines; lists as CSV, a route as an edit sheet, and a diagram as an SVG picture. It
+/// takes no memory beyond the writer's, and does not flush the writer.
 ///
 /// # Errors
 /// That of the writer. Part of the lines may be written then.
@@ -225,7 +215,7 @@ pub(crate) fn write_told<W: Write>(writer: &mut W, told: Told<'_>) -> io::Result
 {
     match told {
         Told::At { route, found } => write_at(writer, &route, &found),
-        Told::Route(route) => write_route(writer, &route),
+        Told::Route(route) => write_route_sheet(writer, &route),
         Told::Segments {
             route,
             side,

@@ -164,6 +164,7 @@ pub fn task_of<'a>(alloc: Global, job: &Job<'a>) -> Result<Task<'a>, QuestionFau
         | Job::Totals { db }
         | Job::Lengths { db, .. }
         | Job::Find { db, .. }
+        | Job::Route { db, .. }
         | Job::List { db, .. }
         | Job::Rows { db, .. }
         | Job::Gone { db, .. }

@@ -177,6 +177,7 @@ has_flags job.Lengths = record {
   short = short_help (rules_at job.Lengths) help_fills;
 }
 has_flags job.Find = record { long = without_options job.Find help_fills; short = short_help (rules_at job.Find) help_fills }
+has_flags job.Route = record { long = without_options job.Route help_fills; short = short_help (rules_at job.Route) help_fills }
 has_flags job.Ask = record { long = without_options job.Ask help_fills; short = short_help (rules_at job.Ask) help_fills }
 has_flags job.List = record {
   long = long_among (rules_at job.List) (flag_at (codes "text") ∷ []) (text_fills, text_fills, tt) help_fills;
@@ -247,6 +248,7 @@ none_lack job.Diagram = refl
 none_lack job.Totals = refl
 none_lack job.Lengths = refl
 none_lack job.Find = refl
+none_lack job.Route = refl
 none_lack job.Ask = refl
 none_lack job.List = refl
 none_lack job.Rows = refl
@@ -269,6 +271,7 @@ none_missing job.Diagram rows e = missing_none _ e
 none_missing job.Totals rows e = missing_none _ e
 none_missing job.Lengths rows e = missing_none _ e
 none_missing job.Find rows e = missing_none _ e
+none_missing job.Route rows e = missing_none _ e
 none_missing job.Ask rows e = missing_none _ e
 none_missing job.List rows e = missing_none _ e
 none_missing job.Rows rows e = missing_none _ e

@@ -9,7 +9,7 @@ use Rattle.clap.specs.declared.error.ErrorKind.TheVariants as kind
 use Rattle.lrs_cli_words.specs.declared.job.JobName.{JobName}
 use Rattle.lrs_cli_words.specs.declared.job.JobName.TheVariants as job
 use Rattle.lrs_cli_words.specs.declared.job.Job.{Job}
-use Rattle.lrs_cli_words.specs.declared.job.Job.TheVariants.{Edit, Survey, Check, Tidy, At, Where, Translate, Strip, Diagram, Totals, Lengths, Find, Ask, List as Listing, Rows, Gone, Log, Audit, Serve, Page}
+use Rattle.lrs_cli_words.specs.declared.job.Job.TheVariants.{Edit, Survey, Check, Tidy, At, Where, Translate, Strip, Diagram, Totals, Lengths, Find, Route, Ask, List as Listing, Rows, Gone, Log, Audit, Serve, Page}
 
 -- ---- the command line
 
@@ -50,6 +50,7 @@ name_text job.Diagram = codes "diagram"
 name_text job.Totals = codes "totals"
 name_text job.Lengths = codes "lengths"
 name_text job.Find = codes "find"
+name_text job.Route = codes "route"
 name_text job.Ask = codes "ask"
 name_text job.List = codes "list"
 name_text job.Rows = codes "rows"
@@ -73,6 +74,7 @@ rules_of job.Diagram = required (codes "DB") ∷ required (codes "ROUTE") ∷ []
 rules_of job.Totals = required (codes "DB") ∷ []
 rules_of job.Lengths = required (codes "DB") ∷ []
 rules_of job.Find = required (codes "DB") ∷ required (codes "ASSET") ∷ []
+rules_of job.Route = required (codes "DB") ∷ required (codes "ROUTE") ∷ []
 rules_of job.Ask = required (codes "DB") ∷ required (codes "QUESTIONS") ∷ []
 rules_of job.List = required (codes "DB") ∷ required (codes "WHAT") ∷ []
 rules_of job.Rows = required (codes "DB") ∷ []
@@ -112,7 +114,7 @@ with_job a j = with_subcommand a (line_of_job j)
 -- all jobs
 abbrev pub jobs : List JobName
 jobs =
-    job.Edit ∷ job.Survey ∷ job.Check ∷ job.Tidy ∷ job.At ∷ job.Where ∷ job.Translate ∷ job.Strip ∷ job.Diagram ∷ job.Totals ∷ job.Lengths ∷ job.Find ∷ job.Ask ∷ job.List
+    job.Edit ∷ job.Survey ∷ job.Check ∷ job.Tidy ∷ job.At ∷ job.Where ∷ job.Translate ∷ job.Strip ∷ job.Diagram ∷ job.Totals ∷ job.Lengths ∷ job.Find ∷ job.Route ∷ job.Ask ∷ job.List
     ∷ job.Rows ∷ job.Gone ∷ job.Log ∷ job.Audit ∷ job.Serve ∷ job.Page ∷ []
 
 abbrev pub bare_line : App
@@ -139,6 +141,7 @@ job_name (Diagram db route classes from to) = job.Diagram
 job_name (Totals db) = job.Totals
 job_name (Lengths db route text) = job.Lengths
 job_name (Find db asset) = job.Find
+job_name (Route db route) = job.Route
 job_name (Ask db questions) = job.Ask
 job_name (Listing db what text) = job.List
 job_name (Rows db route from to class asset text) = job.Rows
@@ -163,6 +166,7 @@ words_of (Diagram db route classes from to) = (codes "DB", db.now) ∷ (codes "R
 words_of (Totals db) = (codes "DB", db.now) ∷ []
 words_of (Lengths db route text) = (codes "DB", db.now) ∷ []
 words_of (Find db asset) = (codes "DB", db.now) ∷ (codes "ASSET", asset.now) ∷ []
+words_of (Route db route) = (codes "DB", db.now) ∷ (codes "ROUTE", route.now) ∷ []
 words_of (Ask db questions) = (codes "DB", db.now) ∷ (codes "QUESTIONS", questions.now) ∷ []
 words_of (Listing db what text) = (codes "DB", db.now) ∷ (codes "WHAT", what.now) ∷ []
 words_of (Rows db route from to class asset text) = (codes "DB", db.now) ∷ []

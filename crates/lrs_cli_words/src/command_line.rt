@@ -152,6 +152,15 @@ the field is named, the status is 1, and nothing is printed.
 
 Example: roadlrs tidy first.txt > first.csv";
 
+// What help says of the records of a route.
+const RECORDED: &str =
+    "A route with referents is made with its chainage as the measure, each referent
+is set in its millimetre, and then the route gets its marks. A key is the verb,
+a dash and a name; give the records keys of your own before you send them.
+roadlrs help route shows the verb.
+
+Example: roadlrs route roads.db A1 > a1.csv";
+
 // What help says of the records of a sheet of questions.
 const ASKED: &str = "A record has a key, a question and its fields a to d, 6 fields in all:
   at ROUTE METHOD POS            a position's place on its link, what is there
@@ -323,6 +332,17 @@ static FIND: JobLine = JobLine {
     ],
 };
 
+static ROUTE_SHEET: JobLine = JobLine {
+    name: "route",
+    about: "Prints the commands that make a route as an edit sheet",
+    example: RECORDED,
+    usage: None,
+    parts: &[
+        LinePart::Required("DB", DB),
+        LinePart::Required("ROUTE", ROUTE),
+    ],
+};
+
 static ASK: JobLine = JobLine {
     name: "ask",
     about: "Answers a sheet of questions",
@@ -437,6 +457,7 @@ fn line_in_table(job: JobName) -> &'static JobLine
         JobName::Totals => &TOTALS,
         JobName::Lengths => &LENGTHS,
         JobName::Find => &FIND,
+        JobName::Route => &ROUTE_SHEET,
         JobName::Ask => &ASK,
         JobName::List => &LIST,
         JobName::Rows => &ROWS,
@@ -504,6 +525,7 @@ pub(crate) fn program<'a>(alloc: Global) -> Result<Command<'a>, AllocError>
             JobName::Totals,
             JobName::Lengths,
             JobName::Find,
+            JobName::Route,
             JobName::Ask,
             JobName::List,
             JobName::Rows,

@@ -19,6 +19,7 @@ pub enum JobName {
     Totals,
     Lengths,
     Find,
+    Route,
     Ask,
     List,
     Rows,
@@ -118,6 +119,11 @@ pub enum Job<'a> {
         db: &'a str,
         asset: &'a str,
     },
+    /// Prints the commands that make a route as an edit sheet.
+    Route {
+        db: &'a str,
+        route: &'a str,
+    },
     /// Answers the questions of the sheet `questions`.
     Ask {
         db: &'a str,
@@ -193,6 +199,7 @@ pub fn new_has_sums(job: &Job<'_>) -> bool
         | Job::Totals { .. }
         | Job::Lengths { .. }
         | Job::Find { .. }
+        | Job::Route { .. }
         | Job::Ask { .. }
         | Job::List { .. }
         | Job::Rows { .. }
@@ -221,6 +228,7 @@ pub(crate) fn read_job(name: &str) -> Option<JobName>
         "totals" => Some(JobName::Totals),
         "lengths" => Some(JobName::Lengths),
         "find" => Some(JobName::Find),
+        "route" => Some(JobName::Route),
         "ask" => Some(JobName::Ask),
         "list" => Some(JobName::List),
         "rows" => Some(JobName::Rows),

@@ -425,6 +425,9 @@ pub fn question_of(alloc: Global, job: &Job<'_>) -> Result<Option<Question>, Que
         Job::Find { asset, .. } => Question::Find {
             asset: asset_of(asset)?,
         },
+        Job::Route { route, .. } => Question::Route {
+            route: route_of(route)?,
+        },
         Job::List { what, .. } => Question::List(list_of(what)?),
         Job::Rows {
             route,

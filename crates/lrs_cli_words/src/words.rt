@@ -304,6 +304,16 @@ fn find_job<'a>(given: &ArgMatches<'a>) -> Job<'a>
     Job::Find { db, asset }
 }
 
+fn route_job<'a>(given: &ArgMatches<'a>) -> Job<'a>
+    requires { AreGiven (rules_of JobName.Route) (rows_of (found_of given.now)) }
+    ensures name { job_name result ≡ JobName.Route }
+    ensures words { HasWords result (rows_of (found_of given.now)) }
+{
+    let db = given_word(given, "DB");
+    let route = given_word(given, "ROUTE");
+    Job::Route { db, route }
+}
+
 fn ask_job<'a>(given: &ArgMatches<'a>) -> Job<'a>
     requires { AreGiven (rules_of JobName.Ask) (rows_of (found_of given.now)) }
     ensures name { job_name result ≡ JobName.Ask }
@@ -438,6 +448,7 @@ fn job_with<'a>(alloc: Global, name: JobName, given: &ArgMatches<'a>) -> Result<
         JobName::Totals => Ok(totals_job(given)),
         JobName::Lengths => Ok(lengths_job(given)),
         JobName::Find => Ok(find_job(given)),
+        JobName::Route => Ok(route_job(given)),
         JobName::Ask => Ok(ask_job(given)),
         JobName::List => Ok(list_job(given)),
         JobName::Rows => Ok(rows_job(given)),

@@ -7,3 +7,7 @@ pub mod Redoing
 pub mod Pieces
 pub mod Each
 pub mod Tables
+pub mod CoursePieces
+pub mod RouteTexts
+pub mod SetReferents
+pub mod RouteRecords

@@ -12,7 +12,7 @@ use Rattle.lrs_element.proofs.Expanding.{get_or-expand, length-expand}
 use Rattle.lrs_events.proofs.Ledger.Whole.{Unjoined, fewest_unjoined}
 
 -- a millimetre of the first piece
-in-first : (p : Piece) (ps : List Piece) (i : ℕ) (d : Ground) → i < piece_len p → get_or (course_of (p ∷ ps)) i d ≡ ground_of p i
+pub in-first : (p : Piece) (ps : List Piece) (i : ℕ) (d : Ground) → i < piece_len p → get_or (course_of (p ∷ ps)) i d ≡ ground_of p i
 in-first p ps i d within =
     let size = length-expand p in
     get_or_append_left (expand p) (course_of ps) d i (omega (arith, size, within)) ∙ get_or-expand p i d within

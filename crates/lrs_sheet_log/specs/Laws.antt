@@ -1,6 +1,15 @@
--- The laws of the log: it reads as its records, and each of them says the command of its edit.
-use Rattle.std.specs.Prelude.{◌≡◌, List, ◌∷◌, IsTrue, map}
+-- The laws of the log: it reads as its records, and each of them says the command of its edit; and the sheet of a route is such a log.
+use Rattle.std.specs.Prelude.{◌≡◌, ℕ, ◌<◌, List, ◌∷◌, Option, Some, IsTrue, length, map}
 use Rattle.std.specs.List.{AllByRecursion}
+use Rattle.std.specs.Option.{option_map}
+use Rattle.lrs_measure.specs.Texts.{Name}
+use Rattle.lrs_element.specs.declared.link.Ground.{Ground}
+use Rattle.lrs_element.specs.Course.{IsFewest, course_of}
+use Rattle.lrs_position.specs.Locations.{cell, located}
+use Rattle.lrs_position.specs.Names.{is_referent_name, is_route_name}
+use Rattle.lrs_position.specs.declared.route.Referent.{Referent}
+use Rattle.lrs_position.specs.declared.route.Route.{Route}
+use Rattle.lrs_machine.specs.EnteredNumbers.{are_entered_marks, are_entered_pieces, is_chainage}
 use Rattle.lrs_machine.specs.Keys.{is_key}
 use Rattle.lrs_machine.specs.Lines.{line_of}
 use Rattle.lrs_machine.specs.Machine.{Record}
@@ -12,6 +21,7 @@ use Rattle.lrs_sheet_records.specs.Kinds.{edit_header}
 use Rattle.lrs_sheet_records.specs.Records.{SaysCommand}
 use Rattle.lrs_sheet_records.specs.Verbs.{arguments_of}
 use Rattle.lrs_sheet_log.specs.Log.{log_record, log_text}
+use Rattle.lrs_sheet_log.specs.RouteSheets.{at_chainage, chainage_marks, makes_route, pieces_of, route_sheet}
 
 -- A well formed command under a key; a proportion in it is in lowest terms, as fractions are kept.
 pub record IsPrintable (r : Record) : Type 0 where
@@ -34,3 +44,33 @@ LogRecordsSay = (r : Record) → IsPrintable r → SaysCommand (log_record (edit
 -- By the rules of `csv`, the records of a log are the header and the record of each edit.
 abbrev pub LogReadsAsRecords : Type 0
 LogReadsAsRecords = (edits : List Edit) → AllByRecursion IsOfCommand edits → AreAll (log_text edits) (edit_header ∷ map log_record edits)
+
+-- A course has the pieces of it, and no list of fewer.
+abbrev pub PiecesMakeCourses : Type 0
+PiecesMakeCourses = (course : List Ground) → (course_of (pieces_of course) ≡ course) × IsFewest (pieces_of course)
+
+-- A referent is set in exactly its millimetre, where the measure is the chainage.
+abbrev pub ReferentsAreSetExactly : Type 0
+ReferentsAreSetExactly = (r : Route) (chainage_on : Name → Option ℕ) (x : Referent) → x.at < length r.course
+    → option_map (cell (length r.course)) (located (record { course = r.course; marks = chainage_marks (length r.course) }) chainage_on (at_chainage x.at)) ≡ Some x.at
+
+-- a referent whose name and chainage can be entered
+abbrev pub IsEnteredReferent : Referent → Type 0
+IsEnteredReferent x = IsTrue (is_referent_name x.name) × IsTrue (is_chainage x.at)
+
+-- A route whose parts can be entered, as those of each route of an inventory.
+pub record IsEnteredRoute (r : Route) : Type 0 where
+  pub name : IsTrue (is_route_name r.name)
+  pub pieces : IsTrue (are_entered_pieces (pieces_of r.course))
+  pub length : IsTrue (is_chainage (length r.course))
+  pub marks : IsTrue (are_entered_marks r.marks)
+  pub refs : AllByRecursion IsEnteredReferent r.refs
+
+-- The sheet of a route is the log of the commands that make it: it reads as their records, and each of these says its command, under its key.
+pub record ReadsAsMade (r : Route) : Type 0 where
+  pub log : route_sheet r ≡ log_text (map edit_of (makes_route r))
+  pub read : AreAll (route_sheet r) (edit_header ∷ map log_record (map edit_of (makes_route r)))
+  pub said : AllByRecursion (λ c. SaysCommand (log_record (edit_of c)) c.key c.command) (makes_route r)
+
+abbrev pub RouteSheetsRead : Type 0
+RouteSheetsRead = (r : Route) → IsEnteredRoute r → ReadsAsMade r

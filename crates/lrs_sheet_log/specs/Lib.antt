@@ -1,4 +1,5 @@
 pub mod Log
 pub mod Differences
 pub mod Sums
+pub mod RouteSheets
 pub mod Laws

@@ -1,7 +1,7 @@
 //! The laws of the log.
 
 ghost use Rattle.lrs_sheet_log.specs.Differences.{TablesMakeImages};
-ghost use Rattle.lrs_sheet_log.specs.Laws.{LogReadsAsRecords, LogRecordsSay};
+ghost use Rattle.lrs_sheet_log.specs.Laws.{LogReadsAsRecords, LogRecordsSay, PiecesMakeCourses, ReferentsAreSetExactly, RouteSheetsRead};
 ghost use Rattle.lrs_sheet_log.specs.Sums.{SumsFollow};
 
 /// The record of an edit says the command that was accepted, under its key.
@@ -22,4 +22,19 @@ pub fn same_tables_make_the_same_image()
 /// The sum up to an edit follows from the sum up to the edit before it, its number and its line.
 pub fn sums_follow()
     ensures { SumsFollow }
+{}
+
+/// The pieces of a course make it, and there are no fewer.
+pub fn pieces_make_courses()
+    ensures { PiecesMakeCourses }
+{}
+
+/// A referent is set in exactly its millimetre.
+pub fn referents_are_set_exactly()
+    ensures { ReferentsAreSetExactly }
+{}
+
+/// The sheet of a route reads as the records of the commands that make it, and each of them says its command.
+pub fn route_sheets_read()
+    ensures { RouteSheetsRead }
 {}

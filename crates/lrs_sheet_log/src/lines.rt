@@ -51,7 +51,7 @@ fn write_edit<W: Write>(writer: &mut W, edit: &Edit) -> io::Result<()>
 }
 
 /// Writes the header of an edit sheet.
-fn write_header<W: Write>(writer: &mut W) -> io::Result<()>
+pub(crate) fn write_header<W: Write>(writer: &mut W) -> io::Result<()>
     ensures { OnOk result (Appends (W.contents writer.old) (W.contents writer.new)
         (record_text edit_header)) }
 {
