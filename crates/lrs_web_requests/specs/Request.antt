@@ -1,5 +1,6 @@
 -- What a request asks for.
-use Rattle.std.specs.Prelude.{◌≡◌, ⊤, ℕ, ◌≤◌, ◌⊎◌, Bool, true, false, not, ◌&&◌, List, length, drop, map, codes, Option, None, Some, unwrap_or, Result, Ok, Err, if◌then◌else◌, ◌==◌, bytes_eq}
+use Rattle.std.specs.Prelude.{◌≡◌, ⊤, ℕ, ◌≤◌, ◌⊎◌, Bool, true, false, not, ◌&&◌, List, length, drop, map, codes, Option, None, Some, option_map, unwrap_or, Result, Ok, Err, if◌then◌else◌, ◌==◌, bytes_eq}
+use Rattle.std.specs.Borrow.{Bor}
 use Rattle.std.specs.List.{before_first, after_first}
 use Rattle.httparse.specs.Grammar.{RequestHead, ReadsRequest, print_request}
 use Rattle.httparse.specs.Spans.{name_and_value}
@@ -107,6 +108,10 @@ at_resource (Some resource) method target fields rest =
 -- what a head and the bytes after it ask for
 abbrev pub asked_at : List ℕ → List ℕ → List Field → List ℕ → Asked
 asked_at method target fields rest = at_resource (resource_at (path_of target)) method target fields rest
+
+-- the text of the page that is shown, or none
+abbrev pub page_text : Option (Bor (List ℕ)) → Option (List ℕ)
+page_text page = option_map (λ text. text.now) page
 
 -- what a method asks of the path of the page
 abbrev pub asked_of_page : List ℕ → List ℕ → Asked

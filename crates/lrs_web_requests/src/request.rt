@@ -6,7 +6,7 @@ ghost use Rattle.httparse.specs.Spans.{header_bytes, IsHeaderWithin, IsRequestOf
 ghost use Rattle.lrs_web_requests.specs.Routes.{rows};
 ghost use Rattle.lrs_web_requests.specs.BodyLengths.{body_length};
 ghost use Rattle.lrs_web_requests.specs.declared.response.RequestMethod.TheVariants.{Post};
-ghost use Rattle.lrs_web_requests.specs.Request.{asked_by, asked_at, asked_ahead, asked_with, AsksByHead, AsksWith, most_head, most_fields, path_of, query_of, argument_of, name_in, resumes, verb_of, with_length, by_verb, IsServed};
+ghost use Rattle.lrs_web_requests.specs.Request.{asked_by, asked_at, asked_ahead, asked_with, AsksByHead, AsksWith, most_head, most_fields, page_text, path_of, query_of, argument_of, name_in, resumes, verb_of, with_length, by_verb, IsServed};
 
 use crate::body::{BodyFault, read_body};
 use crate::framing::length_of_body;
@@ -230,7 +230,7 @@ fn read_with<R: Read>(
     requires fields { All (IsHeaderWithin (length head.text.now)) head.fields.now }
     ensures served { IfOk result (λ task. IsServed (asked_by task)) }
     ensures asked { IfOk result (λ task. IfSome (R.remaining reader.old) (λ more.
-        asked_by task ≡ asked_with (option_map (λ p. p.now) page.entry) head.entry.method.now head.entry.target.now (map (header_bytes head.entry.text.now) head.entry.fields.now) (head.entry.front.now ++ more))) }
+        asked_by task ≡ asked_with (page_text page.entry) head.entry.method.now head.entry.target.now (map (header_bytes head.entry.text.now) head.entry.fields.now) (head.entry.front.now ++ more))) }
 {
     let Some(page) = page else {
         return read_task(alloc, router, reader, head);
@@ -258,7 +258,7 @@ fn read_on_from<R: Read>(
     requires parsed { IsRequestOf text.now spans.now head }
     ensures served { IfOk result (λ task. IsServed (asked_by task)) }
     ensures asked { IfOk result (λ task. IfSome (R.remaining reader.old) (λ more.
-        (h : RequestHead) × (rest : List ℕ) × AsksByHead (option_map (λ p. p.now) page.entry) (text.now ++ more) (asked_by task) h rest)) }
+        (h : RequestHead) × (rest : List ℕ) × AsksByHead (page_text page.entry) (text.now ++ more) (asked_by task) h rest)) }
 {
     let Ok(target) = str::from_utf8(head.path.of(text)) else {
         unreachable!()
@@ -283,7 +283,7 @@ pub fn receive<R: Read>(
 ) -> Result<Request, BodyFault>
     requires { router.now ≡ rows }
     ensures asked { IfOk result (λ task. IfSome (R.remaining reader.old) (λ input.
-        AsksWith (option_map (λ p. p.now) page.entry) input (asked_by task))) }
+        AsksWith (page_text page.entry) input (asked_by task))) }
     ensures served { IfOk result (λ task. IsServed (asked_by task)) }
 {
     let mut buffer = [0u8; MOST_HEAD];

@@ -1,4 +1,4 @@
-use Rattle.std.proofs.Common.{◌≡◌, ℕ, ◌≤◌, ◌-◌, List, ◌++◌, length, take, drop, map, option_map, Option, None, Some, Result, Ok, Err, IfOk, IfSome, arith, ap, sym, ◌∙◌}
+use Rattle.std.proofs.Common.{◌≡◌, ℕ, ◌≤◌, ◌-◌, List, ◌++◌, length, take, drop, map, Option, None, Some, Result, Ok, Err, IfOk, IfSome, arith, ap, sym, ◌∙◌}
 use Rattle.std.proofs.Math.Nat.{le_trans}
 use Rattle.std.proofs.lemmas.List.{length-map, length-take-le, length-drop, take_all}
 use Rattle.httparse.proofs.GrammarLemmas.{ReadsRequest-append}
@@ -7,7 +7,7 @@ use Rattle.httparse.specs.declared.spans.RequestSpans.{RequestSpans}
 use Rattle.httparse.specs.Grammar.{RequestHead}
 use Rattle.httparse.specs.Spans.{span_bytes, header_bytes, name_and_value, IsRequestOf, IsRequestWithin}
 use Rattle.lrs_web_requests.specs.declared.request.Request.{Request}
-use Rattle.lrs_web_requests.specs.Request.{Asked, AsksByHead, asked_by, asked_with, most_head, most_fields}
+use Rattle.lrs_web_requests.specs.Request.{Asked, AsksByHead, asked_by, asked_with, most_head, most_fields, page_text}
 use Rattle.lrs_web_requests.proofs.request.read_on_from.Goals as goal
 
 -- the slice from a place to the end is all that stands behind it
@@ -53,5 +53,5 @@ pub returns-clause-asked : goal.returns-clause-asked
 returns-clause-asked g c =
     let text = c.args.text.now in
     let head = c.args.head in
-    by_result c.read_with.result (option_map (λ p. p.now) c.args.page) (g.R.Read.remaining c.args.reader.now) text c.args.spans.now head c.of-2.result.now c.in-Ok.target.now (take (length text - head.len) (drop head.len text)) c.requires.bytes c.requires.fields c.requires.within c.requires.parsed c.of-2.ensures
+    by_result c.read_with.result (page_text c.args.page) (g.R.Read.remaining c.args.reader.now) text c.args.spans.now head c.of-2.result.now c.in-Ok.target.now (take (length text - head.len) (drop head.len text)) c.requires.bytes c.requires.fields c.requires.within c.requires.parsed c.of-2.ensures
     (c.in-Ok.ensures.cases.0 ∙ c.of.ensures) (all_behind head.len text) c.read_with.ensures.asked
