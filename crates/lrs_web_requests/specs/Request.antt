@@ -111,7 +111,7 @@ asked_at method target fields rest = at_resource (resource_at (path_of target)) 
 
 -- the text of the page that is shown, or none
 abbrev pub page_text : Option (Bor (List ℕ)) → Option (List ℕ)
-page_text page = option_map (λ text. text.now) page
+page_text given = option_map (λ text. text.now) given
 
 -- what a method asks of the path of the page
 abbrev pub asked_of_page : List ℕ → List ℕ → Asked
