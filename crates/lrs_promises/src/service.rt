@@ -9,9 +9,10 @@ use lrs_desk::{Desk, Keeper};
 use lrs_web::{Door, DoorFault, Served, serve_all};
 use std::alloc::Global;
 
-/// Serves a number of connections of a door, as `serve_all` does. The image stands for the fold of all commands that the
-/// connections gave, in order: one that was served in full gave all commands of its request, and one that was cut off none or
-/// the first of them; where a page is shown, a POST of another site gave none. Of each of these commands, and of each state between them, the laws of the ground machine hold.
+/// Serves a number of connections of a door, as `serve_all` does, with a page or without. The image stands for the fold of all
+/// commands that the connections gave, in order: one that was served in full gave all commands of its request, and one that
+/// was cut off none or the first of them; where a page is shown, a POST of another site gave none. Of each of these commands,
+/// and of each state between them, the laws of the ground machine hold.
 ///
 /// # Errors
 /// The door gave no connection; those before it are served.

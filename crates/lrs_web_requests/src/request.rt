@@ -202,7 +202,8 @@ fn asked_ahead(page: &'static str, head: Head<'_>) -> Option<Request>
     requires { All (IsHeaderWithin (length head.text.now)) head.fields.now }
     ensures served { IfSome result (λ task. IsServed (asked_by task)) }
     ensures asked { option_map asked_by result
-        ≡ asked_ahead page.now head.entry.method.now head.entry.target.now (map (header_bytes head.entry.text.now) head.entry.fields.now) }
+        ≡ asked_ahead page.now head.entry.method.now head.entry.target.now
+        (map (header_bytes head.entry.text.now) head.entry.fields.now) }
 {
     let is_post = head.method == RequestMethod::Post.name().as_bytes();
     if is_post && !is_own(head.text, head.fields) {
@@ -230,7 +231,9 @@ fn read_with<R: Read>(
     requires fields { All (IsHeaderWithin (length head.text.now)) head.fields.now }
     ensures served { IfOk result (λ task. IsServed (asked_by task)) }
     ensures asked { IfOk result (λ task. IfSome (R.remaining reader.old) (λ more.
-        asked_by task ≡ asked_with (page_text page.entry) head.entry.method.now head.entry.target.now (map (header_bytes head.entry.text.now) head.entry.fields.now) (head.entry.front.now ++ more))) }
+        asked_by task ≡ asked_with (page_text page.entry) head.entry.method.now
+        head.entry.target.now (map (header_bytes head.entry.text.now) head.entry.fields.now)
+        (head.entry.front.now ++ more))) }
 {
     let Some(page) = page else {
         return read_task(alloc, router, reader, head);

@@ -146,12 +146,8 @@ fn serve_hall<'a, R: Runtime<A = Global>, K: Keeper>(
     ensures says { result ≡ Err ServiceFault.Write → ⊥ }
 {
     let mut door = Listening::new(hall, rt, manner.most_reply);
-    let ServiceOptions {
-        ends_on_fault,
-        page,
-        ..
-    } = manner;
-    let outcome = serve_each(rt.alloc(), &mut door, page, desk, max, ends_on_fault);
+    let ends_on_fault = manner.ends_on_fault;
+    let outcome = serve_each(rt.alloc(), &mut door, manner.page, desk, max, ends_on_fault);
     door.finish(served_of(&outcome));
     outcome
 }
