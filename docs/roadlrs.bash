@@ -37,7 +37,7 @@ declare -g _roadlrs_verbs="link class route ref unref enter retire supersede spl
 declare -gA _roadlrs_options=(
     [edit]="--sums --resume --all --whole"
     [survey]="--sums --resume --all --whole"
-    [serve]="--sums --log --end-on-fault --most-reply="
+    [serve]="--sums --log --end-on-fault --most-reply= --page"
     [diagram]="--from= --to="
     [check]="--survey"
     [tidy]="--survey"

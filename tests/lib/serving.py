@@ -21,6 +21,7 @@ CSV, JSON = "text/csv", "application/json"
 REASONS = {
     200: "OK",
     400: "Bad Request",
+    403: "Forbidden",
     404: "Not Found",
     405: "Method Not Allowed",
     411: "Length Required",

@@ -3,14 +3,12 @@
 import base64
 import contextlib
 import hashlib
-import html
-import http.server
-import threading
 
 import pytest
 
 from browser import browsing
-from program import FIRST, FIRST_REPLIES, sheet_of
+from elsewhere import elsewhere, foreign_page
+from program import FIRST, FIRST_REPLIES
 from proxies import asked, balancer, posted, web_server
 from serving import HOST, started
 
@@ -50,38 +48,6 @@ def test_the_login_leaves_the_guard_of_the_type(tmp_path, proxy):
             for kind in ["text/plain", "application/x-www-form-urlencoded", "multipart/form-data"]:
                 assert posted(port, "edits", FIRST, kind=kind, user=user)[0] == 415, (user, kind)
         assert asked(port, "GET", "/v1/totals") == (200, b'{"totals":[]}')
-
-
-def foreign_page(port):
-    """A page that sends an edit sheet to nginx as soon as it is opened, as a form may from anywhere."""
-    sheet = sheet_of("x1,link,4247,5").decode()
-    (first, _, rest) = sheet.partition("=") if "=" in sheet else (sheet, "", "")
-    return (
-        f"<form action='http://{HOST}:{port}/v1/edits' method='post' enctype='text/plain'>"
-        f"<textarea name='{html.escape(first)}'>{html.escape(rest)}</textarea></form><script>document.forms[0].submit()</script>"
-    ).encode()
-
-
-@contextlib.contextmanager
-def elsewhere(text):
-    """A server of another origin, which has this page alone."""
-
-    class Handler(http.server.BaseHTTPRequestHandler):
-        def do_GET(self):
-            self.send_response(200)
-            self.send_header("Content-Type", "text/html")
-            self.end_headers()
-            self.wfile.write(text)
-
-        def log_message(self, *words):
-            pass
-
-    with http.server.ThreadingHTTPServer((HOST, 0), Handler) as server:
-        threading.Thread(target=server.serve_forever, daemon=True).start()
-        try:
-            yield server.server_address[1]
-        finally:
-            server.shutdown()
 
 
 @contextlib.contextmanager

@@ -187,6 +187,7 @@ OPTIONS = {
     b"--log": (b"Writes a line for each request on standard error, and a count at the end", ["serve"]),
     b"--end-on-fault": (b"Ends with status 3 once the inventory was not written", ["serve"]),
     b"--most-reply <BYTES>": (b"How many bytes a reply has at most, 67108864 unless said; a longer one is a 503", ["serve"]),
+    b"--page": (b"Shows the web page at /; takes no sheet of a page from elsewhere", ["serve"]),
 }
 
 

@@ -74,7 +74,10 @@ fn do_work<R: Runtime<A = Global> + Net, S: Sheets, W: Write + Drop, K: Keeper>(
         Work::Questions { from } => do_questions(world, desk, from, to),
         Work::Sum { up_to } => answer_sum(world.rt.alloc(), desk, up_to, to),
         Work::Audit => do_audit(world.rt, world.shown, desk, to),
-        Work::Service(service) => do_service(world.rt, desk, service, to),
+        Work::Service(service) => {
+            let tells = world.shown != ProgressDisplay::Nowhere;
+            do_service(world.rt, desk, service, tells, to)
+        }
     }
 }
 

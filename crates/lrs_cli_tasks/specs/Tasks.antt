@@ -31,7 +31,7 @@ inventory_of (job.Rows db route from to class asset text) = Some db.now
 inventory_of (job.Gone db edit text) = Some db.now
 inventory_of (job.Log db from key text sum) = Some db.now
 inventory_of (job.Audit db) = Some db.now
-inventory_of (job.Serve db port max sums log end_on_fault most_reply) = Some db.now
+inventory_of (job.Serve db port max sums log end_on_fault most_reply page) = Some db.now
 inventory_of (job.Page dir) = None
 inventory_of (job.Tidy file survey) = None
 
@@ -57,7 +57,7 @@ IsWorkOf (job.Check db sheet survey) (work.Check kind from) = (kind ≡ kind_of 
 IsWorkOf (job.Ask db questions) (work.Questions from) = from.now ≡ questions.now
 IsWorkOf (job.Audit db) work.Audit = ⊤
 IsWorkOf (job.Log db from key text true) (work.Sum up_to) = SaysSummed (option_map (λ w. w.now) from) (option_map (λ w. w.now) key) up_to
-IsWorkOf (job.Serve db port max sums log end_on_fault most_reply) (work.Service service) = SaysService port.now max.now log end_on_fault (option_map (λ w. w.now) most_reply) service
+IsWorkOf (job.Serve db port max sums log end_on_fault most_reply page) (work.Service service) = SaysService port.now max.now log end_on_fault (option_map (λ w. w.now) most_reply) page service
 IsWorkOf j (work.Question question as_text) = Asks j question × (as_text ≡ has_text_cells j)
 IsWorkOf j w = ⊥
 

@@ -151,10 +151,18 @@ pub fn task_of<'a>(alloc: Global, job: &Job<'a>) -> Result<Task<'a>, QuestionFau
             log,
             end_on_fault,
             most_reply,
+            page,
             ..
         } => (
             db,
-            Work::Service(service_of(port, max, *log, *end_on_fault, *most_reply)?),
+            Work::Service(service_of(
+                port,
+                max,
+                *log,
+                *end_on_fault,
+                *most_reply,
+                *page,
+            )?),
         ),
         Job::At { db, .. }
         | Job::Where { db, .. }

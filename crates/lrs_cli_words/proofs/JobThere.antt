@@ -128,6 +128,9 @@ edit_fills = option_fills (codes "edit") refl
 key_fills : Fills (option_at (codes "key"))
 key_fills = option_fills (codes "key") refl
 
+page_fills : Fills (flag_at (codes "page"))
+page_fills = flag_fills (codes "page")
+
 most_reply_fills : Fills (option_at (codes "most-reply"))
 most_reply_fills = option_fills (codes "most-reply") refl
 
@@ -135,7 +138,7 @@ abbrev sheet_options : List Rule
 sheet_options = flag_at (codes "sums") ∷ flag_at (codes "resume") ∷ flag_at (codes "all") ∷ flag_at (codes "whole") ∷ []
 
 abbrev serve_options : List Rule
-serve_options = flag_at (codes "sums") ∷ flag_at (codes "log") ∷ flag_at (codes "end-on-fault") ∷ option_at (codes "most-reply") ∷ []
+serve_options = flag_at (codes "sums") ∷ flag_at (codes "log") ∷ flag_at (codes "end-on-fault") ∷ option_at (codes "most-reply") ∷ flag_at (codes "page") ∷ []
 
 abbrev end_options : List Rule
 end_options = option_at (codes "from") ∷ option_at (codes "to") ∷ []
@@ -198,7 +201,7 @@ has_flags job.Log = record {
 }
 has_flags job.Audit = record { long = without_options job.Audit help_fills; short = short_help (rules_at job.Audit) help_fills }
 has_flags job.Serve = record {
-  long = long_among (rules_at job.Serve) serve_options (sums_fills, sums_fills, (log_fills, log_fills, (end_fills, end_fills, (most_reply_fills, most_reply_fills, tt)))) help_fills;
+  long = long_among (rules_at job.Serve) serve_options (sums_fills, sums_fills, (log_fills, log_fills, (end_fills, end_fills, (most_reply_fills, most_reply_fills, (page_fills, page_fills, tt))))) help_fills;
   short = short_help (rules_at job.Serve) help_fills;
 }
 has_flags job.Page = record { long = without_options job.Page help_fills; short = short_help (rules_at job.Page) help_fills }

@@ -116,12 +116,13 @@ SaysMostReply (Some text) bytes = SaysReplyLength text bytes
 SaysMostReply None bytes = bytes ≡ 67_108_864
 
 -- the port and how many connections, as these words say, and how they are served, as the options do
-pub record SaysService (at most : Text) (tells ends : Bool) (longest : Option Text) (service : Service) : Type 0 where
+pub record SaysService (at most : Text) (tells ends : Bool) (longest : Option Text) (shows : Bool) (service : Service) : Type 0 where
   pub port : SaysPort at service.port
   pub max : SaysMost most service.max
   pub logs : service.logs ≡ tells
   pub ends_on_fault : service.ends_on_fault ≡ ends
   pub most_reply : SaysMostReply longest service.most_reply
+  pub shows_page : service.shows_page ≡ shows
 
 -- ---- questions
 
@@ -134,7 +135,7 @@ AsksNothing (job.Tidy file survey) = ⊤
 AsksNothing (job.Ask db questions) = ⊤
 AsksNothing (job.Log db from key text true) = ⊤
 AsksNothing (job.Audit db) = ⊤
-AsksNothing (job.Serve db port max sums log end_on_fault most_reply) = ⊤
+AsksNothing (job.Serve db port max sums log end_on_fault most_reply page) = ⊤
 AsksNothing (job.Page dir) = ⊤
 AsksNothing _ = ⊥
 
@@ -307,7 +308,7 @@ IsFaultOf (job.Rows db route from to class asset text) fault =
 IsFaultOf (job.Gone db edit text) fault = CannotIfGiven word.Edit SaysEdit (option_map (λ w. w.now) edit) fault
 IsFaultOf (job.Log db from key text false) fault = CannotLog (option_map (λ w. w.now) from) (option_map (λ w. w.now) key) fault
 IsFaultOf (job.Log db from key text true) fault = CannotSum (option_map (λ w. w.now) from) (option_map (λ w. w.now) key) fault
-IsFaultOf (job.Serve db port max sums log end_on_fault most_reply) fault = CannotServe port.now max.now (option_map (λ w. w.now) most_reply) fault
+IsFaultOf (job.Serve db port max sums log end_on_fault most_reply page) fault = CannotServe port.now max.now (option_map (λ w. w.now) most_reply) fault
 IsFaultOf _ fault = ⊥
 
 -- what a word is not

@@ -84,13 +84,13 @@ rules_of job.Audit = required (codes "DB") ∷ []
 rules_of job.Serve = required (codes "DB") ∷ required (codes "PORT") ∷ required (codes "MAX") ∷ []
 rules_of job.Page = required (codes "DIR") ∷ []
 
--- what may be left out: those jobs that may make a file have `--sums`, those that do a sheet also `--resume`, `--all` and `--whole`, a service also `--log`, `--end-on-fault` and `--most-reply`, a check and a tidying say of which kind their sheet is, a place on a link has its millimetre, a diagram has its classes and its ends, a list may be narrowed, and has `--text`, and a log has its sum
+-- what may be left out: those jobs that may make a file have `--sums`, those that do a sheet also `--resume`, `--all` and `--whole`, a service also `--log`, `--end-on-fault`, `--most-reply` and `--page`, a check and a tidying say of which kind their sheet is, a place on a link has its millimetre, a diagram has its classes and its ends, a list may be narrowed, and has `--text`, and a log has its sum
 abbrev pub options_of : JobName → List Rule
 options_of job.Edit = flag (codes "sums") ∷ flag (codes "resume") ∷ flag (codes "all") ∷ flag (codes "whole") ∷ []
 options_of job.Survey = flag (codes "sums") ∷ flag (codes "resume") ∷ flag (codes "all") ∷ flag (codes "whole") ∷ []
 options_of job.Check = flag (codes "survey") ∷ []
 options_of job.Tidy = flag (codes "survey") ∷ []
-options_of job.Serve = flag (codes "sums") ∷ flag (codes "log") ∷ flag (codes "end-on-fault") ∷ option (codes "most-reply") ∷ []
+options_of job.Serve = flag (codes "sums") ∷ flag (codes "log") ∷ flag (codes "end-on-fault") ∷ option (codes "most-reply") ∷ flag (codes "page") ∷ []
 options_of job.Where = optional (codes "MM") ∷ []
 options_of job.Lengths = option (codes "route") ∷ flag (codes "text") ∷ []
 options_of job.List = flag (codes "text") ∷ []
@@ -148,7 +148,7 @@ job_name (Rows db route from to class asset text) = job.Rows
 job_name (Gone db edit text) = job.Gone
 job_name (Log db from key text sum) = job.Log
 job_name (Audit db) = job.Audit
-job_name (Serve db port max sums log end_on_fault most_reply) = job.Serve
+job_name (Serve db port max sums log end_on_fault most_reply page) = job.Serve
 job_name (Page dir) = job.Page
 
 -- its words that stand once, each with what it is called
@@ -173,7 +173,7 @@ words_of (Rows db route from to class asset text) = (codes "DB", db.now) ∷ []
 words_of (Gone db edit text) = (codes "DB", db.now) ∷ []
 words_of (Log db from key text sum) = (codes "DB", db.now) ∷ []
 words_of (Audit db) = (codes "DB", db.now) ∷ []
-words_of (Serve db port max sums log end_on_fault most_reply) = (codes "DB", db.now) ∷ (codes "PORT", port.now) ∷ (codes "MAX", max.now) ∷ []
+words_of (Serve db port max sums log end_on_fault most_reply page) = (codes "DB", db.now) ∷ (codes "PORT", port.now) ∷ (codes "MAX", max.now) ∷ []
 words_of (Page dir) = (codes "DIR", dir.now) ∷ []
 
 -- the classes of a strip or a diagram are all the words of their place
@@ -198,7 +198,7 @@ HasValues (Where db route chainage mm) rows = IsValue (codes "MM") rows (option_
 HasValues (Lengths db route text) rows = IsValue (codes "route") rows (option_map (λ w. w.now) route)
 HasValues (Gone db edit text) rows = IsValue (codes "edit") rows (option_map (λ w. w.now) edit)
 HasValues (Log db from key text sum) rows = IsValue (codes "FROM") rows (option_map (λ w. w.now) from) × IsValue (codes "key") rows (option_map (λ w. w.now) key)
-HasValues (Serve db port max sums log end_on_fault most_reply) rows = IsValue (codes "most-reply") rows (option_map (λ w. w.now) most_reply)
+HasValues (Serve db port max sums log end_on_fault most_reply page) rows = IsValue (codes "most-reply") rows (option_map (λ w. w.now) most_reply)
 HasValues _ rows = ⊤
 
 -- the option was given: `clap` reads `true` for it, and else `false`
@@ -209,7 +209,7 @@ IsSet id rows = first_of id rows ≡ Some (codes "true")
 abbrev pub HasSums : Job → List Row → Type 0
 HasSums (Edit db sheet sums resume all whole) rows = IsTrue sums ↔ IsSet (codes "sums") rows
 HasSums (Survey db sheet sums resume all whole) rows = IsTrue sums ↔ IsSet (codes "sums") rows
-HasSums (Serve db port max sums log end_on_fault most_reply) rows = IsTrue sums ↔ IsSet (codes "sums") rows
+HasSums (Serve db port max sums log end_on_fault most_reply page) rows = IsTrue sums ↔ IsSet (codes "sums") rows
 HasSums _ rows = ⊤
 
 -- a sheet goes on behind its last record that is an edit exactly where `--resume` was given
@@ -250,9 +250,10 @@ HasKind (Check db sheet survey) rows = IsTrue survey ↔ IsSet (codes "survey") 
 HasKind (Tidy file survey) rows = IsTrue survey ↔ IsSet (codes "survey") rows
 HasKind _ rows = ⊤
 
--- a service tells its requests exactly where `--log` was given, and ends on a fault exactly where `--end-on-fault` was
+-- a service tells its requests exactly where `--log` was given, ends on a fault exactly where `--end-on-fault` was, and shows the page exactly where `--page` was
 abbrev pub HasManner : Job → List Row → Type 0
-HasManner (Serve db port max sums log end_on_fault most_reply) rows = (IsTrue log ↔ IsSet (codes "log") rows) × (IsTrue end_on_fault ↔ IsSet (codes "end-on-fault") rows)
+HasManner (Serve db port max sums log end_on_fault most_reply page) rows =
+    (IsTrue log ↔ IsSet (codes "log") rows) × (IsTrue end_on_fault ↔ IsSet (codes "end-on-fault") rows) × (IsTrue page ↔ IsSet (codes "page") rows)
 HasManner _ rows = ⊤
 
 -- its words stand in their places, and its options are as they were given
@@ -271,7 +272,7 @@ IsJobOf words j = IsMet j (subcommand_of line_of_program words)
 abbrev pub has_new_sums : Job → Bool
 has_new_sums (Edit db sheet sums resume all whole) = sums
 has_new_sums (Survey db sheet sums resume all whole) = sums
-has_new_sums (Serve db port max sums log end_on_fault most_reply) = sums
+has_new_sums (Serve db port max sums log end_on_fault most_reply page) = sums
 has_new_sums _ = false
 
 -- ---- words that are no job

@@ -93,6 +93,8 @@ const END_ON_FAULT: &str = "Ends with status 3 once the inventory was not writte
 const MOST_REPLY: &str =
     "How many bytes a reply has at most, 67108864 unless said; a longer one is a 503";
 
+const WITH_PAGE: &str = "Shows the web page at /; takes no sheet of a page from elsewhere";
+
 const FROM_EDIT: &str = "The number of the first edit; else from the first one of all";
 
 const OF_KEY: &str = "The edit of this key alone";
@@ -429,6 +431,7 @@ static SERVE: JobLine = JobLine {
         LinePart::Switch("log", TELLING),
         LinePart::Switch("end-on-fault", END_ON_FAULT),
         LinePart::Valued("most-reply", "BYTES", MOST_REPLY),
+        LinePart::Switch("page", WITH_PAGE),
     ],
 };
 

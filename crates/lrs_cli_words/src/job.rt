@@ -167,7 +167,7 @@ pub enum Job<'a> {
     },
     /// Serves `max` connections over HTTP on a port of this machine. With `log` each request is told on
     /// standard error, with `end_on_fault` a failed commit ends the service, and a reply has at most
-    /// `most_reply` bytes.
+    /// `most_reply` bytes. With `page` the web page is shown at `/`.
     Serve {
         db: &'a str,
         port: &'a str,
@@ -176,6 +176,7 @@ pub enum Job<'a> {
         log: bool,
         end_on_fault: bool,
         most_reply: Option<&'a str>,
+        page: bool,
     },
     /// Writes the web page into the folder `dir`.
     Page {

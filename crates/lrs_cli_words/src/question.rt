@@ -36,6 +36,8 @@ pub struct Service {
     pub ends_on_fault: bool,
     /// So many bytes a reply has at most.
     pub most_reply: u64,
+    /// The web page is shown at `/`.
+    pub shows_page: bool,
 }
 
 /// A word that cannot be read.
@@ -350,9 +352,10 @@ pub fn service_of(
     logs: bool,
     ends_on_fault: bool,
     most_reply: Option<&str>,
+    shows_page: bool,
 ) -> Result<Service, QuestionFault>
     ensures read { IfOk result (SaysService port.now max.now logs ends_on_fault
-        (option_map (λ t. t.now) most_reply.entry)) }
+        (option_map (λ t. t.now) most_reply.entry) shows_page) }
     ensures unread { IfErr result (CannotServe port.now max.now
         (option_map (λ t. t.now) most_reply.entry)) }
 {
@@ -365,6 +368,7 @@ pub fn service_of(
         logs,
         ends_on_fault,
         most_reply,
+        shows_page,
     })
 }
 

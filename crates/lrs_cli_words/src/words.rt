@@ -409,6 +409,7 @@ fn serve_job<'a>(given: &ArgMatches<'a>) -> Job<'a>
     let log = is_set(given, "log");
     let end_on_fault = is_set(given, "end-on-fault");
     let most_reply = word_in(given, "most-reply");
+    let page = is_set(given, "page");
     Job::Serve {
         db,
         port,
@@ -417,6 +418,7 @@ fn serve_job<'a>(given: &ArgMatches<'a>) -> Job<'a>
         log,
         end_on_fault,
         most_reply,
+        page,
     }
 }
 

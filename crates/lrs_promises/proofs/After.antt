@@ -11,7 +11,7 @@ use Rattle.lrs_machine.specs.declared.table.Table.{Table}
 use Rattle.lrs_desk.specs.DeskView.{DeskView}
 use Rattle.lrs_sheet_records.specs.declared.sheet.Sheet.{Sheet}
 use Rattle.lrs_sheet.specs.Sheets.{IsAfterCommands}
-use Rattle.lrs_web_requests.specs.Request.{Asked, refused, not_allowed, query, sheet as posted}
+use Rattle.lrs_web_requests.specs.Request.{Asked, refused, not_allowed, page, query, sheet as posted}
 use Rattle.lrs_web_requests.specs.Text.{Answer}
 use Rattle.lrs_web.specs.Questions.{AnswersQuestions}
 use Rattle.lrs_web.specs.RequestAnswers.{Does, sheet_at}
@@ -41,5 +41,6 @@ module _ {K : Type 0} (holds : K → Result Image Table → Type 0) (old new : D
   pub does_after : (asked : Asked) (answer : Answer) → Does holds asked old answer new → IsAfterCommands old.limits (state_of old.image) (state_of new.image)
   does_after (refused status) answer does = same_after does.0
   does_after (not_allowed verb) answer does = same_after does.0
+  does_after (page text) answer does = same_after does.0
   does_after (query resource argument) answer does = same_after does.0
   does_after (posted resource resumes body) answer does = posted_after (sheet_at resource) resumes body answer does

@@ -15,7 +15,7 @@ use Rattle.lrs_sheet_records.specs.declared.fault.SheetFault.{SheetFault}
 use Rattle.lrs_sheet_records.specs.declared.fault.SheetFault.TheVariants as fault
 use Rattle.lrs_sheet.specs.declared.reply.Tally.{Tally}
 use Rattle.lrs_sheet.proofs.Done.{stays}
-use Rattle.lrs_web_requests.specs.Request.{Asked, refused, not_allowed, query, sheet as posted}
+use Rattle.lrs_web_requests.specs.Request.{Asked, refused, not_allowed, page, query, sheet as posted}
 use Rattle.lrs_web_requests.specs.Text.{Answer}
 use Rattle.lrs_web.specs.Questions.{AnswersQuestions}
 use Rattle.lrs_web.specs.RequestAnswers.{Does, Responds, Serves, Writes, sheet_at}
@@ -76,6 +76,7 @@ module _ {K : Type 0} (holds : K → Result Image Table → Type 0) (old new : D
   does_keeps : (asked : Asked) (answer : Answer) → Does holds asked old answer new → Kept
   does_keeps (refused status) answer does = same_keeps does.0
   does_keeps (not_allowed verb) answer does = same_keeps does.0
+  does_keeps (page text) answer does = same_keeps does.0
   does_keeps (query resource argument) answer does = same_keeps does.0
   does_keeps (posted resource resumes body) answer does = posted_keeps (sheet_at resource) resumes body answer does
 

@@ -24,7 +24,7 @@ use Rattle.lrs_sheet.specs.Sheets.{LeavesDesk, RunsBehind, records_together}
 use Rattle.lrs_sheet.specs.declared.reply.Reply.{Reply}
 use Rattle.lrs_sheet.specs.declared.reply.Tally.{Tally}
 use Rattle.lrs_sheet.proofs.Waits.{replied-append}
-use Rattle.lrs_web_requests.specs.Request.{Asked, refused, not_allowed, query, sheet as posted}
+use Rattle.lrs_web_requests.specs.Request.{Asked, refused, not_allowed, page, query, sheet as posted}
 use Rattle.lrs_web_requests.specs.Text.{Answer}
 use Rattle.lrs_web.specs.Questions.{AnswersQuestions}
 use Rattle.lrs_web.specs.RequestAnswers.{Does, sheet_at}
@@ -144,7 +144,7 @@ rest_gave_first must_reopen kind together limits input before after old new ende
 
 -- ---- at a desk
 
-module _ {K : Type 0} (holds : K → Result Image Table → Type 0) where
+module _ {K : Type 0} (holds : K → Result Image Table → Type 0) (shown : Option Text) where
   same_limits : (old new : DeskView K) (ended : Result Tally SheetFault) → LeavesDesk holds old new ended → new.limits ≡ old.limits
   same_limits old new (Ok tally) desk = desk.limits
   same_limits old new (Err fault.BadHeader) desk = desk.0.limits
@@ -183,29 +183,30 @@ module _ {K : Type 0} (holds : K → Result Image Table → Type 0) where
   asked_made : (asked : Asked) (answer : Answer) (old new : DeskView K) → Does holds asked old answer new → Made (GivesFirst (GivesAsked asked (state_of old.image))) old new
   asked_made (refused status) answer old new does = none_made (GivesFirst (GivesAsked (refused status) (state_of old.image))) old new (inl refl) does.0
   asked_made (not_allowed verb) answer old new does = none_made (GivesFirst (GivesAsked (not_allowed verb) (state_of old.image))) old new (inl refl) does.0
+  asked_made (page text) answer old new does = none_made (GivesFirst (GivesAsked (page text) (state_of old.image))) old new (inl refl) does.0
   asked_made (query resource argument) answer old new does = none_made (GivesFirst (GivesAsked (query resource argument) (state_of old.image))) old new (inl refl) does.0
   asked_made (posted resource resumes body) answer old new does = posted_made (sheet_at resource) resumes body answer old new does
 
   -- ---- connections
 
-  full_made : (x : Exchange) (old new : DeskView K) → IsFull holds x old new → Made (ConnectionGives x.input (state_of old.image)) old new
+  full_made : (x : Exchange) (old new : DeskView K) → IsFull holds shown x old new → Made (ConnectionGives shown x.input (state_of old.image)) old new
   full_made x old new (asked, due, status, done, writes, other) =
       let g = asked_gave holds asked due old new done.does (λ e. other (writes.0 ∙ e)) in
       record { commands = g.gave.commands; gives = (asked, done.asks, g.gave.gives); state = g.gave.state; limits = g.along.limits }
 
-  cut_made : (input : Option Text) (old new : DeskView K) → IsCut holds input old new → Made (CutOffGives input (state_of old.image)) old new
-  cut_made input old new (inl same) = none_made (CutOffGives input (state_of old.image)) old new (inl refl) same
+  cut_made : (input : Option Text) (old new : DeskView K) → IsCut holds shown input old new → Made (CutOffGives shown input (state_of old.image)) old new
+  cut_made input old new (inl same) = none_made (CutOffGives shown input (state_of old.image)) old new (inl refl) same
   cut_made input old new (inr (asked, due, done)) =
       let m = asked_made asked due old new done.does in
       record { commands = m.commands; gives = by m.commands m.gives; state = m.state; limits = m.limits }
     where
-      by : (commands : List Record) → GivesFirst (GivesAsked asked (state_of old.image)) commands → CutOffGives input (state_of old.image) commands
+      by : (commands : List Record) → GivesFirst (GivesAsked asked (state_of old.image)) commands → CutOffGives shown input (state_of old.image) commands
       by commands (inl none) = inl none
       by commands (inr (others, given)) = inr (others, (asked, done.asks, given))
 
   record AllMade (exchanges : List Exchange) (full cut : ℕ) (old new : DeskView K) : Type 0 where
     pub commands : List Record
-    pub given : ConnectionsGive old.limits (state_of old.image) exchanges full cut commands
+    pub given : ConnectionsGive shown old.limits (state_of old.image) exchanges full cut commands
     pub state : state_of new.image ≡ state_after old.limits commands (state_of old.image)
     pub limits : new.limits ≡ old.limits
 
@@ -214,14 +215,14 @@ module _ {K : Type 0} (holds : K → Result Image Table → Type 0) where
   state_more old mid new commands more limits first later =
       later ∙ (λ i. state_after (limits i) more (first i)) ∙ sym (state_both old.limits commands more (state_of old.image))
 
-  all_made : {exchanges : List Exchange} {full cut : ℕ} {old new : DeskView K} → Visits holds exchanges full cut old new → AllMade exchanges full cut old new
+  all_made : {exchanges : List Exchange} {full cut : ℕ} {old new : DeskView K} → Visits holds shown exchanges full cut old new → AllMade exchanges full cut old new
   all_made (nobody desk) = record { commands = []; given = none_gives; state = refl; limits = refl }
   all_made (full_visit earlier x full cut old mid new visits done) =
       let before = all_made visits in
       let one = full_made x mid new done in
       record {
         commands = before.commands ++ one.commands;
-        given = full_gives earlier x full cut before.commands one.commands before.given (subst (λ s. ConnectionGives x.input s one.commands) before.state one.gives);
+        given = full_gives earlier x full cut before.commands one.commands before.given (subst (λ s. ConnectionGives shown x.input s one.commands) before.state one.gives);
         state = state_more old mid new before.commands one.commands before.limits before.state one.state;
         limits = one.limits ∙ before.limits;
       }
@@ -230,14 +231,14 @@ module _ {K : Type 0} (holds : K → Result Image Table → Type 0) where
       let one = cut_made x.input mid new done in
       record {
         commands = before.commands ++ one.commands;
-        given = cut_gives earlier x full cut before.commands one.commands before.given (subst (λ s. CutOffGives x.input s one.commands) before.state one.gives);
+        given = cut_gives earlier x full cut before.commands one.commands before.given (subst (λ s. CutOffGives shown x.input s one.commands) before.state one.gives);
         state = state_more old mid new before.commands one.commands before.limits before.state one.state;
         limits = one.limits ∙ before.limits;
       }
 
   module _ {R W : Type 0} (remaining : R → Option Text) (contents : W → Option Text) (w l : Option (List (R × W))) (e b : Option (List W)) (old new : DeskView K) (sound : IsSound old.image) where
     -- connections that were visited are a service
-    pub is_service : (full cut : ℕ) → Visited holds remaining contents w l e b full cut old new → IsService holds remaining contents w l e b full cut old new
+    pub is_service : (full cut : ℕ) → Visited holds shown remaining contents w l e b full cut old new → IsService holds shown remaining contents w l e b full cut old new
     is_service full cut visited =
         let made = all_made visited.visits in
         record {
@@ -250,11 +251,11 @@ module _ {K : Type 0} (holds : K → Result Image Table → Type 0) where
 
     -- ... however it ends
 
-    pub served_so : {E : Type 0} (r : Result Served E) → IfOk r (λ s. Visited holds remaining contents w l e b s.full s.cut old new) → IfOk r (λ s. IsService holds remaining contents w l e b s.full s.cut old new)
+    pub served_so : {E : Type 0} (r : Result Served E) → IfOk r (λ s. Visited holds shown remaining contents w l e b s.full s.cut old new) → IfOk r (λ s. IsService holds shown remaining contents w l e b s.full s.cut old new)
     served_so (Ok s) visited = is_service s.full s.cut visited
     served_so (Err fault) visited = tt
 
-    pub stopped_so : {E : Type 0} (r : Result Served E) → OnErr r ((full : ℕ) × (cut : ℕ) × Visited holds remaining contents w l e b full cut old new)
-        → OnErr r ((full : ℕ) × (cut : ℕ) × IsService holds remaining contents w l e b full cut old new)
+    pub stopped_so : {E : Type 0} (r : Result Served E) → OnErr r ((full : ℕ) × (cut : ℕ) × Visited holds shown remaining contents w l e b full cut old new)
+        → OnErr r ((full : ℕ) × (cut : ℕ) × IsService holds shown remaining contents w l e b full cut old new)
     stopped_so (Ok s) visited = tt
     stopped_so (Err fault) (full, cut, visited) = (full, cut, is_service full cut visited)

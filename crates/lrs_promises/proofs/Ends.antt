@@ -28,7 +28,7 @@ use Rattle.lrs_sheet.proofs.Repeating.{repeated_not_once}
 use Rattle.lrs_sheet_questions.specs.SheetAnswers.{AreAnswered as AreReplied, RunsQuestions, width}
 use Rattle.lrs_sheet_questions.specs.Replies.{Reply as QuestionReply, lines_of as question_lines, tally_of as question_tally}
 use Rattle.lrs_sheet_questions.specs.declared.tally.QuestionTally.{QuestionTally}
-use Rattle.lrs_web_requests.specs.Request.{Asked, refused, not_allowed, query, sheet as posted}
+use Rattle.lrs_web_requests.specs.Request.{Asked, refused, not_allowed, page, query, sheet as posted}
 use Rattle.lrs_web_requests.specs.Text.{Answer, answer_text, empty_answer}
 use Rattle.lrs_web.specs.QueryAnswers.{AnswersAsked}
 use Rattle.lrs_web.specs.Questions.{AnswersQuestions, RepliesToQuestions}
@@ -228,6 +228,10 @@ module _ {K J : Type 0} (holds : K → Result Image Table → Type 0) (has : J �
     wrote = ap answer_text (did.1 ∙ sym done.1);
     state = ap (λ (d : DeskView K). state_of d.image) did.0 ∙ stand.state ∙ sym (ap (λ (d : DeskView J). state_of d.image) done.0);
   }
+  asked_alike (page text) one two old new before after posts stand did served done also = record {
+    wrote = ap answer_text (answered_so _ one served did.1 ∙ sym (answered_so _ two also done.1));
+    state = ap (λ (d : DeskView K). state_of d.image) did.0 ∙ stand.state ∙ sym (ap (λ (d : DeskView J). state_of d.image) done.0);
+  }
   asked_alike (query resource argument) one two old new before after read stand did served done also = record {
     wrote = ap answer_text (state_alike argument one two served also old.image before.image stand.sound stand.also stand.state resource read (answered_so _ one served did.1) (answered_so _ two also done.1));
     state = ap (λ (d : DeskView K). state_of d.image) did.0 ∙ stand.state ∙ sym (ap (λ (d : DeskView J). state_of d.image) done.0);
@@ -287,6 +291,7 @@ module _ {K J : Type 0} (holds : K → Result Image Table → Type 0) (has : J �
       → Does holds asked old one new → (one.status ≡ 503 → ⊥) → Does has asked before two after → (two.status ≡ 503 → ⊥) → (answer_text one ≡ answer_text two) × (new ≡ old) × (after ≡ before)
   question_alike (refused status) one two old new before after asks same did served done also = (ap answer_text (did.1 ∙ sym done.1), did.0, done.0)
   question_alike (not_allowed verb) one two old new before after asks same did served done also = (ap answer_text (did.1 ∙ sym done.1), did.0, done.0)
+  question_alike (page text) one two old new before after asks same did served done also = (ap answer_text (answered_so _ one served did.1 ∙ sym (answered_so _ two also done.1)), did.0, done.0)
   question_alike (query resource argument) one two old new before after asks same did served done also = (
     ap answer_text (image_alike argument one two served also old.image resource (answered_so _ one served did.1)
         (subst (λ i. AnswersAsked i resource argument two) (sym same) (answered_so _ two also done.1))),

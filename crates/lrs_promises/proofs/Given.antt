@@ -23,7 +23,7 @@ use Rattle.lrs_sheet_records.specs.declared.fault.SheetFault.TheVariants as faul
 use Rattle.lrs_sheet.specs.declared.reply.Reply.{Reply}
 use Rattle.lrs_sheet.specs.declared.reply.Tally.{Tally}
 use Rattle.lrs_sheet.proofs.Done.{stays, along}
-use Rattle.lrs_web_requests.specs.Request.{Asked, refused, not_allowed, query, sheet as posted}
+use Rattle.lrs_web_requests.specs.Request.{Asked, refused, not_allowed, page, query, sheet as posted}
 use Rattle.lrs_web_requests.specs.Text.{Answer}
 use Rattle.lrs_web.specs.Questions.{AnswersQuestions}
 use Rattle.lrs_web.specs.RequestAnswers.{Does, sheet_at}
@@ -156,6 +156,7 @@ module _ {K : Type 0} (holds : K → Result Image Table → Type 0) where
   pub asked_gave : (asked : Asked) (answer : Answer) (old new : DeskView K) → Does holds asked old answer new → (answer.status ≡ 503 → ⊥) → DeskGave (GivesAsked asked (state_of old.image)) old new
   asked_gave (refused status) answer old new does served = desk_stays (GivesAsked (refused status) (state_of old.image)) old new refl does.0
   asked_gave (not_allowed verb) answer old new does served = desk_stays (GivesAsked (not_allowed verb) (state_of old.image)) old new refl does.0
+  asked_gave (page text) answer old new does served = desk_stays (GivesAsked (page text) (state_of old.image)) old new refl does.0
   asked_gave (query resource argument) answer old new does served = desk_stays (GivesAsked (query resource argument) (state_of old.image)) old new refl does.0
   asked_gave (posted resource resumes body) answer old new does served = posted_gave (sheet_at resource) resumes body answer old new does served
 

@@ -22,7 +22,7 @@ use Rattle.lrs_sheet_records.specs.declared.fault.SheetFault.TheVariants as faul
 use Rattle.lrs_sheet.specs.declared.repetition.RepeatedKey.{RepeatedKey}
 use Rattle.lrs_sheet.specs.declared.reply.Tally.{Tally}
 use Rattle.lrs_sheet.specs.declared.resumption.Decided.{Decided}
-use Rattle.lrs_web_requests.specs.Request.{Asked, Asks, refused, not_allowed, query, sheet as posted}
+use Rattle.lrs_web_requests.specs.Request.{Asked, Asks, refused, not_allowed, page, query, sheet as posted}
 use Rattle.lrs_web_requests.specs.Text.{Answer, answer_text}
 use Rattle.lrs_web.specs.RequestAnswers.{Does, sheet_at}
 use Rattle.lrs_promises.specs.declared.calls.Call.{Call}
@@ -95,6 +95,7 @@ GivesPosted (Some kind) true body s commands = GivesRest kind body s commands
 abbrev pub GivesAsked : Asked → State → List Record → Type 0
 GivesAsked (refused status) s commands = commands ≡ []
 GivesAsked (not_allowed verb) s commands = commands ≡ []
+GivesAsked (page text) s commands = commands ≡ []
 GivesAsked (query resource argument) s commands = commands ≡ []
 GivesAsked (posted resource resumes body) s commands = GivesPosted (sheet_at resource) resumes body s commands
 

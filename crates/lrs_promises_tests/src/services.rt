@@ -23,7 +23,7 @@ fn serve<D: Door, K: Keeper>(
     desk: &mut Desk<K>,
     max: u32,
 ) -> Option<(u32, u32)> {
-    let served = lrs_promises::serve(rt.alloc(), door, desk, max).ok()?;
+    let served = lrs_promises::serve(rt.alloc(), door, None, desk, max).ok()?;
     Some((served.full, served.cut))
 }
 

@@ -5,7 +5,7 @@ use Rattle.lrs_machine.specs.Lines.{Text}
 use Rattle.lrs_machine.specs.declared.image.Image.{Image}
 use Rattle.lrs_machine.specs.declared.table.Table.{Table}
 use Rattle.lrs_sheet.specs.DeskView.{DeskView}
-use Rattle.lrs_web_requests.specs.Request.{Asked, Asks}
+use Rattle.lrs_web_requests.specs.Request.{Asked, AsksWith}
 use Rattle.lrs_web_requests.specs.Text.{Answer}
 use Rattle.lrs_web.specs.declared.request.WebFault.{WebFault}
 use Rattle.lrs_web.specs.RequestAnswers.{Does, Responds, Writes}
@@ -68,21 +68,21 @@ module _ {C : Type 0} where
   one_back (Some earlier) b n back c is takes =
       back_behind (earlier ++ back) c n (subst (λ x. TakesBack x c n) is takes) ∙ ap Some (append_assoc earlier back (c ∷ []))
 
-module _ {K : Type 0} (holds : K → Result Image Table → Type 0) where
+module _ {K : Type 0} (holds : K → Result Image Table → Type 0) (shown : Option Text) where
   -- an answer that is no 503 is the one that is due
-  pub full_by : (input before after : Option Text) (asked : Asked) (old new : DeskView K) (r : Result ℕ WebFault) → IfSome input (λ bytes. Asks bytes asked)
+  pub full_by : (input before after : Option Text) (asked : Asked) (old new : DeskView K) (r : Result ℕ WebFault) → IfSome input (λ bytes. AsksWith shown bytes asked)
       → IfOk r (λ status. (answer : Answer) × Writes before after status answer × Responds holds asked old answer new) → IsOkAnd r (λ status. status ≡ 503 → ⊥)
-      → IsFull holds (record { input = input; before = before; after = after }) old new
+      → IsFull holds shown (record { input = input; before = before; after = after }) old new
   full_by input before after asked old new (Ok status) asks (answer, writes, (due, does, inl same)) other =
       (asked, due, status, record { asks = asks; does = does }, subst (λ a. Writes before after status a) same writes, other)
   full_by input before after asked old new (Ok status) asks (answer, writes, (due, does, inr none)) other = absurd (other (writes.0 ∙ ap (λ (a : Answer). a.status) none))
   full_by input before after asked old new (Err fault) asks written other = absurd other
 
-  pub cut_by : (bytes : Option Text) (asked : Asked) (old new : DeskView K) → IfSome bytes (λ input. Asks input asked) → (due : Answer) × Does holds asked old due new → IsCut holds bytes old new
+  pub cut_by : (bytes : Option Text) (asked : Asked) (old new : DeskView K) → IfSome bytes (λ input. AsksWith shown input asked) → (due : Answer) × Does holds asked old due new → IsCut holds shown bytes old new
   cut_by bytes asked old new asks (due, does) = inr (asked, due, record { asks = asks; does = does })
 
   module _ {R W : Type 0} (remaining : R → Option Text) (contents : W → Option Text) where
-    pub visited_nobody : (w : Option (List (R × W))) (e : Option (List W)) (desk : DeskView K) → Visited holds remaining contents w w e e 0 0 desk desk
+    pub visited_nobody : (w : Option (List (R × W))) (e : Option (List W)) (desk : DeskView K) → Visited holds shown remaining contents w w e e 0 0 desk desk
     visited_nobody w e desk = record { served = []; taken = none_taken w; returned = none_back e; number = refl; visits = nobody desk }
 
     -- a connection comes, is served and goes back
@@ -100,35 +100,35 @@ module _ {K : Type 0} (holds : K → Result Image Table → Type 0) where
         (one_back e m n (map back_as served) (back_as c) (back_kept e b m (map back_as served) is keeps) takes)
 
     pub visited_full : (w l m n : Option (List (R × W))) (e b p q : Option (List W)) (c : Connection R W) (full cut : ℕ) (old mid new : DeskView K)
-        → Visited holds remaining contents w l e b full cut old mid → Gives l (given_as c) m → KeepsAll m n → KeepsAll b p → TakesBack p (back_as c) q
-        → IsFull holds (exchange_of remaining contents c) mid new → Visited holds remaining contents w n e q (full + 1) cut old new
+        → Visited holds shown remaining contents w l e b full cut old mid → Gives l (given_as c) m → KeepsAll m n → KeepsAll b p → TakesBack p (back_as c) q
+        → IsFull holds shown (exchange_of remaining contents c) mid new → Visited holds shown remaining contents w n e q (full + 1) cut old new
     visited_full w l m n e b p q c full cut old mid new before gives keeps stays takes done = record {
       served = before.served ++ c ∷ [];
       taken = taken_with w l m n before.served c before.taken gives keeps;
       returned = back_with e b p q before.served c before.returned stays takes;
       number = simp length-append (omega (arith, before.number));
-      visits = subst (λ l. Visits holds l (full + 1) cut old new) (snoc (exchange_of remaining contents) before.served c) (full_visit _ (exchange_of remaining contents c) full cut old mid new before.visits done);
+      visits = subst (λ l. Visits holds shown l (full + 1) cut old new) (snoc (exchange_of remaining contents) before.served c) (full_visit _ (exchange_of remaining contents c) full cut old mid new before.visits done);
     }
 
     pub visited_cut : (w l m n : Option (List (R × W))) (e b p q : Option (List W)) (c : Connection R W) (full cut : ℕ) (old mid new : DeskView K)
-        → Visited holds remaining contents w l e b full cut old mid → Gives l (given_as c) m → KeepsAll m n → KeepsAll b p → TakesBack p (back_as c) q
-        → IsCut holds (remaining c.reader) mid new → Visited holds remaining contents w n e q full (cut + 1) old new
+        → Visited holds shown remaining contents w l e b full cut old mid → Gives l (given_as c) m → KeepsAll m n → KeepsAll b p → TakesBack p (back_as c) q
+        → IsCut holds shown (remaining c.reader) mid new → Visited holds shown remaining contents w n e q full (cut + 1) old new
     visited_cut w l m n e b p q c full cut old mid new before gives keeps stays takes done = record {
       served = before.served ++ c ∷ [];
       taken = taken_with w l m n before.served c before.taken gives keeps;
       returned = back_with e b p q before.served c before.returned stays takes;
       number = simp length-append (omega (arith, before.number));
-      visits = subst (λ l. Visits holds l full (cut + 1) old new) (snoc (exchange_of remaining contents) before.served c) (cut_visit _ (exchange_of remaining contents c) full cut old mid new before.visits done);
+      visits = subst (λ l. Visits holds shown l full (cut + 1) old new) (snoc (exchange_of remaining contents) before.served c) (cut_visit _ (exchange_of remaining contents c) full cut old mid new before.visits done);
     }
 
     -- what connections tell may be forgotten
-    pub has_visited : (w l : Option (List (R × W))) (e b : Option (List W)) (full cut : ℕ) (old new : DeskView K) → Visited holds remaining contents w l e b full cut old new → HasVisited holds full cut old new
+    pub has_visited : (w l : Option (List (R × W))) (e b : Option (List W)) (full cut : ℕ) (old new : DeskView K) → Visited holds shown remaining contents w l e b full cut old new → HasVisited holds full cut old new
     has_visited w l e b full cut old new before =
-        (map (exchange_of remaining contents) before.served, length-map before.served (exchange_of remaining contents) ∙ before.number, before.visits)
+        (shown, map (exchange_of remaining contents) before.served, length-map before.served (exchange_of remaining contents) ∙ before.number, before.visits)
 
     -- a door that fails takes nobody off its list, and has nobody back
-    pub visited_kept : (w l m : Option (List (R × W))) (e b p : Option (List W)) (full cut : ℕ) (old new : DeskView K) → Visited holds remaining contents w l e b full cut old new → KeepsAll l m → KeepsAll b p
-        → Visited holds remaining contents w m e p full cut old new
+    pub visited_kept : (w l m : Option (List (R × W))) (e b p : Option (List W)) (full cut : ℕ) (old new : DeskView K) → Visited holds shown remaining contents w l e b full cut old new → KeepsAll l m → KeepsAll b p
+        → Visited holds shown remaining contents w m e p full cut old new
     visited_kept w l m e b p full cut old new before keeps stays = record {
       served = before.served;
       taken = kept w l m (map given_as before.served) before.taken keeps;

@@ -10,7 +10,8 @@ use Rattle.lrs_sheet_records.specs.declared.sheet.Sheet.TheVariants.{Edits, Surv
 use Rattle.lrs_web_requests.specs.declared.paths.Resource.{Resource}
 use Rattle.lrs_web_requests.specs.declared.paths.Resource.TheVariants as path
 use Rattle.lrs_web_requests.specs.declared.response.RequestMethod.{RequestMethod}
-use Rattle.lrs_web_requests.specs.Request.{Asked, Asks, refused, not_allowed, query, sheet}
+use Rattle.lrs_web_requests.specs.declared.response.ContentType.TheVariants.{Html}
+use Rattle.lrs_web_requests.specs.Request.{Asked, Asks, refused, not_allowed, page, query, sheet}
 use Rattle.lrs_web_requests.specs.Text.{Answer, answer_text, empty_answer}
 use Rattle.lrs_web.specs.QueryAnswers.{AnswersAsked}
 use Rattle.lrs_web.specs.Sheets.{DoesSheet}
@@ -32,10 +33,15 @@ needs_commits _ = false
 abbrev pub allowed_answer : RequestMethod → Answer
 allowed_answer verb = record { status = 405; content_type = None; allow = Some verb; body = [] }
 
--- What is asked for is done at the desk, and answered: a sheet is done, or its questions are answered. A query leaves the desk as it is. It has an empty 503 where memory runs out, or the reply would have more bytes than it may, and once a commit of several commands has failed: the image may be ahead of what is kept then. What needs commits has an empty 503 once any commit has failed: no command is done then.
+-- the page
+abbrev pub page_answer : Text → Answer
+page_answer text = record { status = 200; content_type = Some Html; allow = None; body = text }
+
+-- What is asked for is done at the desk, and answered: a sheet is done, or its questions are answered. The page leaves the desk as it is, and has an empty 503 where memory runs out. A query leaves the desk as it is. It has an empty 503 where memory runs out, or the reply would have more bytes than it may, and once a commit of several commands has failed: the image may be ahead of what is kept then. What needs commits has an empty 503 once any commit has failed: no command is done then.
 abbrev pub Does : {K : Type 0} → (K → Result Image Table → Type 0) → Asked → DeskView K → Answer → DeskView K → Type 0
 Does holds (refused status) old answer new = (new ≡ old) × (answer ≡ empty_answer status)
 Does holds (not_allowed verb) old answer new = (new ≡ old) × (answer ≡ allowed_answer verb)
+Does holds (page text) old answer new = (new ≡ old) × ((answer ≡ page_answer text) ⊎ (answer ≡ empty_answer 503))
 Does holds (query resource argument) old answer new =
     (new ≡ old) × (AnswersAsked old.image resource argument answer ⊎ (answer ≡ empty_answer 503)) × (old.is_ahead ≡ true → answer ≡ empty_answer 503)
     × (needs_commits resource ≡ true → old.must_reopen ≡ true → answer ≡ empty_answer 503)

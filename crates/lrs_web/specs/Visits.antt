@@ -4,7 +4,7 @@ use Rattle.lrs_machine.specs.Lines.{Text}
 use Rattle.lrs_machine.specs.declared.image.Image.{Image}
 use Rattle.lrs_machine.specs.declared.table.Table.{Table}
 use Rattle.lrs_sheet.specs.DeskView.{DeskView}
-use Rattle.lrs_web_requests.specs.Request.{Asked, Asks}
+use Rattle.lrs_web_requests.specs.Request.{Asked, AsksWith}
 use Rattle.lrs_web_requests.specs.Text.{Answer}
 use Rattle.lrs_web.specs.RequestAnswers.{Does, Writes}
 
@@ -33,10 +33,11 @@ module _ {R W : Type 0} where
   abbrev pub exchange_of : (R → Option Text) → (W → Option Text) → Connection R W → Exchange
   exchange_of remaining contents c = record { input = remaining c.reader; before = contents c.writer; after = contents c.returned }
 
-module _ {K : Type 0} (holds : K → Result Image Table → Type 0) where
+-- of connections to which this page is shown, or none
+module _ {K : Type 0} (holds : K → Result Image Table → Type 0) (shown : Option Text) where
   -- What the request asks for is done at the desk, and this answer is due. Where the bytes of a connection are not told, it is some request.
   pub record IsDone (bytes : Option Text) (asked : Asked) (due : Answer) (old new : DeskView K) : Type 0 where
-    pub asks : IfSome bytes (λ input. Asks input asked)
+    pub asks : IfSome bytes (λ input. AsksWith shown input asked)
     pub does : Does holds asked old due new
 
   -- All that the request asks for is done, and the answer that is due is written, and nothing else: a 503 would say that it is not done.
@@ -56,10 +57,6 @@ module _ {K : Type 0} (holds : K → Result Image Table → Type 0) where
     cut_visit : (earlier : List Exchange) (x : Exchange) (full cut : ℕ) (old mid new : DeskView K) → Visits earlier full cut old mid
         → IsCut x.input mid new → Visits (earlier ++ x ∷ []) full (cut + 1) old new
 
-  -- some exchanges are so
-  abbrev pub HasVisited : ℕ → ℕ → DeskView K → DeskView K → Type 0
-  HasVisited full cut old new = (exchanges : List Exchange) × (length exchanges ≡ full + cut) × Visits exchanges full cut old new
-
   -- The connections that were taken off the list are visited so, and their writers are back; where a door tells no list, some.
   pub record Visited {R W : Type 0} (remaining : R → Option Text) (contents : W → Option Text) (waiting left : Option (List (R × W))) (ended back : Option (List W)) (full cut : ℕ) (old new : DeskView K) : Type 0 where
     pub served : List (Connection R W)
@@ -67,3 +64,7 @@ module _ {K : Type 0} (holds : K → Result Image Table → Type 0) where
     pub returned : IfSome ended (λ earlier. back ≡ Some (earlier ++ map back_as served))
     pub number : length served ≡ full + cut
     pub visits : Visits (map (exchange_of remaining contents) served) full cut old new
+
+-- some exchanges are so, and some page was shown or none
+abbrev pub HasVisited : {K : Type 0} → (K → Result Image Table → Type 0) → ℕ → ℕ → DeskView K → DeskView K → Type 0
+HasVisited holds full cut old new = (shown : Option Text) × (exchanges : List Exchange) × (length exchanges ≡ full + cut) × Visits holds shown exchanges full cut old new

@@ -1,6 +1,7 @@
 //! Connections are served one after another.
 
 ghost use Rattle.std.specs.Prelude.{ℕ, ◌≡◌, ◌+◌, IfOk, IsOkAnd, OnOk, OnErr, IsTrue};
+ghost use Rattle.lrs_web_requests.specs.Request.{page_text};
 ghost use Rattle.lrs_web_requests.specs.Routes.{rows};
 ghost use Rattle.lrs_web.specs.Door.{HasRisen};
 ghost use Rattle.lrs_web.specs.Visits.{IsCut, IsFull, Visited};
@@ -83,19 +84,20 @@ fn serve_by<R: Read, W: Write + Client, K: Keeper>(
     alloc: Global,
     most: usize,
     router: &Router<Resource>,
+    page: Option<&'static str>,
     reader: &mut R,
     writer: &mut W,
     desk: &mut Desk<K>,
 ) -> bool
     requires { router.now ≡ rows }
-    ensures full { IsTrue result → IsFull K.may_hold (record {
+    ensures full { IsTrue result → IsFull K.may_hold (page_text page.entry) (record {
       input = R.remaining reader.old;
       before = W.contents writer.old;
       after = W.contents writer.new;
     }) desk.old desk.new }
-    ensures cut { IsCut K.may_hold (R.remaining reader.old) desk.old desk.new }
+    ensures cut { IsCut K.may_hold (page_text page.entry) (R.remaining reader.old) desk.old desk.new }
 {
-    match receive(alloc, router, reader) {
+    match receive(alloc, router, page, reader) {
         Ok(task) => {
             let to = Recipient {
                 client: &*writer,
@@ -115,19 +117,20 @@ fn serve_by<R: Read, W: Write + Client, K: Keeper>(
 fn serve_connection<R: Read, W: Write + Client, K: Keeper>(
     alloc: Global,
     most: usize,
+    page: Option<&'static str>,
     reader: &mut R,
     writer: &mut W,
     desk: &mut Desk<K>,
 ) -> bool
-    ensures full { IsTrue result → IsFull K.may_hold (record {
+    ensures full { IsTrue result → IsFull K.may_hold (page_text page.entry) (record {
       input = R.remaining reader.old;
       before = W.contents writer.old;
       after = W.contents writer.new;
     }) desk.old desk.new }
-    ensures cut { IsCut K.may_hold (R.remaining reader.old) desk.old desk.new }
+    ensures cut { IsCut K.may_hold (page_text page.entry) (R.remaining reader.old) desk.old desk.new }
 {
     match routes(alloc) {
-        Ok(router) => serve_by(alloc, most, &router, reader, writer, desk),
+        Ok(router) => serve_by(alloc, most, &router, page, reader, writer, desk),
         Err(_) => {
             let _ = refuse(writer);
             false
@@ -136,24 +139,26 @@ fn serve_connection<R: Read, W: Write + Client, K: Keeper>(
 }
 
 /// Serves a number of connections of a door, one after another: the request of each is read, done and answered as
-/// `serve_one` does it; a sheet whose client is gone ends where it is. A connection that fails ends alone.
+/// `serve_one` does it; a sheet whose client is gone ends where it is. A connection that fails ends alone. Where a page is
+/// given, it is shown at `/`, and no POST that comes from a page of another site is done.
 ///
 /// # Errors
 /// The door gave no connection; those before it are served.
 pub fn serve_all<D: Door, K: Keeper>(
     alloc: Global,
     door: &mut D,
+    page: Option<&'static str>,
     desk: &mut Desk<K>,
     max: u32,
 ) -> Result<Served, DoorFault>
     ensures count { IfOk result (λ served. served.full + served.cut ≡ max) }
-    ensures visited { IfOk result (λ served. Visited K.may_hold D.Reader.remaining
+    ensures visited { IfOk result (λ served. Visited K.may_hold (page_text page.entry) D.Reader.remaining
         D.Writer.contents (D.waiting door.old) (D.waiting door.new) (D.ended door.old)
         (D.ended door.new) served.full served.cut desk.old desk.new) }
     ensures steady { OnOk result (D.failures door.new ≡ D.failures door.old) }
     ensures failed { OnErr result (HasRisen (D.failures door.old) (D.failures door.new)) }
     ensures stopped { OnErr result ((full : ℕ) × (cut : ℕ)
-        × Visited K.may_hold D.Reader.remaining D.Writer.contents (D.waiting door.old)
+        × Visited K.may_hold (page_text page.entry) D.Reader.remaining D.Writer.contents (D.waiting door.old)
         (D.waiting door.new) (D.ended door.old) (D.ended door.new) full cut desk.old desk.new) }
 {
     let most = door.most_reply();
@@ -163,7 +168,7 @@ pub fn serve_all<D: Door, K: Keeper>(
         let Ok((mut reader, mut writer)) = door.next() else {
             return Err(DoorFault);
         };
-        let is_full = serve_connection(alloc, most, &mut reader, &mut writer, desk);
+        let is_full = serve_connection(alloc, most, page, &mut reader, &mut writer, desk);
         door.take_back(writer);
         if is_full {
             full += 1;

@@ -9,7 +9,7 @@ ghost use Rattle.lrs_web.specs.QueryAnswers.{AnswersAsked};
 ghost use Rattle.lrs_web.specs.Questions.{AnswersQuestions};
 ghost use Rattle.lrs_web.specs.Sheets.{DoesSheet};
 ghost use Rattle.lrs_web.specs.RequestAnswers as spec;
-ghost use Rattle.lrs_web.specs.RequestAnswers.{Does, Responds, Serves, Writes, allowed_answer, sheet_at};
+ghost use Rattle.lrs_web.specs.RequestAnswers.{Does, Responds, Serves, Writes, allowed_answer, page_answer, sheet_at};
 
 use crate::questions::answer_questions;
 use crate::recipient::{AnyClient, Client, Recipient};
@@ -18,8 +18,8 @@ use http::StatusCode;
 use lrs_sheet::{Desk, Keeper, Sheet};
 use lrs_web_replies::{question_of, reply_to, unasked};
 use lrs_web_requests::{
-    BodyFault, Request, RequestMethod, Resource, Response, receive, routes, write_reply,
-    write_unavailable,
+    BodyFault, Content, ContentType, Request, RequestMethod, Resource, Response, receive, routes,
+    write_reply, write_unavailable,
 };
 use std::alloc::{AllocError, Global};
 use std::io::{Read, Write};
@@ -161,6 +161,26 @@ fn query_reply<K: Keeper>(
     }
 }
 
+fn page_reply(alloc: Global, most: usize, page: &str) -> Response
+    ensures { (answer_of result ≡ page_answer page.now) ⊎ (answer_of result ≡ empty_answer 503) }
+{
+    if page.len() > most {
+        return Response::empty(StatusCode::SERVICE_UNAVAILABLE);
+    }
+    let Ok(bytes) = Vec::from_slice(alloc, page.as_bytes()) else {
+        return Response::empty(StatusCode::SERVICE_UNAVAILABLE);
+    };
+    let content = Content {
+        kind: ContentType::Html,
+        bytes,
+    };
+    Response {
+        status: StatusCode::OK,
+        allow: None,
+        content: Some(content),
+    }
+}
+
 /// Does a sheet, or answers the questions where it is of no kind that is done.
 fn do_posted<C: Client, K: Keeper>(
     alloc: Global,
@@ -193,6 +213,7 @@ pub(crate) fn do_task<C: Client, K: Keeper>(
     match task {
         Request::Refused(status) => Response::empty(*status),
         Request::NotAllowed(verb) => allowed_reply(*verb),
+        Request::Page(page) => page_reply(alloc, to.most, page),
         Request::Query(resource, argument) => {
             query_reply(alloc, to.most, *resource, argument.as_slice(), desk)
         }
@@ -258,7 +279,7 @@ pub fn serve_one<R: Read, W: Write, K: Keeper>(
     let Ok(router) = routes(alloc) else {
         return refuse(writer);
     };
-    match receive(alloc, &router, reader) {
+    match receive(alloc, &router, None, reader) {
         Ok(task) => {
             let client = AnyClient;
             let to = Recipient {

@@ -2,6 +2,7 @@ pub mod HeadReadings
 pub mod Body
 pub mod BodyLengths
 pub mod Values
+pub mod Sites
 pub mod Routes
 pub mod Paths
 pub mod Query

@@ -1,5 +1,6 @@
 -- What a request asks for.
-use Rattle.std.specs.Prelude.{◌≡◌, ⊤, ℕ, ◌≤◌, ◌⊎◌, Bool, true, false, List, length, drop, map, codes, Option, None, Some, Result, Ok, Err, if◌then◌else◌, ◌==◌, bytes_eq}
+use Rattle.std.specs.Prelude.{◌≡◌, ⊤, ℕ, ◌≤◌, ◌⊎◌, Bool, true, false, not, ◌&&◌, List, length, drop, map, codes, Option, None, Some, option_map, unwrap_or, Result, Ok, Err, if◌then◌else◌, ◌==◌, bytes_eq}
+use Rattle.std.specs.Borrow.{Bor}
 use Rattle.std.specs.List.{before_first, after_first}
 use Rattle.httparse.specs.Grammar.{RequestHead, ReadsRequest, print_request}
 use Rattle.httparse.specs.Spans.{name_and_value}
@@ -7,6 +8,7 @@ use Rattle.lrs_web_requests.specs.HeadReadings.{IsTooLarge, IsUnreadable}
 use Rattle.lrs_web_requests.specs.Body.{body_at}
 use Rattle.lrs_web_requests.specs.BodyLengths.{Field, body_length}
 use Rattle.lrs_web_requests.specs.Query.{parameter}
+use Rattle.lrs_web_requests.specs.Sites.{is_own}
 use Rattle.lrs_web_requests.specs.declared.response.RequestMethod.{RequestMethod}
 use Rattle.lrs_web_requests.specs.declared.response.RequestMethod.TheVariants.{Get, Post}
 use Rattle.lrs_web_requests.specs.Text.{method_name}
@@ -16,16 +18,18 @@ use Rattle.lrs_web_requests.specs.Routes.{resource_at}
 use Rattle.lrs_web_requests.specs.declared.request.Request.{Request}
 use Rattle.lrs_web_requests.specs.declared.request.Request.TheVariants as task
 
--- what is asked for: nothing that is served, an answer to a question, with what it is asked by, or that a sheet is done, gone on with or, of questions, answered
+-- what is asked for: nothing that is served, the page, which is this text, an answer to a question, with what it is asked by, or that a sheet is done, gone on with or, of questions, answered
 pub data Asked : Type 0 where
   refused : ℕ → Asked
   not_allowed : RequestMethod → Asked
+  page : List ℕ → Asked
   query : Resource → List ℕ → Asked
   sheet : Resource → Bool → List ℕ → Asked
 
 abbrev pub asked_by : Request → Asked
 asked_by (task.Refused status) = refused status
 asked_by (task.NotAllowed verb) = not_allowed verb
+asked_by (task.Page text) = page text.now
 asked_by (task.Query resource text) = query resource text.items
 asked_by (task.Sheet resource resumes bytes) = sheet resource resumes bytes.items
 
@@ -105,6 +109,25 @@ at_resource (Some resource) method target fields rest =
 abbrev pub asked_at : List ℕ → List ℕ → List Field → List ℕ → Asked
 asked_at method target fields rest = at_resource (resource_at (path_of target)) method target fields rest
 
+-- the text of the page that is shown, or none
+abbrev pub page_text : Option (Bor (List ℕ)) → Option (List ℕ)
+page_text given = option_map (λ text. text.now) given
+
+-- what a method asks of the path of the page
+abbrev pub asked_of_page : List ℕ → List ℕ → Asked
+asked_of_page text method = if bytes_eq method (method_name Get) then page text else not_allowed Get
+
+-- What a head asks for by itself where this page stands at `/`: no POST that comes from another site is done, whatever its path.
+abbrev pub asked_ahead : List ℕ → List ℕ → List ℕ → List Field → Option Asked
+asked_ahead text method target fields =
+    if bytes_eq method (method_name Post) && not (is_own fields) then Some (refused 403)
+    else (if bytes_eq (path_of target) (codes "/") then Some (asked_of_page text method) else None)
+
+-- what a head and the bytes after it ask for, with a page or without one
+abbrev pub asked_with : Option (List ℕ) → List ℕ → List ℕ → List Field → List ℕ → Asked
+asked_with None method target fields rest = asked_at method target fields rest
+asked_with (Some text) method target fields rest = unwrap_or (asked_ahead text method target fields) (asked_at method target fields rest)
+
 abbrev pub most_head : ℕ
 most_head = 8192
 
@@ -112,21 +135,26 @@ abbrev pub most_fields : ℕ
 most_fields = 64
 
 -- a head within the limits at the front of the input asks for this
-pub record AsksByHead (input : List ℕ) (asked : Asked) (h : RequestHead) (rest : List ℕ) : Type 0 where
+pub record AsksByHead (shown : Option (List ℕ)) (input : List ℕ) (asked : Asked) (h : RequestHead) (rest : List ℕ) : Type 0 where
   pub reads : ReadsRequest input h rest
   pub bytes : length (print_request h) ≤ most_head
   pub fields : length h.fields ≤ most_fields
-  pub asks : asked ≡ asked_at h.method h.target (map name_and_value h.fields) rest
+  pub asks : asked ≡ asked_with shown h.method h.target (map name_and_value h.fields) rest
 
 -- a question is put to a resource that answers, and a sheet is given to one that does it
 abbrev pub IsServed : Asked → Type 0
 IsServed (refused status) = ⊤
 IsServed (not_allowed verb) = ⊤
+IsServed (page text) = ⊤
 IsServed (query resource argument) = verb_of resource ≡ Get
 IsServed (sheet resource resumes bytes) = verb_of resource ≡ Post
 
--- what an input asks for; one whose head has several faults may be refused for either
-abbrev pub Asks : List ℕ → Asked → Type 0
-Asks input asked =
+-- what an input asks for where this page is shown, or none; one whose head has several faults may be refused for either
+abbrev pub AsksWith : Option (List ℕ) → List ℕ → Asked → Type 0
+AsksWith shown input asked =
     ((asked ≡ refused 431) × IsTooLarge most_head most_fields input) ⊎ ((asked ≡ refused 400) × IsUnreadable input)
-    ⊎ ((h : RequestHead) × (rest : List ℕ) × AsksByHead input asked h rest)
+    ⊎ ((h : RequestHead) × (rest : List ℕ) × AsksByHead shown input asked h rest)
+
+-- the same without a page
+abbrev pub Asks : List ℕ → Asked → Type 0
+Asks input asked = AsksWith None input asked

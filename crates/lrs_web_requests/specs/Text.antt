@@ -2,7 +2,7 @@
 use Rattle.std.specs.Prelude.{ℕ, List, [], ◌∷◌, ◌++◌, length, Option, Some, None, option_map, unwrap_or, codes, decimal}
 use Rattle.http.specs.StatusCode.{code_digits, reason_phrase}
 use Rattle.lrs_web_requests.specs.declared.response.ContentType.{ContentType}
-use Rattle.lrs_web_requests.specs.declared.response.ContentType.TheVariants.{Json, Csv, Svg}
+use Rattle.lrs_web_requests.specs.declared.response.ContentType.TheVariants.{Json, Csv, Svg, Html}
 use Rattle.lrs_web_requests.specs.declared.response.RequestMethod.{RequestMethod}
 use Rattle.lrs_web_requests.specs.declared.response.RequestMethod.TheVariants.{Get, Post}
 use Rattle.lrs_web_requests.specs.declared.response.Content.{Content}
@@ -26,6 +26,16 @@ abbrev pub media_type : ContentType → List ℕ
 media_type Json = codes "application/json"
 media_type Csv = codes "text/csv"
 media_type Svg = codes "image/svg+xml"
+media_type Html = codes "text/html; charset=utf-8"
+
+-- What a browser is told of a page: it loads nothing from elsewhere, asks nobody but this service, and stands in no frame. (The page says itself which script it has.)
+abbrev pub page_policy : List ℕ
+page_policy =
+    codes "Content-Security-Policy: default-src 'none'; style-src 'unsafe-inline'; script-src 'unsafe-inline'; img-src data:; connect-src 'self'; form-action 'none'; base-uri 'none'; frame-ancestors 'none'\r\nX-Content-Type-Options: nosniff\r\nX-Frame-Options: DENY\r\n"
+
+abbrev pub policy : ContentType → List ℕ
+policy Html = page_policy
+policy kind = []
 
 abbrev pub method_name : RequestMethod → List ℕ
 method_name Get = codes "GET"
@@ -36,7 +46,7 @@ status_line status = codes "HTTP/1.1 " ++ code_digits status ++ codes " " ++ unw
 
 abbrev pub content_type_line : Option ContentType → List ℕ
 content_type_line None = []
-content_type_line (Some kind) = codes "Content-Type: " ++ media_type kind ++ crlf
+content_type_line (Some kind) = codes "Content-Type: " ++ media_type kind ++ crlf ++ policy kind
 
 abbrev pub allow_line : Option RequestMethod → List ℕ
 allow_line None = []

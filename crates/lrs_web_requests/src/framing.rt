@@ -14,7 +14,7 @@ const MOST_DIGITS: usize = 19;
 
 /// The values of the fields of one name, as far as they matter.
 #[derive(Clone, Copy)]
-enum Values<'b> {
+pub(crate) enum Values<'b> {
     Nothing,
     One(&'b [u8]),
     Several,
@@ -36,7 +36,8 @@ fn has_name(text: &[u8], field: &HeaderSpan, name: &[u8]) -> bool
     field.name.of(text).eq_ignore_ascii_case(name)
 }
 
-fn values_of<'b>(text: &'b [u8], fields: &[HeaderSpan], name: &[u8]) -> Values<'b>
+/// What the fields of a name say.
+pub(crate) fn values_of<'b>(text: &'b [u8], fields: &[HeaderSpan], name: &[u8]) -> Values<'b>
     requires { All (IsHeaderWithin (length text.now)) fields.now }
     ensures { summary_of result ≡ with_values nothing
         (values_named name.now (map (header_bytes text.now) fields.now)) }

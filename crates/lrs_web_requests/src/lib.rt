@@ -11,6 +11,7 @@ mod paths;
 mod query;
 mod request;
 mod response;
+mod sites;
 
 pub use body::BodyFault;
 pub use paths::{Resource, routes};

@@ -1,12 +1,12 @@
 //! Reads what a request asks for.
 
-ghost use Rattle.std.specs.Prelude.{ℕ, List, ◌≡◌, ◌≤◌, ◌++◌, length, map, All, IfOk, IfSome, IsUtf8};
+ghost use Rattle.std.specs.Prelude.{ℕ, List, ◌≡◌, ◌≤◌, ◌++◌, length, map, option_map, All, IfOk, IfSome, IsUtf8};
 ghost use Rattle.httparse.specs.Grammar.{RequestHead};
 ghost use Rattle.httparse.specs.Spans.{header_bytes, IsHeaderWithin, IsRequestOf, IsRequestWithin};
 ghost use Rattle.lrs_web_requests.specs.Routes.{rows};
 ghost use Rattle.lrs_web_requests.specs.BodyLengths.{body_length};
 ghost use Rattle.lrs_web_requests.specs.declared.response.RequestMethod.TheVariants.{Post};
-ghost use Rattle.lrs_web_requests.specs.Request.{asked_by, asked_at, Asks, AsksByHead, most_head, most_fields, path_of, query_of, argument_of, name_in, resumes, verb_of, with_length, by_verb, IsServed};
+ghost use Rattle.lrs_web_requests.specs.Request.{asked_by, asked_at, asked_ahead, asked_with, AsksByHead, AsksWith, most_head, most_fields, page_text, path_of, query_of, argument_of, name_in, resumes, verb_of, with_length, by_verb, IsServed};
 
 use crate::body::{BodyFault, read_body};
 use crate::framing::length_of_body;
@@ -14,6 +14,7 @@ use crate::head::{Outcome, read_head};
 use crate::paths::{Resource, find};
 use crate::query::value_of;
 use crate::response::RequestMethod;
+use crate::sites::is_own;
 use http::StatusCode;
 use httparse::spans::{EMPTY_HEADER_SPAN, HeaderSpan, RequestSpans};
 use matchit::Router;
@@ -34,6 +35,8 @@ pub enum Request {
     Refused(StatusCode),
     /// The path has only this method.
     NotAllowed(RequestMethod),
+    /// The page that is shown.
+    Page(&'static str),
     /// An answer: to a query, or of a route to the name in its path.
     Query(Resource, Vec<u8>),
     /// That the sheet in the body is done, or that it goes on behind its last record that is an edit; or that the questions
@@ -194,10 +197,58 @@ fn read_task<R: Read>(
     }
 }
 
+/// What a head asks for by itself where a page is shown at `/`; none where the page has no part in it.
+fn asked_ahead(page: &'static str, head: Head<'_>) -> Option<Request>
+    requires { All (IsHeaderWithin (length head.text.now)) head.fields.now }
+    ensures served { IfSome result (λ task. IsServed (asked_by task)) }
+    ensures asked { option_map asked_by result
+        ≡ asked_ahead page.now head.entry.method.now head.entry.target.now
+        (map (header_bytes head.entry.text.now) head.entry.fields.now) }
+{
+    let is_post = head.method == RequestMethod::Post.name().as_bytes();
+    if is_post && !is_own(head.text, head.fields) {
+        return Some(Request::Refused(StatusCode::FORBIDDEN));
+    }
+    let (path, _) = split_target(head.target);
+    if path != "/" {
+        return None;
+    }
+    if head.method == RequestMethod::Get.name().as_bytes() {
+        Some(Request::Page(page))
+    } else {
+        Some(Request::NotAllowed(RequestMethod::Get))
+    }
+}
+
+fn read_with<R: Read>(
+    alloc: Global,
+    router: &Router<Resource>,
+    page: Option<&'static str>,
+    reader: &mut R,
+    head: Head<'_>,
+) -> Result<Request, BodyFault>
+    requires router { router.now ≡ rows }
+    requires fields { All (IsHeaderWithin (length head.text.now)) head.fields.now }
+    ensures served { IfOk result (λ task. IsServed (asked_by task)) }
+    ensures asked { IfOk result (λ task. IfSome (R.remaining reader.old) (λ more.
+        asked_by task ≡ asked_with (page_text page.entry) head.entry.method.now
+        head.entry.target.now (map (header_bytes head.entry.text.now) head.entry.fields.now)
+        (head.entry.front.now ++ more))) }
+{
+    let Some(page) = page else {
+        return read_task(alloc, router, reader, head);
+    };
+    match asked_ahead(page, head) {
+        Some(task) => Ok(task),
+        None => read_task(alloc, router, reader, head),
+    }
+}
+
 /// What a request asks for whose head has been read.
 fn read_on_from<R: Read>(
     alloc: Global,
     router: &Router<Resource>,
+    page: Option<&'static str>,
     reader: &mut R,
     text: &[u8],
     spans: &[HeaderSpan],
@@ -210,7 +261,7 @@ fn read_on_from<R: Read>(
     requires parsed { IsRequestOf text.now spans.now head }
     ensures served { IfOk result (λ task. IsServed (asked_by task)) }
     ensures asked { IfOk result (λ task. IfSome (R.remaining reader.old) (λ more.
-        (h : RequestHead) × (rest : List ℕ) × AsksByHead (text.now ++ more) (asked_by task) h rest)) }
+        (h : RequestHead) × (rest : List ℕ) × AsksByHead (page_text page.entry) (text.now ++ more) (asked_by task) h rest)) }
 {
     let Ok(target) = str::from_utf8(head.path.of(text)) else {
         unreachable!()
@@ -222,18 +273,20 @@ fn read_on_from<R: Read>(
         fields: &spans[..head.headers],
         front: &text[head.len..],
     };
-    read_task(alloc, router, reader, head)
+    read_with(alloc, router, page, reader, head)
 }
 
-/// What the request at the front of the input asks for.
+/// What the request at the front of the input asks for. Where a page is given, it is shown at `/`, and no POST is done that
+/// comes from a page of another site: it is refused with 403 before its body is read.
 pub fn receive<R: Read>(
     alloc: Global,
     router: &Router<Resource>,
+    page: Option<&'static str>,
     reader: &mut R,
 ) -> Result<Request, BodyFault>
     requires { router.now ≡ rows }
     ensures asked { IfOk result (λ task. IfSome (R.remaining reader.old) (λ input.
-        Asks input (asked_by task))) }
+        AsksWith (page_text page.entry) input (asked_by task))) }
     ensures served { IfOk result (λ task. IsServed (asked_by task)) }
 {
     let mut buffer = [0u8; MOST_HEAD];
@@ -243,6 +296,6 @@ pub fn receive<R: Read>(
     match reading.outcome {
         Outcome::TooLarge => Ok(Request::Refused(StatusCode::REQUEST_HEADER_FIELDS_TOO_LARGE)),
         Outcome::Unreadable => Ok(Request::Refused(StatusCode::BAD_REQUEST)),
-        Outcome::Complete(head) => read_on_from(alloc, router, reader, text, &spans, head),
+        Outcome::Complete(head) => read_on_from(alloc, router, page, reader, text, &spans, head),
     }
 }

@@ -10,12 +10,19 @@ use http::StatusCode;
 use std::alloc::{AllocError, Global};
 use std::io::{self, Write};
 
+/// What a browser is told of a page.
+const PAGE_POLICY: &str = "Content-Security-Policy: default-src 'none'; \
+    style-src 'unsafe-inline'; script-src 'unsafe-inline'; img-src data:; connect-src 'self'; \
+    form-action 'none'; base-uri 'none'; frame-ancestors 'none'\r\n\
+    X-Content-Type-Options: nosniff\r\nX-Frame-Options: DENY\r\n";
+
 /// What a body is.
 #[derive(Clone, Copy, PartialEq, Eq)]
 pub enum ContentType {
     Json,
     Csv,
     Svg,
+    Html,
 }
 
 impl ContentType {
@@ -26,6 +33,17 @@ impl ContentType {
             ContentType::Json => "application/json",
             ContentType::Csv => "text/csv",
             ContentType::Svg => "image/svg+xml",
+            ContentType::Html => "text/html; charset=utf-8",
+        }
+    }
+
+    /// The fields that go with it.
+    fn policy(self) -> &'static str
+        ensures { result.now ≡ spec.policy self }
+    {
+        match self {
+            ContentType::Html => PAGE_POLICY,
+            ContentType::Json | ContentType::Csv | ContentType::Svg => "",
         }
     }
 }
@@ -133,7 +151,8 @@ fn content_type_field(alloc: Global, content: &Option<Content>) -> Result<String
         None => Ok(String::new(alloc)),
         Some(content) => {
             let name = content.kind.name();
-            format!(in alloc; "Content-Type: {name}\r\n")
+            let policy = content.kind.policy();
+            format!(in alloc; "Content-Type: {name}\r\n{policy}")
         }
     }
 }

@@ -42,14 +42,14 @@ module _ {R W : Type 0} where
       subst (λ list. IfSome list (λ earlier. p ≡ Some (earlier ++ map back_as more))) first later
       ∙ ap Some (append_assoc earlier (map back_as some) (map back_as more) ∙ ap (λ back. earlier ++ back) (sym (map-append back_as some more)))
 
-module _ {K : Type 0} (holds : K → Result Image Table → Type 0) where
-  moved : {xs ys : List Exchange} {f g c d : ℕ} {old new : DeskView K} → xs ≡ ys → f ≡ g → c ≡ d → Visits holds xs f c old new → Visits holds ys g d old new
+module _ {K : Type 0} (holds : K → Result Image Table → Type 0) (shown : Option Text) where
+  moved : {xs ys : List Exchange} {f g c d : ℕ} {old new : DeskView K} → xs ≡ ys → f ≡ g → c ≡ d → Visits holds shown xs f c old new → Visits holds shown ys g d old new
   moved {xs} {ys} {f} {g} {c} {d} {old} {new} inputs full cut visits =
-      subst (λ x. Visits holds x g d old new) inputs (subst (λ x. Visits holds xs x d old new) full (subst (λ x. Visits holds xs f x old new) cut visits))
+      subst (λ x. Visits holds shown x g d old new) inputs (subst (λ x. Visits holds shown xs x d old new) full (subst (λ x. Visits holds shown xs f x old new) cut visits))
 
-  together : {inputs : List Exchange} {more_full more_cut : ℕ} {mid new : DeskView K} → Visits holds inputs more_full more_cut mid new
-      → (before : List Exchange) (full cut : ℕ) (old : DeskView K) → Visits holds before full cut old mid
-      → Visits holds (before ++ inputs) (full + more_full) (cut + more_cut) old new
+  together : {inputs : List Exchange} {more_full more_cut : ℕ} {mid new : DeskView K} → Visits holds shown inputs more_full more_cut mid new
+      → (before : List Exchange) (full cut : ℕ) (old : DeskView K) → Visits holds shown before full cut old mid
+      → Visits holds shown (before ++ inputs) (full + more_full) (cut + more_cut) old new
   together (nobody desk) before full cut old first =
       let same_full : full ≡ full + 0 = omega arith in
       let same_cut : cut ≡ cut + 0 = omega arith in
@@ -65,25 +65,25 @@ module _ {K : Type 0} (holds : K → Result Image Table → Type 0) where
 
   module _ {R W : Type 0} (remaining : R → Option Text) (contents : W → Option Text) where
     -- connections that were visited, and then more
-    pub visited_more : (w l m : Option (List (R × W))) (e b p : Option (List W)) (full cut more_full more_cut : ℕ) (old mid new : DeskView K) → Visited holds remaining contents w l e b full cut old mid
-        → Visited holds remaining contents l m b p more_full more_cut mid new → Visited holds remaining contents w m e p (full + more_full) (cut + more_cut) old new
+    pub visited_more : (w l m : Option (List (R × W))) (e b p : Option (List W)) (full cut more_full more_cut : ℕ) (old mid new : DeskView K) → Visited holds shown remaining contents w l e b full cut old mid
+        → Visited holds shown remaining contents l m b p more_full more_cut mid new → Visited holds shown remaining contents w m e p (full + more_full) (cut + more_cut) old new
     visited_more w l m e b p full cut more_full more_cut old mid new first more = record {
       served = first.served ++ more.served;
       taken = taken_both w l m first.served more.served first.taken more.taken;
       returned = back_both e b p first.served more.served first.returned more.returned;
       number = simp length-append (omega (arith, first.number, more.number));
-      visits = subst (λ list. Visits holds list (full + more_full) (cut + more_cut) old new) (sym (map-append (exchange_of remaining contents) first.served more.served))
+      visits = subst (λ list. Visits holds shown list (full + more_full) (cut + more_cut) old new) (sym (map-append (exchange_of remaining contents) first.served more.served))
           (together more.visits (map (exchange_of remaining contents) first.served) full cut old first.visits);
     }
 
     -- what connections tell may be forgotten, however a service ends
 
-    pub ended_so : {E : Type 0} (w l : Option (List (R × W))) (e b : Option (List W)) (old new : DeskView K) (r : Result Served E) → IfOk r (λ s. Visited holds remaining contents w l e b s.full s.cut old new)
+    pub ended_so : {E : Type 0} (w l : Option (List (R × W))) (e b : Option (List W)) (old new : DeskView K) (r : Result Served E) → IfOk r (λ s. Visited holds shown remaining contents w l e b s.full s.cut old new)
         → IfOk r (λ s. HasVisited holds s.full s.cut old new)
-    ended_so w l e b old new (Ok s) visited = has_visited holds remaining contents w l e b s.full s.cut old new visited
+    ended_so w l e b old new (Ok s) visited = has_visited holds shown remaining contents w l e b s.full s.cut old new visited
     ended_so w l e b old new (Err fault) visited = tt
 
-    pub stopped_so : {E : Type 0} (w l : Option (List (R × W))) (e b : Option (List W)) (old new : DeskView K) (r : Result Served E) → OnErr r ((full : ℕ) × (cut : ℕ) × Visited holds remaining contents w l e b full cut old new)
+    pub stopped_so : {E : Type 0} (w l : Option (List (R × W))) (e b : Option (List W)) (old new : DeskView K) (r : Result Served E) → OnErr r ((full : ℕ) × (cut : ℕ) × Visited holds shown remaining contents w l e b full cut old new)
         → OnErr r ((full : ℕ) × (cut : ℕ) × HasVisited holds full cut old new)
     stopped_so w l e b old new (Ok s) visited = tt
-    stopped_so w l e b old new (Err fault) (full, cut, visited) = (full, cut, has_visited holds remaining contents w l e b full cut old new visited)
+    stopped_so w l e b old new (Err fault) (full, cut, visited) = (full, cut, has_visited holds shown remaining contents w l e b full cut old new visited)

@@ -53,8 +53,8 @@ pub(crate) enum Finding {
     InBody(usize),
 }
 
-/// What the reader of requests makes of these bytes. Where memory is missing it asks for nothing more: the reply is to
-/// say so.
+/// What the reader of requests makes of these bytes, without a page: with one it reads no more. Where memory is missing it
+/// asks for nothing more: the reply is to say so.
 pub(crate) fn judged(alloc: Global, bytes: &[u8]) -> Finding {
     let mut front = Front {
         bytes,
@@ -64,7 +64,7 @@ pub(crate) fn judged(alloc: Global, bytes: &[u8]) -> Finding {
     let Ok(router) = routes(alloc) else {
         return Finding::WholeRequest;
     };
-    match receive(alloc, &router, &mut front) {
+    match receive(alloc, &router, None, &mut front) {
         Ok(_) | Err(BodyFault::Memory) => Finding::WholeRequest,
         Err(BodyFault::Read(_)) => found_at(bytes.len(), front.missing),
     }

@@ -2,6 +2,7 @@
 
 ghost use Rattle.std.specs.Prelude.{ℕ, ◌≡◌, ◌+◌, IfOk, OnErr, OnOk, IsTrue, true, false, Err, Result};
 ghost use Rattle.std.specs.Io.KnownBytes.{Appends};
+ghost use Rattle.lrs_web_requests.specs.Request.{page_text};
 ghost use Rattle.lrs_web.specs.Door.{HasRisen};
 ghost use Rattle.lrs_web.specs.Visits.{HasVisited, Visited};
 ghost use Rattle.lrs_web_server.specs.Announcements.{HasSaid, listening_line};
@@ -12,12 +13,12 @@ use lrs_web::{Desk, Door, DoorFault, Keeper, Served, serve_all};
 use std::alloc::Global;
 use std::cell::RefCell;
 use std::io;
-use std::io::Write;
+use std::io::{Eprint, Write};
 use std::net::{Ipv4Addr, Net, SocketAddr, SocketAddrV4};
 use std::rt::Runtime;
 
 /// How a desk is served.
-#[derive(Clone, Copy, PartialEq, Eq)]
+#[derive(Clone, Copy)]
 pub struct ServiceOptions {
     /// A line on standard error tells of each request.
     pub logs: bool,
@@ -25,6 +26,10 @@ pub struct ServiceOptions {
     pub ends_on_fault: bool,
     /// The body of a reply has at most so many bytes. One that would have more is an empty 503.
     pub most_reply: usize,
+    /// The page that is shown at `/`. With one no POST is done that comes from a page of another site.
+    pub page: Option<&'static str>,
+    /// Standard error says where that is.
+    pub tells_page: bool,
 }
 
 /// Why a service ended before its last connection.
@@ -49,6 +54,13 @@ fn say<W: Write>(to: &mut W, port: u16) -> io::Result<()>
     to.flush()
 }
 
+// Says where the page is, where that is wanted. Nothing comes of a failure.
+fn tell_page<R: Eprint>(rt: &R, port: u16, manner: ServiceOptions) {
+    if manner.tells_page {
+        let _ = eprintln!(rt; "the page is at http://127.0.0.1:{port}/");
+    }
+}
+
 // Whether the service ends at this desk.
 fn is_at_fault<K: Keeper>(desk: &Desk<K>, ends_on_fault: bool) -> bool
     ensures ends { IsTrue result → (desk.now.must_reopen ≡ true) }
@@ -66,16 +78,17 @@ fn is_at_fault<K: Keeper>(desk: &Desk<K>, ends_on_fault: bool) -> bool
 fn serve_each<D: Door, K: Keeper>(
     alloc: Global,
     door: &mut D,
+    page: Option<&'static str>,
     desk: &mut Desk<K>,
     max: u32,
     ends_on_fault: bool,
 ) -> Result<Served, ServiceFault>
     ensures count { IfOk result (λ served. served.full + served.cut ≡ max) }
-    ensures visited { IfOk result (λ served. Visited K.may_hold D.Reader.remaining
+    ensures visited { IfOk result (λ served. Visited K.may_hold (page_text page.entry) D.Reader.remaining
         D.Writer.contents (D.waiting door.old) (D.waiting door.new) (D.ended door.old)
         (D.ended door.new) served.full served.cut desk.old desk.new) }
     ensures stopped { OnErr result ((full : ℕ) × (cut : ℕ)
-        × Visited K.may_hold D.Reader.remaining D.Writer.contents (D.waiting door.old)
+        × Visited K.may_hold (page_text page.entry) D.Reader.remaining D.Writer.contents (D.waiting door.old)
         (D.waiting door.new) (D.ended door.old) (D.ended door.new) full cut desk.old desk.new) }
     ensures failed { result ≡ Err ServiceFault.Door
         → HasRisen (D.failures door.old) (D.failures door.new) }
@@ -91,7 +104,7 @@ fn serve_each<D: Door, K: Keeper>(
         if is_at_fault(desk, ends_on_fault) {
             return Err(ServiceFault::Desk);
         }
-        match serve_all(alloc, door, desk, 1) {
+        match serve_all(alloc, door, page, desk, 1) {
             Ok(served) => {
                 full += served.full;
                 cut += served.cut;
@@ -133,7 +146,8 @@ fn serve_hall<'a, R: Runtime<A = Global>, K: Keeper>(
     ensures says { result ≡ Err ServiceFault.Write → ⊥ }
 {
     let mut door = Listening::new(hall, rt, manner.most_reply);
-    let outcome = serve_each(rt.alloc(), &mut door, desk, max, manner.ends_on_fault);
+    let ends_on_fault = manner.ends_on_fault;
+    let outcome = serve_each(rt.alloc(), &mut door, manner.page, desk, max, ends_on_fault);
     door.finish(served_of(&outcome));
     outcome
 }
@@ -178,5 +192,6 @@ pub fn serve<R: Runtime<A = Global> + Net, K: Keeper, W: Write>(
     if say(to, port).is_err() {
         return Err(ServiceFault::Write);
     }
+    tell_page(rt, port, manner);
     serve_hall(rt, hall, desk, max, manner)
 }

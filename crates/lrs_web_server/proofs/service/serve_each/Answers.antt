@@ -5,12 +5,12 @@ use Rattle.lrs_web_server.proofs.Together.{visited_more}
 use Rattle.lrs_web_server.proofs.service.serve_each.Goals as goal
 
 pub loop-turn-init : goal.loop-turn-init
-loop-turn-init g c = record { counted = refl; steady = refl; visited = visited_nobody g.K.Holder.may_hold g.D.Reader.Read.remaining g.D.Writer.Write.contents _ _ _ }
+loop-turn-init g c = record { counted = refl; steady = refl; visited = visited_nobody g.K.Holder.may_hold _ g.D.Reader.Read.remaining g.D.Writer.Write.contents _ _ _ }
 
 pub returns-in-Err-clause-stopped : goal.returns-in-Err-clause-stopped
 returns-in-Err-clause-stopped g c =
     let s = c.in-Err.ensures.stopped in
-    (c.loop-turn.full + s.0, c.loop-turn.cut + s.1, visited_more _ _ _ _ _ _ _ _ _ _ _ _ _ _ _ _ c.loop-turn.invariant.visited s.2)
+    (c.loop-turn.full + s.0, c.loop-turn.cut + s.1, visited_more _ _ _ _ _ _ _ _ _ _ _ _ _ _ _ _ _ c.loop-turn.invariant.visited s.2)
 
 pub returns-in-Err-clause-failed : goal.returns-in-Err-clause-failed
 returns-in-Err-clause-failed g c = λ e. subst (λ (n : ℕ). HasRisen n (g.D.Door.failures c.serve_all.new.door)) c.loop-turn.invariant.steady c.in-Err.ensures.failed
@@ -21,5 +21,5 @@ loop-turn-preserved g c =
     record {
       counted = omega (arith, before.counted, c.in-Ok.ensures.count);
       steady = c.in-Ok.ensures.steady ∙ before.steady;
-      visited = visited_more _ _ _ _ _ _ _ _ _ _ _ _ _ _ _ _ before.visited c.in-Ok.ensures.visited;
+      visited = visited_more _ _ _ _ _ _ _ _ _ _ _ _ _ _ _ _ _ before.visited c.in-Ok.ensures.visited;
     }
