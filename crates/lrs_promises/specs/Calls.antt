@@ -95,7 +95,7 @@ GivesPosted (Some kind) true body s commands = GivesRest kind body s commands
 abbrev pub GivesAsked : Asked → State → List Record → Type 0
 GivesAsked (refused status) s commands = commands ≡ []
 GivesAsked (not_allowed verb) s commands = commands ≡ []
-GivesAsked (query resource argument) s commands = commands ≡ []
+GivesAsked (query resource format argument) s commands = commands ≡ []
 GivesAsked (posted resource resumes body) s commands = GivesPosted (sheet_at resource) resumes body s commands
 
 -- The commands that a call gives, in a state.

@@ -36,8 +36,8 @@ allowed_answer verb = record { status = 405; content_type = None; allow = Some v
 abbrev pub Does : {K : Type 0} → (K → Result Image Table → Type 0) → Asked → DeskView K → Answer → DeskView K → Type 0
 Does holds (refused status) old answer new = (new ≡ old) × (answer ≡ empty_answer status)
 Does holds (not_allowed verb) old answer new = (new ≡ old) × (answer ≡ allowed_answer verb)
-Does holds (query resource argument) old answer new =
-    (new ≡ old) × (AnswersAsked old.image resource argument answer ⊎ (answer ≡ empty_answer 503)) × (old.is_ahead ≡ true → answer ≡ empty_answer 503)
+Does holds (query resource format argument) old answer new =
+    (new ≡ old) × (AnswersAsked old.image format resource argument answer ⊎ (answer ≡ empty_answer 503)) × (old.is_ahead ≡ true → answer ≡ empty_answer 503)
     × (needs_commits resource ≡ true → old.must_reopen ≡ true → answer ≡ empty_answer 503)
 Does holds (sheet resource resumes bytes) old answer new =
     MatchOption (sheet_at resource) (AnswersQuestions bytes old answer new) (λ kind. DoesSheet holds kind resumes bytes old answer new)
