@@ -157,7 +157,7 @@ def wanted_rows(path, route=None, start=None, end=None, class_=None, asset=None)
     ]
 
 
-ROW_HEADER = ["route", "from", "to", "from_measure", "to_measure", "side", "asset", "class", "value", "offset", "entered_by"]
+ROW_HEADER = ["route", "from", "to", "from_measure", "to_measure", "side", "asset", "class", "value", "offset", "entry"]
 
 
 @pytest.mark.parametrize(

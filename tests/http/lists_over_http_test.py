@@ -13,7 +13,7 @@ from serving import AT_3000, by_curl, by_http_client, by_socket, answer, error, 
 from stores import MORE, edit, is_whole, make, rows_of
 
 # the fields that are numbers as JSON, of whichever list; all others are texts, but for the measure of a mark, which is whole
-NUMBERS = {"length", "left", "right", "link", "chainage", "asset", "from", "to", "offset", "entered_by", "edit"}
+NUMBERS = {"length", "left", "right", "link", "chainage", "asset", "from", "to", "offset", "entry", "edit"}
 
 # what is asked for over HTTP, and the words for it on the command line
 ASKED = {

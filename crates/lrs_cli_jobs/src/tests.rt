@@ -270,7 +270,7 @@ fn lists_are_written(host: &HostRuntime, rt: &impl Abort) {
         rt,
         "rows /bin/sh",
         "",
-        "route,from,to,from_measure,to_measure,side,asset,class,value,offset,entered_by\n\
+        "route,from,to,from_measure,to_measure,side,asset,class,value,offset,entry\n\
          A1,1000,3000,1000,3000,B,7,SPEED,80,0,4\n",
         0,
     );

@@ -49,7 +49,7 @@ rows_header =
     ∷ codes "class"
     ∷ codes "value"
     ∷ codes "offset"
-    ∷ codes "entered_by"
+    ∷ codes "entry"
     ∷ [])
 
 abbrev pub rows_of : RowsWanted → List Asset → RouteRow → Text

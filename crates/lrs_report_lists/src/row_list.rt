@@ -204,9 +204,9 @@ fn write_asked<W: Write>(
 }
 
 /// Writes each row that is asked for, by route, and then as the route keeps them, by class, asset and start. The header says
-/// what a line has: `route,from,to,from_measure,to_measure,side,asset,class,value,offset,entered_by`. From and to are chainages
+/// what a line has: `route,from,to,from_measure,to_measure,side,asset,class,value,offset,entry`. From and to are chainages
 /// in millimetres; a point's `to` is `from + 1`. The measures there are exact. The lateral offset is in millimetres, and
-/// `entered_by` is the number of an edit. It takes no memory beyond the writer's, and does not flush the writer.
+/// `entry` is the number of an edit. It takes no memory beyond the writer's, and does not flush the writer.
 ///
 /// # Errors
 /// That of the writer. Part of the list may be written then. A route, a class or an asset that is not known has no rows.
@@ -220,7 +220,7 @@ pub fn write_rows<W: Write>(
         (rows_text wanted.now (image_of kept.now))) }
 {
     writer.write_all(
-        b"route,from,to,from_measure,to_measure,side,asset,class,value,offset,entered_by\n",
+        b"route,from,to,from_measure,to_measure,side,asset,class,value,offset,entry\n",
     )?;
     write_asked(writer, wanted, &kept.assets, &kept.routes)
 }
