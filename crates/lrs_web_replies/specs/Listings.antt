@@ -1,4 +1,4 @@
--- Lists: as JSON, each the one member of an object, with the columns of the lists that are CSV as the members of each entry; and as CSV. The log is an edit sheet.
+-- Lists as JSON and as CSV. As JSON each is the one member of an object, with the columns of the lists that are CSV as the members of each entry; the log is an edit sheet in either.
 
 -- An object has its members in the order of their names, and a list its entries in the order in which the image keeps them.
 use Rattle.std.specs.Prelude.{ℕ, List, [], ◌∷◌, codes, filter, length, map, Option, Some, None}

@@ -15,10 +15,10 @@ mod parts;
 mod question;
 mod replies;
 mod reply;
-mod unknown;
+mod unknown_parameters;
 
 pub use bounded::BoundedBytes;
 pub use question::{Parameter, QueryFault, question_of};
 pub use replies::reply_to;
 pub use reply::unasked;
-pub use unknown::{unknown_in, unknown_reply};
+pub use unknown_parameters::{unknown_in, unknown_reply};
