@@ -1,5 +1,5 @@
 -- A reply to what is asked, or to what asks for nothing.
-use Rattle.std.proofs.Common.{◌≡◌, ◌⊎◌, Option, None, Some, Result, Ok, Err, IfOk, IfErr, inl, inr, subst, sym, ap, ◌∙◌}
+use Rattle.std.proofs.Common.{◌≡◌, ◌⊎◌, Option, None, Some, Result, Ok, Err, IfOk, IfErr, inl, inr, subst, sym}
 use Rattle.std.specs.Prelude.{MatchOption}
 use Rattle.lrs_machine.specs.declared.image.Image.{Image}
 use Rattle.lrs_machine.specs.declared.question.Question.{Question}
