@@ -76,7 +76,7 @@ function heldRow({ route, from, to, from_measure: start, to_measure: end, side, 
 
 // Of an asset that lies nowhere today only the log knows which edit entered it.
 async function entryOf(asset, rows, edits = 0) {
-  if (rows.length) return { edit: rows[0].entered_by, record: await recordAt(rows[0].entered_by) };
+  if (rows.length) return { edit: rows[0].entry, record: await recordAt(rows[0].entry) };
   return findEdit(edits, (_, verb, first) => first === asset && /^(enter|supersede)$/.test(verb));
 }
 

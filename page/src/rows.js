@@ -10,9 +10,9 @@ import { LongTable, headsOf } from "./sight.js";
 import { aroundAsset, view } from "./view.js";
 
 // What a column sorts by, and its head.
-const COLUMNS = { class: "Class", value: "Value", side: "Side", from_measure: "From measure", to_measure: "To measure", from: "From, m", to: "To, m", asset: "Asset", offset: "Offset, mm", entered_by: "Edit" };
+const COLUMNS = { class: "Class", value: "Value", side: "Side", from_measure: "From measure", to_measure: "To measure", from: "From, m", to: "To, m", asset: "Asset", offset: "Offset, mm", entry: "Edit" };
 const HISTORY = "History";
-const SAVED = ["route", "from", "to", "from_measure", "to_measure", "side", "asset", "class", "value", "offset", "entered_by"];
+const SAVED = ["route", "from", "to", "from_measure", "to_measure", "side", "asset", "class", "value", "offset", "entry"];
 
 const sorted = { by: "from", down: false }, listed = {};
 let table, rows = [], chosen = [];
@@ -80,7 +80,7 @@ export function listRows() {
 function assetRow(row) {
   const { route, address } = view, link = linkTo(writeAddress(aroundAsset(route.name, row.from, row.to, row.asset, route.length)), row.asset);
   if (address.asset === String(row.asset)) link.setAttribute("aria-current", "true");
-  const made = rowOf([row.class, row.value, SIDES[row.side], short(row.from_measure), short(row.to_measure), metres(row.from), metres(row.to), link, row.offset, linkToEdit(row.entered_by), linkToAsset(row.asset, HISTORY)]);
+  const made = rowOf([row.class, row.value, SIDES[row.side], short(row.from_measure), short(row.to_measure), metres(row.from), metres(row.to), link, row.offset, linkToEdit(row.entry), linkToAsset(row.asset, HISTORY)]);
   for (const at of [3, 4, 5, 6, 7, 9]) made.cells[at].className = "number";
   return made;
 }

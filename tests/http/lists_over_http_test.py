@@ -1,4 +1,4 @@
-"""Lists, reports and places over HTTP, as JSON: the same as what the program prints of the same file; and the health of the service."""
+"""Lists, reports and places over HTTP, as JSON and as CSV: the same as what the program prints of the same file; and the health of the service."""
 
 import csv
 import io
@@ -13,10 +13,11 @@ from serving import AT_3000, by_curl, by_http_client, by_socket, answer, error, 
 from stores import MORE, edit, is_whole, make, rows_of
 
 # the fields that are numbers as JSON, of whichever list; all others are texts, but for the measure of a mark, which is whole
-NUMBERS = {"length", "left", "right", "link", "chainage", "asset", "from", "to", "offset", "entered_by", "edit"}
+NUMBERS = {"length", "left", "right", "link", "chainage", "asset", "from", "to", "offset", "entry", "edit"}
 
 # what is asked for over HTTP, and the words for it on the command line
 ASKED = {
+    "/v1/routes": ("list", "routes"),
     "/v1/links": ("list", "links"),
     "/v1/classes": ("list", "classes"),
     "/v1/refs": ("list", "refs"),
@@ -44,6 +45,12 @@ def name_of(target):
     return target.partition("?")[0].rpartition("/")[2]
 
 
+def as_csv(target):
+    """The path of the same list as CSV."""
+    path, mark, query = target.partition("?")
+    return path + ".csv" + mark + query
+
+
 def number(text):
     """Metres are printed with three decimals, and are millimetres over HTTP."""
     return int(text.replace(".", ""))
@@ -54,6 +61,8 @@ def as_json(target, ended):
     assert (ended.stderr, ended.status) == (b"", 0), ended
     rows = csv.DictReader(io.StringIO(ended.stdout.decode()))
     numbers = NUMBERS | {"measure"} if name_of(target) == "marks" else NUMBERS
+    if name_of(target) == "routes":
+        rows = [{"length": row["length"], "name": row["route"]} for row in rows]
     shown = [{field: number(text) if field in numbers else text for field, text in row.items()} for row in rows]
     return reply(200, json.dumps({name_of(target): shown}, separators=(",", ":"), sort_keys=True).encode())
 
@@ -72,6 +81,7 @@ def desk(tmp_path_factory):
     path = tmp_path_factory.mktemp("lists") / "roads.db"
     make(path, *MORE)
     due = {target: as_json(target, printed(path, words)) for target, words in ASKED.items()}
+    due |= {as_csv(target): reply(200, printed(path, words).stdout, "text/csv") for target, words in ASKED.items()}
     kept = rows_of(path)
     with started(db=path) as server:
         yield server, due
@@ -85,9 +95,19 @@ def test_it_is_what_the_program_prints(desk, target):
     gets(server, target, due[target])
 
 
-@pytest.mark.parametrize("target", ["/v1/links", "/v1/classes", "/v1/refs", "/v1/marks", "/v1/rows", "/v1/lengths", "/v1/gone"])
+@pytest.mark.parametrize("target", ASKED)
+def test_as_csv_it_is_byte_for_byte_what_the_program_prints(desk, target):
+    server, due = desk
+    gets(server, as_csv(target), due[as_csv(target)])
+
+
+LISTS = [target for target in ASKED if "?" not in target]
+
+
+@pytest.mark.parametrize("target", LISTS)
 def test_none_of_them_is_empty(desk, target):
     assert b":[]" not in desk[1][target] and desk[1][target].count(b'"') > 4
+    assert desk[1][as_csv(target)].partition(b"\r\n\r\n")[2].count(b"\n") > 1
 
 
 def test_all_bytes_of_a_reply(desk):
@@ -99,7 +119,7 @@ def test_all_bytes_of_a_reply(desk):
 @pytest.mark.parametrize("client", [by_socket, by_curl, by_http_client])
 def test_over_each_client(desk, client):
     server, due = desk
-    for target in ["/v1/links", "/v1/rows?route=A1"]:
+    for target in ["/v1/links", "/v1/rows?route=A1", "/v1/rows.csv?route=A1"]:
         assert client(server.port, f"GET {target}", None) == due[target]
 
 
@@ -118,9 +138,10 @@ def test_measures_may_be_fractions(desk):
 
 
 def test_an_empty_inventory():
-    with serving(8) as server:
-        for name in ["links", "classes", "refs", "marks", "rows", "lengths", "gone"]:
-            gets(server, f"/v1/{name}", reply(200, b'{"%s":[]}' % name.encode()))
+    with serving(2 * len(LISTS) + 1) as server:
+        for target in LISTS:
+            gets(server, target, reply(200, b'{"%s":[]}' % name_of(target).encode()))
+            gets(server, as_csv(target), reply(200, printed(":memory:", ASKED[target]).stdout, "text/csv"))
         gets(server, "/health", reply(200, b'{"edits":0}'))
 
 
@@ -129,8 +150,8 @@ def test_inventories_of_chance(tmp_path):
     for seed in range(8):
         path = tmp_path / f"{seed}.db"
         edit(path, sheet_of(*(random_record(drawn, n) for n in range(1, 80))))
-        asked = {target: words for target, words in ASKED.items() if "?" not in target}
-        due = {target: as_json(target, printed(path, words)) for target, words in asked.items()}
+        ended = {target: printed(path, ASKED[target]) for target in LISTS}
+        due = {target: as_json(target, ended[target]) for target in LISTS} | {as_csv(target): reply(200, ended[target].stdout, "text/csv") for target in LISTS}
         with serving(len(due), path) as server:
             for target, expected in due.items():
                 gets(server, target, expected)
@@ -143,10 +164,12 @@ def test_many_rows(tmp_path):
     texts = ["m1,link,4,1000000", "m2,class,V,stretch", "m3,route,L1,4:0:1000000:+,0:0 1000000:333333"]
     edit(path, sheet_of(*texts, *(f"v{n},enter,{n},V,L1,B,abs,{n},{n + 1},x,0" for n in range(1, count + 1))))
     target = "/v1/rows?route=L1"
-    expected = as_json(target, printed(path, ("rows", "--route", "L1")))
+    ended = printed(path, ("rows", "--route", "L1"))
+    expected = as_json(target, ended)
     assert expected.count(b'"asset"') == count
-    with serving(1, path) as server:
+    with serving(2, path) as server:
         gets(server, target, expected)
+        gets(server, as_csv(target), reply(200, ended.stdout, "text/csv"))
 
 
 # ---- what cannot be answered
@@ -190,21 +213,77 @@ def test_what_is_refused(desk, target):
     gets(desk[0], target, error(*REFUSED[target]))
 
 
-@pytest.mark.parametrize("target", ["/v1/links?link=x", "/v1/classes?class=x", "/v1/refs?route=x", "/v1/marks?route=x&from=x", "/v1/lengths?class=x&from=x", "/v1/rows?edit=x&side=x", "/v1/gone?asset=x", "/v1/rows?class=RAIL&class=x"])
-def test_other_parameters_are_passed_over(desk, target):
+@pytest.mark.parametrize("target", [target for target in REFUSED if target.partition("?")[0] in LISTS])
+def test_as_csv_it_is_refused_alike(desk, target):
+    gets(desk[0], as_csv(target), error(*REFUSED[target]))
+
+
+# a parameter that a path does not know, and its name; it is told before all that is malformed or not there
+UNKNOWN = {
+    "/v1/rows?claas=SIGN": "claas",
+    "/v1/rows?route=A1&edit=x&side=x": "edit",
+    "/v1/rows?route=x&from=x&asst=1": "asst",
+    "/v1/rows?class=NONE&Route=A1": "Route",
+    "/v1/rows?limit=10": "limit",
+    "/v1/rows?=A1": "",
+    "/v1/rows?rout%65s=A1": "routes",
+    "/v1/links?link=x": "link",
+    "/v1/classes?class=x": "class",
+    "/v1/refs?route=x": "route",
+    "/v1/marks?route=A1": "route",
+    "/v1/routes?name=A1": "name",
+    "/v1/lengths?route=A1&class=SPEED": "class",
+    "/v1/gone?asset=10": "asset",
+    "/v1/find?assets=10": "assets",
+    "/v1/log?form=2": "form",
+    "/v1/log?from=x&upto=3": "upto",
+    "/v1/diagram?rout=A1": "rout",
+    "/v1/diagram?route=A1&side=L": "side",
+    "/v1/where?link=1&mm=0&pos=3": "pos",
+    "/v1/where?method=abs": "method",
+}
+
+
+@pytest.mark.parametrize("target", UNKNOWN)
+def test_a_parameter_that_the_path_does_not_know_is_named(desk, target):
+    expected = error(400, f"Unknown:{UNKNOWN[target]}")
+    gets(desk[0], target, expected)
+    if target.partition("?")[0] in LISTS:
+        gets(desk[0], as_csv(target), expected)
+
+
+def test_the_name_is_a_text_of_json_whatever_it_is(desk):
+    for written, name in [("%22%5c", '"\\'), ("%0a%09%00", "\n\t\0"), ("a+b%2B", "a b+"), ("%C3%A9", "\u00e9"), ("%ff", "\ufffd"), ("x" * 4000, "x" * 4000)]:
+        head, _, body = answer(desk[0].port, request(f"GET /v1/rows?{written}=1")).partition(b"\r\n\r\n")
+        assert head.split()[1] == b"400" and json.loads(body) == {"error": f"Unknown:{name}"}, (written, body)
+
+
+@pytest.mark.parametrize("target", ["/v1/rows?class=RAIL&class=x", "/v1/rows?&class=RAIL&&", "/v1/rows?cl%61ss=RAIL"])
+def test_of_one_name_the_first_counts(desk, target):
     server, due = desk
-    gets(server, target, due["/v1/rows?class=RAIL" if "RAIL" in target else target.partition("?")[0]])
+    gets(server, target, due["/v1/rows?class=RAIL"])
+    gets(server, as_csv(target), due["/v1/rows.csv?class=RAIL"])
 
 
-@pytest.mark.parametrize("path", ["/v1/links", "/v1/classes", "/v1/refs", "/v1/marks", "/v1/rows", "/v1/lengths", "/v1/gone", "/v1/where", "/health"])
+@pytest.mark.parametrize("target", ["/v1/totals?x=1", "/health?x=1", "/v1/route/A1?x=1", AT_3000 + "&x=1", "/v1/segments?route=A1&side=R&class=SPEED&x=1", "/v1/translate?x=1&route=A1&method=abs&pos=3000&to=int"])
+def test_the_first_paths_pass_over_other_parameters(desk, target):
+    without = target.replace("x=1&", "").removesuffix("&x=1").removesuffix("?x=1")
+    assert answer(desk[0].port, request(f"GET {target}")) == answer(desk[0].port, request(f"GET {without}")) != b""
+
+
+@pytest.mark.parametrize("path", [*LISTS, *map(as_csv, LISTS), "/v1/where", "/health"])
 def test_another_method(desk, path):
     for method in ["POST", "HEAD", "PUT", "DELETE"]:
         desk[0].answers(request(f"{method} {path}"), reply(405, allow="GET"))
 
 
-@pytest.mark.parametrize("path", ["/v1/links/", "/v1/link", "/v1/mark", "/v1/marks/A1", "/v1/length", "/v1/where/A1", "/v1/row", "/v1/Rows", "/v1/rows/A1", "/v1/health", "/health/", "/healthz", "/", "/v1/gone/12"])
+@pytest.mark.parametrize("path", ["/v1/links/", "/v1/link", "/v1/mark", "/v1/marks/A1", "/v1/length", "/v1/where/A1", "/v1/row", "/v1/Rows", "/v1/rows/A1", "/v1/health", "/health/", "/healthz", "/", "/v1/gone/12", "/v1/at.csv", "/v1/log.csv", "/v1/totals.csv", "/health.csv", "/v1/rows.CSV", "/v1/rows.csv/", "/v1/rows.csv.csv", "/v1/rows.json", "/v1/.csv"])
 def test_another_path(desk, path):
     gets(desk[0], path, reply(404))
+
+
+def test_a_route_is_told_as_json_alone(desk):
+    gets(desk[0], "/v1/route/A1.csv", error(404, "NoRoute"))
 
 
 # ---- places
@@ -330,6 +409,6 @@ def test_behind_a_failed_commit_of_several_commands_nothing_is_told(tmp_path):
     with started(db=path, **with_files_up_to(400_000)) as server:
         sheet = sheet_of(*(f"k{n},class,C{n},point" for n in range(1, 10_001)))
         server.answers(request("POST /v1/edits", sheet), reply(503))
-        for target in ["/health", "/v1/links", "/v1/classes", "/v1/refs", "/v1/marks", "/v1/rows", "/v1/rows?from=x", "/v1/gone", "/v1/gone?edit=x"]:
+        for target in ["/health", *LISTS, *map(as_csv, LISTS), "/v1/rows?from=x", "/v1/rows?x=1", "/v1/gone?edit=x"]:
             gets(server, target, reply(503))
     is_whole(path)

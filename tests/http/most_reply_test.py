@@ -14,6 +14,8 @@ ASKED = {
     "diagram": request("GET /v1/diagram?route=A1"),
     "log": request("GET /v1/log"),
     "rows": request("GET /v1/rows"),
+    "rows as CSV": request("GET /v1/rows.csv"),
+    "lengths as CSV": request("GET /v1/lengths.csv"),
     "links": request("GET /v1/links"),
     "marks": request("GET /v1/marks"),
     "find": request("GET /v1/find?asset=10"),

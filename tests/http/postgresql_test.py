@@ -165,8 +165,8 @@ def following(postgres, database, inventories):
 # each list of the program, with its members, and the same of PostgreSQL
 LISTS = {
     "rows": (
-        "route from to from_measure to_measure side asset class value offset entered_by",
-        "route, from_mm, to_mm, from_measure, to_measure, side, asset, class, value, offset_mm, entered_by FROM roadlrs.rows",
+        "route from to from_measure to_measure side asset class value offset entry",
+        "route, from_mm, to_mm, from_measure, to_measure, side, asset, class, value, offset_mm, entry FROM roadlrs.rows",
     ),
     "routes": ("name length", "route, length FROM roadlrs.routes"),
     "links": ("link length", "link, length FROM roadlrs.links"),

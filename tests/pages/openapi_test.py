@@ -7,9 +7,9 @@ import urllib.parse
 import pytest
 
 from program import FIRST, TOP, sheet_of
+from schemas import API, examples, fits
 from serving import answer, request, started
 
-API = json.loads((TOP / "docs" / "openapi.json").read_text())
 OPERATIONS = [(path, method, said) for path, methods in API["paths"].items() for method, said in methods.items()]
 QUESTIONS = [(path, said) for path, method, said in OPERATIONS if method == "get"]
 MORE = sheet_of("o1,enter,10,SPEED,A1,B,abs,3000,9000,80,0", "o2,ref,KM2,A1,abs,2000", "o3,retire,10,A1,abs,8000,8500")
@@ -30,11 +30,23 @@ def got(port, asked, body=None):
     return head.split()[1].decode(), kind and kind[1].decode(), body
 
 
-def target(path, parameters, **other):
+# a place is asked for in either way
+WAYS = {"/v1/where": [("route", "chainage"), ("link", "mm")]}
+
+
+def of_another_way(path, name):
+    """The parameters that are left out, beside this one or any."""
+    ways = WAYS.get(path, [])
+    taken = next((way for way in ways if name in way), ways[0] if ways else ())
+    return {other: None for way in ways if way != taken for other in way}
+
+
+def target(path, parameters, beside=None, /, **other):
     """A path with the examples of its parameters, some of which may be other ones or left out (None)."""
+    other = of_another_way(path, beside) | other
     pairs = []
     for parameter in parameters:
-        value = other.get(parameter["name"], parameter.get("example"))
+        value = other.get(parameter["name"], parameter["example"])
         if parameter["in"] == "path":
             path = path.replace("{%s}" % parameter["name"], value)
         elif value is not None:
@@ -42,47 +54,96 @@ def target(path, parameters, **other):
     return path + ("?" + urllib.parse.urlencode(pairs) if pairs else "")
 
 
-def fits(value, schema):
-    """Whether a value is as a schema says, of the words that the file uses."""
-    if "$ref" in schema:
-        return fits(value, API["components"]["schemas"][schema["$ref"].rpartition("/")[2]])
-    if schema["type"] == "object":
-        return isinstance(value, dict) and sorted(value) == sorted(schema["required"]) == sorted(schema["properties"]) and all(
-            fits(value[name], inner) for name, inner in schema["properties"].items()
-        )
-    if schema["type"] == "array":
-        return isinstance(value, list) and all(fits(one, schema["items"]) for one in value)
-    return isinstance(value, {"string": str, "integer": int}[schema["type"]])
+def malformed(name):
+    return "400", "application/json", b'{"error":"Malformed:%s"}' % name.encode()
+
+
+def is_said(said, status, kind, body):
+    """Whether an operation says of this status, content type and body that it may answer so."""
+    content = said["responses"][status].get("content", {})
+    if kind is None:
+        return content == {} and body == b""
+    return kind in content and fits(json.loads(body) if kind == "application/json" else body.decode(), content[kind]["schema"])
 
 
 def test_its_paths_are_those_of_the_program():
     page = (TOP / "crates" / "lrs_web_requests" / "specs" / "Paths.antt").read_text()
-    routed = {path + "{name}" if path.endswith("/") else path for path in re.findall(r'codes "(/[a-z0-9/]*)"', page)}
+    routed = {path + "{name}" if path.endswith("/") else path for path in re.findall(r'codes "(/[a-z0-9/.]*)"', page)}
     assert set(API["paths"]) == routed and API["openapi"] == "3.1.0"
+
+
+def test_each_operation_has_a_name_of_its_own():
+    names = [said["operationId"] for _, _, said in OPERATIONS]
+    assert len(set(names)) == len(names) and all(re.fullmatch("[a-z]+([A-Z][a-z]+)*", name) for name in names), names
+
+
+def test_each_reply_is_the_example_of_it():
+    """Asked one after the other, first the questions, of an inventory that was made so."""
+    with started() as server:
+        for sheet in (FIRST, MORE):
+            assert b" 200 " in answer(server.port, request("POST /v1/edits", sheet))
+        for path, method, said in sorted(OPERATIONS, key=lambda operation: operation[1]):
+            sheet = said["requestBody"]["content"]["text/csv"]["example"].encode() if method == "post" else None
+            status, kind, body = got(server.port, f"{method.upper()} {target(path, said['parameters'], resume=None)}", sheet)
+            example = said["responses"]["200"]["content"][kind]["example"]
+            assert (status, json.loads(body) if kind == "application/json" else body.decode()) == ("200", example), path
+
+
+@pytest.mark.parametrize("path, method, said", OPERATIONS, ids=lambda x: x if isinstance(x, str) else "")
+def test_each_example_fits(path, method, said):
+    for parameter in said["parameters"]:
+        assert fits(parameter["example"], parameter["schema"]), parameter
+    for response in said["responses"].values():
+        for content in response.get("content", {}).values():
+            assert fits(content["example"], content["schema"]), content
 
 
 @pytest.mark.parametrize("path, said", QUESTIONS, ids=lambda x: x if isinstance(x, str) else "")
 def test_an_answer_is_as_the_file_says(port, path, said):
     status, kind, body = got(port, "GET " + target(path, said["parameters"]))
-    content = said["responses"]["200"]["content"]
-    assert (status, kind) == ("200", list(content)[0]), (path, status, kind)
-    if kind == "application/json":
-        assert fits(json.loads(body), content[kind]["schema"]), (path, body)
-        assert body != b"" and b":[]" not in body.replace(b'"hits":[]', b""), (path, body)
+    assert status == "200" and is_said(said, status, kind, body), (path, status, kind, body)
+    assert body != b"" and b":[]" not in body.replace(b'"hits":[]', b""), (path, body)
 
 
 @pytest.mark.parametrize("path, said", QUESTIONS, ids=lambda x: x if isinstance(x, str) else "")
-def test_what_is_missing_or_malformed_is_named(port, path, said):
+def test_what_is_missing_is_named(port, path, said):
+    for parameter in said["parameters"]:
+        if parameter["in"] == "query" and (parameter["required"] or path in WAYS):
+            if parameter["name"] == "link":
+                continue  # without a link a place is asked for on a route
+            left_out = target(path, said["parameters"], parameter["name"], **{parameter["name"]: None})
+            assert got(port, "GET " + left_out) == malformed(parameter["name"]), left_out
+
+
+@pytest.mark.parametrize("path, said", QUESTIONS, ids=lambda x: x if isinstance(x, str) else "")
+def test_what_fits_a_schema_is_read_and_all_else_is_named(port, path, said):
     for parameter in said["parameters"]:
         if parameter["in"] == "path":
             continue
-        wrong = ["a b"] + ([None] if parameter["required"] else [])
-        for value in wrong:
-            # a millimetre counts where a link is named
-            beside = {"link": 1} if parameter["name"] == "mm" else {}
-            status, kind, body = got(port, "GET " + target(path, said["parameters"], **beside, **{parameter["name"]: value}))
-            assert (status, kind, body) == ("400", "application/json", b'{"error":"Malformed:%s"}' % parameter["name"].encode()), (path, parameter["name"], value)
-            assert "400" in said["responses"]
+        name = parameter["name"]
+        fitting, others = examples(parameter["schema"])
+        for value in fitting if parameter["schema"] != {"type": "string"} else []:
+            asked = target(path, said["parameters"], name, **{name: value})
+            status, kind, body = got(port, "GET " + asked)
+            # a position is read by its method, and a stretch may be empty
+            assert (status != "400" or name == "method") and is_said(said, status, kind, body), (asked, status, body)
+        for value in others:
+            asked = target(path, said["parameters"], name, **{name: value})
+            # of side B there are no segments
+            assert got(port, "GET " + asked) == malformed(name) or (name, value) == ("side", "B"), asked
+
+
+@pytest.mark.parametrize("path, said", QUESTIONS, ids=lambda x: x if isinstance(x, str) else "")
+def test_a_parameter_that_is_not_there_is_named_or_passed_over_as_the_file_says(port, path, said):
+    asked = target(path, said["parameters"])
+    known = {parameter["name"] for parameter in said["parameters"]}
+    for name in {"x", "", "claas", "Route", "route", "asset", "link", "from", "a b", '"'} - known:
+        status, kind, body = got(port, f"GET {asked}{'&' if '?' in asked else '?'}{urllib.parse.urlencode({name: 1})}")
+        if "Unknown:NAME" in said["responses"].get("400", {}).get("description", ""):
+            assert (status, json.loads(body)) == ("400", {"error": f"Unknown:{name}"}), (asked, name, body)
+            assert is_said(said, status, kind, body)
+        else:
+            assert (status, kind, body) == got(port, f"GET {asked}"), (asked, name)
 
 
 # what the inventory does not have, and the status that says so
@@ -93,8 +154,8 @@ ABSENT = {"route": ("Z9", "404"), "name": ("Z9", "404"), "class": ("NONE", "422"
 def test_what_is_not_there_has_the_status_that_the_file_says(port, path, said):
     for name in [parameter["name"] for parameter in said["parameters"] if parameter["name"] in ABSENT]:
         value, wanted = ABSENT[name]
-        status, _, body = got(port, "GET " + target(path, said["parameters"], **{name: value}))
-        assert status == wanted and wanted in said["responses"] and fits(json.loads(body), {"$ref": "/Error"}), (path, name, status, body)
+        status, kind, body = got(port, "GET " + target(path, said["parameters"], name, **{name: value}))
+        assert status == wanted and is_said(said, status, kind, body), (path, name, status, body)
 
 
 @pytest.mark.parametrize("path, method, said", OPERATIONS, ids=lambda x: x if isinstance(x, str) else "")
@@ -107,10 +168,10 @@ def test_another_method_is_refused(port, path, method, said):
 @pytest.mark.parametrize("path", ["/v1/edits", "/v1/surveys", "/v1/questions"])
 def test_sheets_are_as_the_file_says(port, path):
     said = API["paths"][path]["post"]
-    header = said["requestBody"]["content"]["text/csv"]["example"].encode()
+    header = said["requestBody"]["content"]["text/csv"]["example"].encode().partition(b"\n")[0] + b"\n"
     assert got(port, f"POST {path}", header) == ("200", None, b"")
     status, kind, body = got(port, f"POST {path}", header + b"x\n")
     assert (status, kind, body) == ("422", "text/csv", b"-,fault,BadCsv\n") and kind in said["responses"]["422"]["content"]
-    assert got(port, f"POST {path}?resume=2", header)[0] == "400"
+    assert got(port, f"POST {path}?resume=2", header) == ("400", None, b"") and is_said(said, "400", None, b"")
     assert got(port, f"POST {path}?resume=1", header)[0] == "200"
     assert got(port, f"POST {path}")[0] == "411"

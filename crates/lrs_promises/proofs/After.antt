@@ -42,5 +42,5 @@ module _ {K : Type 0} (holds : K → Result Image Table → Type 0) (old new : D
   does_after (refused status) answer does = same_after does.0
   does_after (not_allowed verb) answer does = same_after does.0
   does_after (page text) answer does = same_after does.0
-  does_after (query resource argument) answer does = same_after does.0
+  does_after (query resource format argument) answer does = same_after does.0
   does_after (posted resource resumes body) answer does = posted_after (sheet_at resource) resumes body answer does

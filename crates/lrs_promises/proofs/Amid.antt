@@ -77,7 +77,7 @@ module _ {K : Type 0} (holds : K → Result Image Table → Type 0) (old new : D
   does_keeps (refused status) answer does = same_keeps does.0
   does_keeps (not_allowed verb) answer does = same_keeps does.0
   does_keeps (page text) answer does = same_keeps does.0
-  does_keeps (query resource argument) answer does = same_keeps does.0
+  does_keeps (query resource format argument) answer does = same_keeps does.0
   does_keeps (posted resource resumes body) answer does = posted_keeps (sheet_at resource) resumes body answer does
 
   pub request_leaves : (input before after : Option Text) (result : Result ℕ WebFault)

@@ -31,6 +31,7 @@ use Rattle.lrs_machine.specs.declared.question.RowsWanted.{RowsWanted}
 use Rattle.lrs_machine.specs.declared.question.AskedPlace.{AskedPlace}
 use Rattle.lrs_machine.specs.declared.question.AskedPlace.TheVariants as spot
 use Rattle.lrs_web_requests.specs.Text.{Answer}
+use Rattle.lrs_web_requests.specs.declared.paths.Format.{Format}
 use Rattle.lrs_web_requests.specs.declared.paths.Resource.{Resource}
 use Rattle.lrs_web_requests.specs.declared.paths.Resource.TheVariants as path
 use Rattle.lrs_web_replies.specs.QuestionAnswers.{AnswersQuestion, IsReplyTo, ShowsTold}
@@ -43,7 +44,7 @@ use Rattle.lrs_web_replies.specs.declared.question.Parameter.{Parameter}
 use Rattle.lrs_web_replies.specs.declared.question.Parameter.TheVariants as wanted
 use Rattle.lrs_web_replies.specs.declared.question.QueryFault.{QueryFault}
 use Rattle.lrs_web_replies.specs.declared.question.QueryFault.TheVariants.{Malformed, NoRoute, Memory as Lacking}
-use Rattle.lrs_web.specs.QueryAnswers.{AnswersAsked}
+use Rattle.lrs_web.specs.QueryAnswers.{AnswersKnown}
 use Rattle.lrs_promises.proofs.Once.{ok_is_not_err, same_err}
 use Rattle.lrs_promises.proofs.Translated.{TellsTranslated}
 
@@ -94,27 +95,27 @@ list_reply None shown = shown
 list_reply (Some what) shown = refusal (asked.Missing what)
 
 -- a position was asked for, and told
-pub record AtTold (query : Text) (i : Image) (answer : Answer) : Type 0 where
+pub record AtTold (format : Format) (query : Text) (i : Image) (answer : Answer) : Type 0 where
   pub route : Name
   pub position : Expr
   pub gives_route : GivesRoute query route
   pub gives_position : GivesPosition query position
-  pub tells : AnswersQuestion i (question.At route position) answer
+  pub tells : AnswersQuestion format i (question.At route position) answer
   pub served : answer.status ≡ 503 → ⊥
 
 -- segments were asked for, and told
-pub record SegmentsTold (query : Text) (i : Image) (answer : Answer) : Type 0 where
+pub record SegmentsTold (format : Format) (query : Text) (i : Image) (answer : Answer) : Type 0 where
   pub route : Name
   pub side : Side
   pub classes : List Name
   pub gives_route : GivesRoute query route
   pub gives_side : GivesSide query side
   pub gives_classes : GivesClasses query classes
-  pub tells : AnswersQuestion i (question.Segments route side classes) answer
+  pub tells : AnswersQuestion format i (question.Segments route side classes) answer
   pub served : answer.status ≡ 503 → ⊥
 
 -- a position by another method, or on its link, was asked for, and told
-pub record TranslateTold (query : Text) (i : Image) (answer : Answer) : Type 0 where
+pub record TranslateTold (format : Format) (query : Text) (i : Image) (answer : Answer) : Type 0 where
   pub route : Name
   pub position : Expr
   pub to : Destination
@@ -123,7 +124,7 @@ pub record TranslateTold (query : Text) (i : Image) (answer : Answer) : Type 0 w
   pub gives_to : GivesDestination query to
   pub said : Result Told AskFault
   pub tells : TellsTranslated (state_of i) route position to said
-  pub shows : IsReplyTo said answer
+  pub shows : IsReplyTo format said answer
   pub served : answer.status ≡ 503 → ⊥
 
 tells_translated : (i : Image) (route : Name) (e : Expr) (to : Destination) (said : Result Told AskFault) → IsTold i (question.Translate route e to) said → TellsTranslated (state_of i) route e to said
@@ -131,21 +132,21 @@ tells_translated i route e (destination.Method t) said h = h
 tells_translated i route e destination.Link said h = h
 
 -- a place was asked for, and told
-pub record WhereTold (query : Text) (i : Image) (answer : Answer) : Type 0 where
+pub record WhereTold (format : Format) (query : Text) (i : Image) (answer : Answer) : Type 0 where
   pub spot : AskedPlace
   pub gives_spot : GivesSpot query spot
-  pub tells : AnswersQuestion i (question.Where spot) answer
+  pub tells : AnswersQuestion format i (question.Where spot) answer
   pub served : answer.status ≡ 503 → ⊥
 
 -- lengths were asked for, and told
-pub record LengthsTold (query : Text) (i : Image) (answer : Answer) : Type 0 where
+pub record LengthsTold (format : Format) (query : Text) (i : Image) (answer : Answer) : Type 0 where
   pub route : Option Name
   pub gives_route : GivesRouteOrAll query route
-  pub tells : AnswersQuestion i (question.Lengths route) answer
+  pub tells : AnswersQuestion format i (question.Lengths route) answer
   pub served : answer.status ≡ 503 → ⊥
 
 -- a diagram was asked for, and told
-pub record DiagramTold (query : Text) (i : Image) (answer : Answer) : Type 0 where
+pub record DiagramTold (format : Format) (query : Text) (i : Image) (answer : Answer) : Type 0 where
   pub route : Name
   pub classes : List Name
   pub from : Option ℕ
@@ -154,14 +155,14 @@ pub record DiagramTold (query : Text) (i : Image) (answer : Answer) : Type 0 whe
   pub gives_classes : GivesClassesOrAll query classes
   pub gives_from : GivesFrom query from
   pub gives_to : GivesUpTo query to
-  pub tells : AnswersQuestion i (question.Diagram route classes from to) answer
+  pub tells : AnswersQuestion format i (question.Diagram route classes from to) answer
   pub served : answer.status ≡ 503 → ⊥
 
 -- the route of a name was asked for, and told; or the name is none
-abbrev pub RouteTold : Text → Image → Answer → Type 0
-RouteTold name i answer = ((route : Name) × SaysRoute name route × AnswersQuestion i (question.Route route) answer) ⊎ ((IsTrue (is_route_name name) → ⊥) × (answer ≡ unasked NoRoute))
+abbrev pub RouteTold : Format → Text → Image → Answer → Type 0
+RouteTold format name i answer = ((route : Name) × SaysRoute name route × AnswersQuestion format i (question.Route route) answer) ⊎ ((IsTrue (is_route_name name) → ⊥) × (answer ≡ unasked NoRoute))
 
-module _ (i : Image) (query : Text) (answer : Answer) (served : answer.status ≡ 503 → ⊥) where
+module _ (format : Format) (i : Image) (query : Text) (answer : Answer) (served : answer.status ≡ 503 → ⊥) where
   not_asked : (resource : Resource) (Shows : Answer → Type 0) (fault : QueryFault) → (CannotAsk resource query NoRoute → ⊥) → CannotAsk resource query fault → answer ≡ unasked fault
       → Splits query (parameters_of resource query) Shows answer
   not_asked resource Shows (Malformed p) named cannot is = inr (p, cannot, is)
@@ -169,79 +170,79 @@ module _ (i : Image) (query : Text) (answer : Answer) (served : answer.status �
   not_asked resource Shows Lacking named cannot is = absurd (served (ap (λ (a : Answer). a.status) is))
 
   pub splits : (resource : Resource) (Shows : Answer → Type 0) → (CannotAsk resource query NoRoute → ⊥)
-      → ((q : Question) → AsksOf resource query q → AnswersQuestion i q answer → Shows answer) → AnswersAsked i resource query answer → Splits query (parameters_of resource query) Shows answer
+      → ((q : Question) → AsksOf resource query q → AnswersQuestion format i q answer → Shows answer) → AnswersKnown i format resource query answer → Splits query (parameters_of resource query) Shows answer
   splits resource Shows named by_question (inl (q, asks, told)) = inl (by_question q asks told)
   splits resource Shows named by_question (inr (fault, cannot, is)) = not_asked resource Shows fault named cannot is
 
   -- ---- questions
 
   -- what is answered to a question is answered to the one that it is
-  asked_of : (q other : Question) → q ≡ other → AnswersQuestion i q answer → AnswersQuestion i other answer
-  asked_of q other is = subst (λ (r : Question). AnswersQuestion i r answer) is
+  asked_of : (q other : Question) → q ≡ other → AnswersQuestion format i q answer → AnswersQuestion format i other answer
+  asked_of q other is = subst (λ (r : Question). AnswersQuestion format i r answer) is
 
   lacks_memory : (fault : AskFault) → fault ≡ Memory → answer ≡ refusal fault → ⊥
   lacks_memory fault memory is = served (ap (λ (a : Answer). a.status) (is ∙ ap refusal memory))
 
-  totals_said : (said : Result Told AskFault) → Tells (UnlessMemory (λ totals. totals ≡ totals_of (state_of i))) told.Totals said → IsReplyTo said answer
+  totals_said : (said : Result Told AskFault) → Tells (UnlessMemory (λ totals. totals ≡ totals_of (state_of i))) told.Totals said → IsReplyTo format said answer
       → answer ≡ json_answer 200 (totals_data (totals_of (state_of i)))
-  totals_said (Ok t) (totals, are, is) shows = subst (λ u. ShowsTold u answer) is shows ∙ ap (λ ts. json_answer 200 (totals_data ts)) are
+  totals_said (Ok t) (totals, are, is) shows = subst (λ u. ShowsTold format u answer) is shows ∙ ap (λ ts. json_answer 200 (totals_data ts)) are
   totals_said (Err fault) memory is = absurd (lacks_memory fault memory is)
 
   found_said : {A : Type 0} (said : Result Told AskFault) (o : Option A) (rows : List FoundRow)
-      → Tells (λ result. MatchOption o (result ≡ Err asset_missing) (λ a. UnlessMemory (λ found. found ≡ rows) result)) told.Found said → IsReplyTo said answer → answer ≡ find_reply o rows
+      → Tells (λ result. MatchOption o (result ≡ Err asset_missing) (λ a. UnlessMemory (λ found. found ≡ rows) result)) told.Found said → IsReplyTo format said answer → answer ≡ find_reply o rows
   found_said (Ok t) None rows (found, never, is) shows = absurd (ok_is_not_err found asset_missing never)
-  found_said (Ok t) (Some a) rows (found, are, is) shows = subst (λ u. ShowsTold u answer) is shows ∙ ap (λ rs. json_answer 200 (found_data rs)) are
+  found_said (Ok t) (Some a) rows (found, are, is) shows = subst (λ u. ShowsTold format u answer) is shows ∙ ap (λ rs. json_answer 200 (found_data rs)) are
   found_said (Err fault) None rows is shows = shows ∙ ap refusal (same_err fault asset_missing is)
   found_said (Err fault) (Some a) rows memory shows = absurd (lacks_memory fault memory shows)
 
-  listed_said : (said : Result Told AskFault) (l : Listing) (o : Option Missing) → Tells (UnlessMissing o (λ result. MatchResult result (λ inventory. inventory.now ≡ i) (λ fault. ⊥))) (told.Listing l) said → IsReplyTo said answer
-      → answer ≡ list_reply o (listing_answer i l)
-  listed_said (Ok t) l None (inventory, same, is) shows = subst (λ u. ShowsTold u answer) is shows ∙ ap (λ (j : Image). listing_answer j l) same
+  listed_said : (said : Result Told AskFault) (l : Listing) (o : Option Missing) → Tells (UnlessMissing o (λ result. MatchResult result (λ inventory. inventory.now ≡ i) (λ fault. ⊥))) (told.Listing l) said → IsReplyTo format said answer
+      → answer ≡ list_reply o (listing_answer format i l)
+  listed_said (Ok t) l None (inventory, same, is) shows = subst (λ u. ShowsTold format u answer) is shows ∙ ap (λ (j : Image). listing_answer format j l) same
   listed_said (Ok t) l (Some what) (inventory, never, is) shows = absurd (ok_is_not_err inventory (asked.Missing what) never)
   listed_said (Err fault) l None never shows = absurd never
   listed_said (Err fault) l (Some what) is shows = shows ∙ ap refusal (same_err fault (asked.Missing what) is)
 
-  pub listed : (l : Listing) (q : Question) → q ≡ question.List l → AnswersQuestion i q answer → answer ≡ list_reply (missing_of i l) (listing_answer i l)
+  pub listed : (l : Listing) (q : Question) → q ≡ question.List l → AnswersQuestion format i q answer → answer ≡ list_reply (missing_of i l) (listing_answer format i l)
   listed l q is h = let (said, tells, shows) = asked_of q (question.List l) is h in listed_said said l (missing_of i l) tells shows
 
   -- a list without a parameter
-  pub list_told : (l : Listing) → missing_of i l ≡ None → (q : Question) → q ≡ question.List l → AnswersQuestion i q answer → answer ≡ listing_answer i l
-  list_told l none q is h = listed l q is h ∙ ap (λ o. list_reply o (listing_answer i l)) none
+  pub list_told : (l : Listing) → missing_of i l ≡ None → (q : Question) → q ≡ question.List l → AnswersQuestion format i q answer → answer ≡ listing_answer format i l
+  list_told l none q is h = listed l q is h ∙ ap (λ o. list_reply o (listing_answer format i l)) none
 
-  health_said : (said : Result Told AskFault) → said ≡ Ok (told.Health (length i.edits)) → IsReplyTo said answer → answer ≡ json_answer 200 (health_data (length i.edits))
-  health_said said is shows = subst (λ r. IsReplyTo r answer) is shows
+  health_said : (said : Result Told AskFault) → said ≡ Ok (told.Health (length i.edits)) → IsReplyTo format said answer → answer ≡ json_answer 200 (health_data (length i.edits))
+  health_said said is shows = subst (λ r. IsReplyTo format r answer) is shows
 
-  pub health_told : (q : Question) → q ≡ question.Health → AnswersQuestion i q answer → answer ≡ json_answer 200 (health_data (length i.edits))
+  pub health_told : (q : Question) → q ≡ question.Health → AnswersQuestion format i q answer → answer ≡ json_answer 200 (health_data (length i.edits))
   health_told q is h = let (said, tells, shows) = asked_of q question.Health is h in health_said said tells shows
 
-  pub totals_told : (q : Question) → q ≡ question.Totals → AnswersQuestion i q answer → answer ≡ json_answer 200 (totals_data (totals_of (state_of i)))
+  pub totals_told : (q : Question) → q ≡ question.Totals → AnswersQuestion format i q answer → answer ≡ json_answer 200 (totals_data (totals_of (state_of i)))
   totals_told q is h = let (said, tells, shows) = asked_of q question.Totals is h in totals_said said tells shows
 
-  pub rows_told : (q : Question) → AsksOf path.Rows query q → AnswersQuestion i q answer → (wanted : RowsWanted) × GivesRows query wanted × (answer ≡ list_reply (missing_of i (listing.Rows wanted)) (listing_answer i (listing.Rows wanted)))
+  pub rows_told : (q : Question) → AsksOf path.Rows query q → AnswersQuestion format i q answer → (wanted : RowsWanted) × GivesRows query wanted × (answer ≡ list_reply (missing_of i (listing.Rows wanted)) (listing_answer format i (listing.Rows wanted)))
   rows_told q (wanted, gives, is) h = (wanted, gives, listed (listing.Rows wanted) q is h)
 
-  pub gone_told : (q : Question) → AsksOf path.Gone query q → AnswersQuestion i q answer → (edit : Option ℕ) × GivesEditOrAll query edit × (answer ≡ list_reply (missing_of i (listing.Gone edit)) (listing_answer i (listing.Gone edit)))
+  pub gone_told : (q : Question) → AsksOf path.Gone query q → AnswersQuestion format i q answer → (edit : Option ℕ) × GivesEditOrAll query edit × (answer ≡ list_reply (missing_of i (listing.Gone edit)) (listing_answer format i (listing.Gone edit)))
   gone_told q (edit, gives, is) h = (edit, gives, listed (listing.Gone edit) q is h)
 
-  pub log_told : (q : Question) → AsksOf path.Log query q → AnswersQuestion i q answer → (from : ℕ) × GivesFirstEdit query from × (answer ≡ list_reply (missing_of i (listing.Log from)) (listing_answer i (listing.Log from)))
+  pub log_told : (q : Question) → AsksOf path.Log query q → AnswersQuestion format i q answer → (from : ℕ) × GivesFirstEdit query from × (answer ≡ list_reply (missing_of i (listing.Log from)) (listing_answer format i (listing.Log from)))
   log_told q (from, gives, is) h = (from, gives, listed (listing.Log from) q is h)
 
-  pub find_told : (q : Question) → AsksOf path.Find query q → AnswersQuestion i q answer → (asset : ℕ) × GivesAsset query asset × (answer ≡ find_reply (get (state_of i).assets asset) (all_rows_of (state_of i) asset))
+  pub find_told : (q : Question) → AsksOf path.Find query q → AnswersQuestion format i q answer → (asset : ℕ) × GivesAsset query asset × (answer ≡ find_reply (get (state_of i).assets asset) (all_rows_of (state_of i) asset))
   find_told q (asset, gives, is) h =
       let (said, tells, shows) = asked_of q (question.Find asset) is h in
       (asset, gives, found_said said (get (state_of i).assets asset) (all_rows_of (state_of i) asset) tells shows)
 
-  pub at_told : (q : Question) → AsksOf path.At query q → AnswersQuestion i q answer → AtTold query i answer
+  pub at_told : (q : Question) → AsksOf path.At query q → AnswersQuestion format i q answer → AtTold format query i answer
   at_told q (route, e, by_route, by_position, is) h =
       record { route = route; position = e; gives_route = by_route; gives_position = by_position; tells = asked_of q (question.At route e) is h; served = served }
 
-  pub where_told : (q : Question) → AsksOf path.Where query q → AnswersQuestion i q answer → WhereTold query i answer
+  pub where_told : (q : Question) → AsksOf path.Where query q → AnswersQuestion format i q answer → WhereTold format query i answer
   where_told q (s, gives, is) h = record { spot = s; gives_spot = gives; tells = asked_of q (question.Where s) is h; served = served }
 
-  pub lengths_told : (q : Question) → AsksOf path.Lengths query q → AnswersQuestion i q answer → LengthsTold query i answer
+  pub lengths_told : (q : Question) → AsksOf path.Lengths query q → AnswersQuestion format i q answer → LengthsTold format query i answer
   lengths_told q (route, gives, is) h = record { route = route; gives_route = gives; tells = asked_of q (question.Lengths route) is h; served = served }
 
-  pub segments_told : (q : Question) → AsksOf path.Segments query q → AnswersQuestion i q answer → SegmentsTold query i answer
+  pub segments_told : (q : Question) → AsksOf path.Segments query q → AnswersQuestion format i q answer → SegmentsTold format query i answer
   segments_told q (route, side, classes, by_route, by_side, by_classes, is) h = record {
     route = route;
     side = side;
@@ -253,7 +254,7 @@ module _ (i : Image) (query : Text) (answer : Answer) (served : answer.status �
     served = served;
   }
 
-  pub translate_told : (q : Question) → AsksOf path.Translate query q → AnswersQuestion i q answer → TranslateTold query i answer
+  pub translate_told : (q : Question) → AsksOf path.Translate query q → AnswersQuestion format i q answer → TranslateTold format query i answer
   translate_told q (route, e, to, by_route, by_position, by_to, is) h =
       let (said, tells, shows) = asked_of q (question.Translate route e to) is h in
       record {
@@ -269,7 +270,7 @@ module _ (i : Image) (query : Text) (answer : Answer) (served : answer.status �
         served = served;
       }
 
-  pub diagram_told : (q : Question) → AsksOf path.Diagram query q → AnswersQuestion i q answer → DiagramTold query i answer
+  pub diagram_told : (q : Question) → AsksOf path.Diagram query q → AnswersQuestion format i q answer → DiagramTold format query i answer
   diagram_told q (route, classes, from, to, by_route, by_classes, by_from, by_to, is) h = record {
     route = route;
     classes = classes;
@@ -283,7 +284,7 @@ module _ (i : Image) (query : Text) (answer : Answer) (served : answer.status �
     served = served;
   }
 
-  pub route_told : AnswersAsked i path.Route query answer → RouteTold query i answer
+  pub route_told : AnswersKnown i format path.Route query answer → RouteTold format query i answer
   route_told (inl (q, (route, says, is), told)) = inl (route, says, asked_of q (question.Route route) is told)
   route_told (inr (Malformed p, cannot, is)) = absurd cannot
   route_told (inr (NoRoute, cannot, is)) = inr (cannot, is)

@@ -184,7 +184,7 @@ module _ {K : Type 0} (holds : K → Result Image Table → Type 0) (shown : Opt
   asked_made (refused status) answer old new does = none_made (GivesFirst (GivesAsked (refused status) (state_of old.image))) old new (inl refl) does.0
   asked_made (not_allowed verb) answer old new does = none_made (GivesFirst (GivesAsked (not_allowed verb) (state_of old.image))) old new (inl refl) does.0
   asked_made (page text) answer old new does = none_made (GivesFirst (GivesAsked (page text) (state_of old.image))) old new (inl refl) does.0
-  asked_made (query resource argument) answer old new does = none_made (GivesFirst (GivesAsked (query resource argument) (state_of old.image))) old new (inl refl) does.0
+  asked_made (query resource format argument) answer old new does = none_made (GivesFirst (GivesAsked (query resource format argument) (state_of old.image))) old new (inl refl) does.0
   asked_made (posted resource resumes body) answer old new does = posted_made (sheet_at resource) resumes body answer old new does
 
   -- ---- connections

@@ -232,8 +232,8 @@ module _ {K J : Type 0} (holds : K → Result Image Table → Type 0) (has : J �
     wrote = ap answer_text (answered_so _ one served did.1 ∙ sym (answered_so _ two also done.1));
     state = ap (λ (d : DeskView K). state_of d.image) did.0 ∙ stand.state ∙ sym (ap (λ (d : DeskView J). state_of d.image) done.0);
   }
-  asked_alike (query resource argument) one two old new before after read stand did served done also = record {
-    wrote = ap answer_text (state_alike argument one two served also old.image before.image stand.sound stand.also stand.state resource read (answered_so _ one served did.1) (answered_so _ two also done.1));
+  asked_alike (query resource format argument) one two old new before after read stand did served done also = record {
+    wrote = ap answer_text (state_alike format argument one two served also old.image before.image stand.sound stand.also stand.state resource read (answered_so _ one served did.1) (answered_so _ two also done.1));
     state = ap (λ (d : DeskView K). state_of d.image) did.0 ∙ stand.state ∙ sym (ap (λ (d : DeskView J). state_of d.image) done.0);
   }
   asked_alike (posted resource resumes body) one two old new before after posts stand did served done also = posted_alike (sheet_at resource) resumes body one two old new before after stand did served done also
@@ -292,9 +292,9 @@ module _ {K J : Type 0} (holds : K → Result Image Table → Type 0) (has : J �
   question_alike (refused status) one two old new before after asks same did served done also = (ap answer_text (did.1 ∙ sym done.1), did.0, done.0)
   question_alike (not_allowed verb) one two old new before after asks same did served done also = (ap answer_text (did.1 ∙ sym done.1), did.0, done.0)
   question_alike (page text) one two old new before after asks same did served done also = (ap answer_text (answered_so _ one served did.1 ∙ sym (answered_so _ two also done.1)), did.0, done.0)
-  question_alike (query resource argument) one two old new before after asks same did served done also = (
-    ap answer_text (image_alike argument one two served also old.image resource (answered_so _ one served did.1)
-        (subst (λ i. AnswersAsked i resource argument two) (sym same) (answered_so _ two also done.1))),
+  question_alike (query resource format argument) one two old new before after asks same did served done also = (
+    ap answer_text (image_alike format argument one two served also old.image resource (answered_so _ one served did.1)
+        (subst (λ i. AnswersAsked i format resource argument two) (sym same) (answered_so _ two also done.1))),
     did.0,
     done.0,
   )

@@ -157,7 +157,7 @@ module _ {K : Type 0} (holds : K → Result Image Table → Type 0) where
   asked_gave (refused status) answer old new does served = desk_stays (GivesAsked (refused status) (state_of old.image)) old new refl does.0
   asked_gave (not_allowed verb) answer old new does served = desk_stays (GivesAsked (not_allowed verb) (state_of old.image)) old new refl does.0
   asked_gave (page text) answer old new does served = desk_stays (GivesAsked (page text) (state_of old.image)) old new refl does.0
-  asked_gave (query resource argument) answer old new does served = desk_stays (GivesAsked (query resource argument) (state_of old.image)) old new refl does.0
+  asked_gave (query resource format argument) answer old new does served = desk_stays (GivesAsked (query resource format argument) (state_of old.image)) old new refl does.0
   asked_gave (posted resource resumes body) answer old new does served = posted_gave (sheet_at resource) resumes body answer old new does served
 
   pub call_gave : (next : Call) (text : Text) (old new : DeskView K) → Did holds next text old new → DeskGave (Gives next (state_of old.image)) old new

@@ -28,6 +28,7 @@ use Rattle.lrs_report_answers.specs.declared.fault.AskFault.TheVariants.{Memory,
 use Rattle.lrs_report_answers.specs.declared.hits.AtAnswer.{AtAnswer}
 use Rattle.lrs_report_answers.specs.declared.told.Told.{Told}
 use Rattle.lrs_web_requests.specs.Text.{Answer}
+use Rattle.lrs_web_requests.specs.declared.paths.Format.{Format}
 use Rattle.lrs_web_replies.specs.QuestionAnswers.{IsReplyTo, ShowsTold}
 use Rattle.lrs_web_replies.specs.Replies.{refusal}
 
@@ -143,43 +144,44 @@ segmented_once s name wanted side = on_route s name (λ a result. MatchOption (s
 
 -- ---- replies
 
--- the reply to an answer, or to why there is none
-abbrev Replies : {A : Type 0} → (A → Told) → Result A AskFault → Answer → Type 0
-Replies told_of (Ok x) answer = ShowsTold (told_of x) answer
-Replies told_of (Err fault) answer = answer ≡ refusal fault
+module _ (format : Format) where
+  -- the reply to an answer, or to why there is none
+  abbrev Replies : {A : Type 0} → (A → Told) → Result A AskFault → Answer → Type 0
+  Replies told_of (Ok x) answer = ShowsTold format (told_of x) answer
+  Replies told_of (Err fault) answer = answer ≡ refusal fault
 
--- an answer passes, memory did not run out for it, and this is the reply to it
-record Replied {A : Type 0} (Passes : Result A AskFault → Type 0) (told_of : A → Told) (answer : Answer) : Type 0 where
-  pub found : Result A AskFault
-  pub passes : Passes found
-  pub some : found ≡ Err Memory → ⊥
-  pub shows : Replies told_of found answer
+  -- an answer passes, memory did not run out for it, and this is the reply to it
+  record Replied {A : Type 0} (Passes : Result A AskFault → Type 0) (told_of : A → Told) (answer : Answer) : Type 0 where
+    pub found : Result A AskFault
+    pub passes : Passes found
+    pub some : found ≡ Err Memory → ⊥
+    pub shows : Replies told_of found answer
 
-replied : {A : Type 0} (Passes : Result A AskFault → Type 0) (told_of : A → Told) (answer : Answer) → (answer.status ≡ 503 → ⊥) → (said : Result Told AskFault)
-    → Tells Passes told_of said → IsReplyTo said answer → Replied Passes told_of answer
-replied Passes told_of answer served (Ok t) (x, passes, is) shows = record {
-  found = Ok x;
-  passes = passes;
-  some = ok_is_not_err x Memory;
-  shows = subst (λ u. ShowsTold u answer) is shows;
-}
-replied Passes told_of answer served (Err fault) passes shows = record {
-  found = Err fault;
-  passes = passes;
-  some = λ e. served (ap (λ (a : Answer). a.status) (shows ∙ ap refusal (same_err fault Memory e)));
-  shows = shows;
-}
+  replied : {A : Type 0} (Passes : Result A AskFault → Type 0) (told_of : A → Told) (answer : Answer) → (answer.status ≡ 503 → ⊥) → (said : Result Told AskFault)
+      → Tells Passes told_of said → IsReplyTo format said answer → Replied Passes told_of answer
+  replied Passes told_of answer served (Ok t) (x, passes, is) shows = record {
+    found = Ok x;
+    passes = passes;
+    some = ok_is_not_err x Memory;
+    shows = subst (λ u. ShowsTold format u answer) is shows;
+  }
+  replied Passes told_of answer served (Err fault) passes shows = record {
+    found = Err fault;
+    passes = passes;
+    some = λ e. served (ap (λ (a : Answer). a.status) (shows ∙ ap refusal (same_err fault Memory e)));
+    shows = shows;
+  }
 
-one_reply : {A : Type 0} (told_of : A → Told) → ((x : A) (a b : Answer) → ShowsTold (told_of x) a → ShowsTold (told_of x) b → a ≡ b)
-    → (found : Result A AskFault) (a b : Answer) → Replies told_of found a → Replies told_of found b → a ≡ b
-one_reply told_of one (Ok x) a b h g = one x a b h g
-one_reply told_of one (Err fault) a b h g = h ∙ sym g
+  one_reply : {A : Type 0} (told_of : A → Told) → ((x : A) (a b : Answer) → ShowsTold format (told_of x) a → ShowsTold format (told_of x) b → a ≡ b)
+      → (found : Result A AskFault) (a b : Answer) → Replies told_of found a → Replies told_of found b → a ≡ b
+  one_reply told_of one (Ok x) a b h g = one x a b h g
+  one_reply told_of one (Err fault) a b h g = h ∙ sym g
 
--- two replies to what passes are one
-pub told_once : {A : Type 0} (Passes : Result A AskFault → Type 0) (told_of : A → Told) → OneUnlessMemory Passes → ((x : A) (a b : Answer) → ShowsTold (told_of x) a → ShowsTold (told_of x) b → a ≡ b)
-    → (a b : Answer) → (a.status ≡ 503 → ⊥) → (b.status ≡ 503 → ⊥) → (said other : Result Told AskFault) → Tells Passes told_of said → Tells Passes told_of other → IsReplyTo said a → IsReplyTo other b → a ≡ b
-told_once Passes told_of once one a b served also said other tells more h g =
-    let x = replied Passes told_of a served said tells h in
-    let y = replied Passes told_of b also other more g in
-    let same = once x.found y.found x.passes y.passes x.some y.some in
-    one_reply told_of one x.found a b x.shows (subst (λ r. Replies told_of r b) (sym same) y.shows)
+  -- two replies to what passes are one
+  pub told_once : {A : Type 0} (Passes : Result A AskFault → Type 0) (told_of : A → Told) → OneUnlessMemory Passes → ((x : A) (a b : Answer) → ShowsTold format (told_of x) a → ShowsTold format (told_of x) b → a ≡ b)
+      → (a b : Answer) → (a.status ≡ 503 → ⊥) → (b.status ≡ 503 → ⊥) → (said other : Result Told AskFault) → Tells Passes told_of said → Tells Passes told_of other → IsReplyTo format said a → IsReplyTo format other b → a ≡ b
+  told_once Passes told_of once one a b served also said other tells more h g =
+      let x = replied Passes told_of a served said tells h in
+      let y = replied Passes told_of b also other more g in
+      let same = once x.found y.found x.passes y.passes x.some y.some in
+      one_reply told_of one x.found a b x.shows (subst (λ r. Replies told_of r b) (sym same) y.shows)

@@ -48,6 +48,7 @@ use Rattle.lrs_report_answers.specs.declared.fault.AskFault.TheVariants.{Memory,
 use Rattle.lrs_report_answers.specs.declared.told.Told.TheVariants as told
 use Rattle.lrs_machine.specs.declared.segment.SegFault.TheVariants as seg
 use Rattle.lrs_web_requests.specs.Text.{Answer}
+use Rattle.lrs_web_requests.specs.declared.paths.Format.{Format}
 use Rattle.lrs_web_replies.specs.QuestionAnswers.{ShowsTold}
 use Rattle.lrs_web_replies.specs.Answers.{route_data}
 use Rattle.lrs_web_replies.specs.Replies.{json_answer}
@@ -63,8 +64,8 @@ named_once i name r q h g some also = by (find (is_named name) i.routes) h g
     by None x y = x ∙ sym y
     by (Some e) x y = unless_memory (λ route. route ≡ e.route) (λ c d k l. k ∙ sym l) r q x y some also
 
-pub route_once : (r : Route) (a b : Answer) → ShowsTold (told.Route r) a → ShowsTold (told.Route r) b → a ≡ b
-route_once r a b (d, h, is) (e, g, also) =
+pub route_once : (format : Format) (r : Route) (a b : Answer) → ShowsTold format (told.Route r) a → ShowsTold format (told.Route r) b → a ≡ b
+route_once format r a b (d, h, is) (e, g, also) =
     let pieces = fewest-same h.pieces g.pieces h.fewest g.fewest (h.course ∙ sym g.course) in
     is ∙ ap (json_answer 200) (h.is ∙ ap (route_data r) pieces ∙ sym g.is) ∙ sym also
 

@@ -96,7 +96,7 @@ abbrev pub GivesAsked : Asked → State → List Record → Type 0
 GivesAsked (refused status) s commands = commands ≡ []
 GivesAsked (not_allowed verb) s commands = commands ≡ []
 GivesAsked (page text) s commands = commands ≡ []
-GivesAsked (query resource argument) s commands = commands ≡ []
+GivesAsked (query resource format argument) s commands = commands ≡ []
 GivesAsked (posted resource resumes body) s commands = GivesPosted (sheet_at resource) resumes body s commands
 
 -- The commands that a call gives, in a state.

@@ -42,8 +42,8 @@ abbrev pub Does : {K : Type 0} → (K → Result Image Table → Type 0) → Ask
 Does holds (refused status) old answer new = (new ≡ old) × (answer ≡ empty_answer status)
 Does holds (not_allowed verb) old answer new = (new ≡ old) × (answer ≡ allowed_answer verb)
 Does holds (page text) old answer new = (new ≡ old) × ((answer ≡ page_answer text) ⊎ (answer ≡ empty_answer 503))
-Does holds (query resource argument) old answer new =
-    (new ≡ old) × (AnswersAsked old.image resource argument answer ⊎ (answer ≡ empty_answer 503)) × (old.is_ahead ≡ true → answer ≡ empty_answer 503)
+Does holds (query resource format argument) old answer new =
+    (new ≡ old) × (AnswersAsked old.image format resource argument answer ⊎ (answer ≡ empty_answer 503)) × (old.is_ahead ≡ true → answer ≡ empty_answer 503)
     × (needs_commits resource ≡ true → old.must_reopen ≡ true → answer ≡ empty_answer 503)
 Does holds (sheet resource resumes bytes) old answer new =
     MatchOption (sheet_at resource) (AnswersQuestions bytes old answer new) (λ kind. DoesSheet holds kind resumes bytes old answer new)

@@ -5,7 +5,7 @@ ghost use Rattle.lrs_web_requests.specs.Request.{Asked, IsServed, asked_by};
 ghost use Rattle.lrs_web_requests.specs.Text.{Answer, answer_of, empty_answer};
 ghost use Rattle.lrs_web_requests.specs.Request.{verb_of};
 ghost use Rattle.lrs_web_requests.specs.declared.response.RequestMethod.TheVariants.{Get};
-ghost use Rattle.lrs_web.specs.QueryAnswers.{AnswersAsked};
+ghost use Rattle.lrs_web.specs.QueryAnswers.{AnswersAsked, AnswersKnown};
 ghost use Rattle.lrs_web.specs.Questions.{AnswersQuestions};
 ghost use Rattle.lrs_web.specs.Sheets.{DoesSheet};
 ghost use Rattle.lrs_web.specs.RequestAnswers as spec;
@@ -16,10 +16,10 @@ use crate::recipient::{AnyClient, Client, Recipient};
 use crate::sheet::do_sheet;
 use http::StatusCode;
 use lrs_sheet::{Desk, Keeper, Sheet};
-use lrs_web_replies::{question_of, reply_to, unasked};
+use lrs_web_replies::{question_of, reply_to, unasked, unknown_in, unknown_reply};
 use lrs_web_requests::{
-    BodyFault, Content, ContentType, Request, RequestMethod, Resource, Response, receive, routes,
-    write_reply, write_unavailable,
+    BodyFault, Content, ContentType, Format, Request, RequestMethod, Resource, Response, receive,
+    routes, write_reply, write_unavailable,
 };
 use std::alloc::{AllocError, Global};
 use std::io::{Read, Write};
@@ -99,23 +99,44 @@ fn allowed_reply(verb: RequestMethod) -> Response
     }
 }
 
-/// The reply to the question that a resource is asked.
+/// The reply to the question that a resource is asked by parameters that it knows.
 #[tactic(auto, using(crate::proofs::Asking::answered, crate::proofs::Asking::refused))]
-fn question_reply<K: Keeper>(
+fn known_reply<K: Keeper>(
     alloc: Global,
     most: usize,
+    format: Format,
     resource: Resource,
     argument: &[u8],
     desk: &Desk<K>,
 ) -> Result<Response, AllocError>
     requires verb { verb_of resource ≡ Get }
     requires behind { desk.now.is_ahead ≡ false }
-    ensures { IfOk result (λ reply. AnswersAsked desk.now.image resource argument.now
+    ensures { IfOk result (λ reply. AnswersKnown desk.now.image format resource argument.now
         (answer_of reply)) }
 {
     match question_of(alloc, resource, argument) {
-        Ok(question) => reply_to(alloc, most, desk.ask(question)),
+        Ok(question) => reply_to(alloc, most, format, desk.ask(question)),
         Err(fault) => unasked(alloc, fault),
+    }
+}
+
+/// The reply to what a resource is asked. A parameter that it does not know is told first.
+fn question_reply<K: Keeper>(
+    alloc: Global,
+    most: usize,
+    format: Format,
+    resource: Resource,
+    argument: &[u8],
+    desk: &Desk<K>,
+) -> Result<Response, AllocError>
+    requires verb { verb_of resource ≡ Get }
+    requires behind { desk.now.is_ahead ≡ false }
+    ensures { IfOk result (λ reply. AnswersAsked desk.now.image format resource argument.now
+        (answer_of reply)) }
+{
+    match unknown_in(alloc, resource, argument)? {
+        Some(name) => unknown_reply(alloc, name.as_str()),
+        None => known_reply(alloc, most, format, resource, argument, desk),
     }
 }
 
@@ -138,12 +159,13 @@ fn limited(reply: Response, most: usize) -> Response
 fn query_reply<K: Keeper>(
     alloc: Global,
     most: usize,
+    format: Format,
     resource: Resource,
     argument: &[u8],
     desk: &Desk<K>,
 ) -> Response
     requires { verb_of resource ≡ Get }
-    ensures answered { AnswersAsked desk.now.image resource argument.now (answer_of result)
+    ensures answered { AnswersAsked desk.now.image format resource argument.now (answer_of result)
         ⊎ (answer_of result ≡ empty_answer 503) }
     ensures broken { desk.now.is_ahead ≡ true → answer_of result ≡ empty_answer 503 }
     ensures uncommitted { spec.needs_commits resource ≡ true → desk.now.must_reopen ≡ true
@@ -155,7 +177,7 @@ fn query_reply<K: Keeper>(
     if needs_commits(resource) && desk.must_reopen() {
         return Response::empty(StatusCode::SERVICE_UNAVAILABLE);
     }
-    match question_reply(alloc, most, resource, argument, desk) {
+    match question_reply(alloc, most, format, resource, argument, desk) {
         Ok(reply) => limited(reply, most),
         Err(_) => Response::empty(StatusCode::SERVICE_UNAVAILABLE),
     }
@@ -214,8 +236,8 @@ pub(crate) fn do_task<C: Client, K: Keeper>(
         Request::Refused(status) => Response::empty(*status),
         Request::NotAllowed(verb) => allowed_reply(*verb),
         Request::Page(page) => page_reply(alloc, to.most, page),
-        Request::Query(resource, argument) => {
-            query_reply(alloc, to.most, *resource, argument.as_slice(), desk)
+        Request::Query(resource, format, argument) => {
+            query_reply(alloc, to.most, *format, *resource, argument.as_slice(), desk)
         }
         Request::Sheet(resource, resumes, bytes) => {
             let kind = sheet_of(*resource);

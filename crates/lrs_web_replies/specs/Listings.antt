@@ -1,4 +1,4 @@
--- Lists as JSON, each the one member of an object, with the columns of the lists that are CSV as the members of each entry; and the log as an edit sheet.
+-- Lists as JSON and as CSV. As JSON each is the one member of an object, with the columns of the lists that are CSV as the members of each entry; the log is an edit sheet in either.
 
 -- An object has its members in the order of their names, and a list its entries in the order in which the image keeps them.
 use Rattle.std.specs.Prelude.{ℕ, List, [], ◌∷◌, codes, filter, length, map, Option, Some, None}
@@ -21,12 +21,15 @@ use Rattle.lrs_machine.specs.declared.question.Listing.{Listing}
 use Rattle.lrs_machine.specs.declared.question.Listing.TheVariants as listing
 use Rattle.lrs_machine.specs.declared.question.RowsWanted.{RowsWanted}
 use Rattle.lrs_report_lists.specs.Lines.{asset_numbered, link_side_text, reason_text}
+use Rattle.lrs_report_lists.specs.Lists.{classes_text, gone_text, links_text, marks_text, refs_text, routes_text, rows_text}
 use Rattle.lrs_report_lists.specs.Measures.{measure_text}
 use Rattle.lrs_report_lists.specs.WantedRows.{is_of_edit, is_of_route, is_wanted}
 use Rattle.lrs_sheet_log.specs.Log.{edits_from, edits_under, log_text}
 use Rattle.lrs_web_requests.specs.Text.{Answer}
+use Rattle.lrs_web_requests.specs.declared.paths.Format.{Format}
+use Rattle.lrs_web_requests.specs.declared.paths.Format.TheVariants.{Json, Csv}
 use Rattle.lrs_web_replies.specs.JsonParts.{list, whole, with}
-use Rattle.lrs_web_replies.specs.Replies.{json_answer, sheet_answer}
+use Rattle.lrs_web_replies.specs.Replies.{csv_answer, json_answer}
 
 -- a list under its name
 abbrev pub named_list : Text → List Data → Data
@@ -71,7 +74,7 @@ said_of shown (Some a) = shown a
 -- a row of a route: the asset with its class, the edit that entered it, the chainages and measures from and to, the lateral offset, the route, the side, and the value
 abbrev pub row_data_with : Option Asset → Route → Span → Data
 row_data_with a route r = with (
-    (codes "asset", whole r.asset) ∷ (codes "class", string r.class) ∷ (codes "entered_by", said_of (λ x. whole x.entered_by) a)
+    (codes "asset", whole r.asset) ∷ (codes "class", string r.class) ∷ (codes "entry", said_of (λ x. whole x.entered_by) a)
     ∷ (codes "from", whole r.from) ∷ (codes "from_measure", string (measure_text route.marks r.from))
     ∷ (codes "offset", said_of (λ x. whole x.lateral) a) ∷ (codes "route", string route.name) ∷ (codes "side", string (side_text r.side))
     ∷ (codes "to", whole r.to) ∷ (codes "to_measure", string (measure_text route.marks r.to)) ∷ (codes "value", said_of (λ x. string x.value) a) ∷ []
@@ -127,14 +130,31 @@ rows_data w i = named_list (codes "rows") (flat_map (rows_of w i.assets) (filter
 abbrev pub all_gone_data : Option ℕ → Image → Data
 all_gone_data edit i = named_list (codes "gone") (map (gone_data i.assets) (filter (is_of_edit edit) i.gone))
 
--- The table: the reply with each list.
-abbrev pub listing_answer : Image → Listing → Answer
-listing_answer i listing.Routes = json_answer 200 (routes_data i)
-listing_answer i listing.Links = json_answer 200 (links_data i)
-listing_answer i listing.Classes = json_answer 200 (classes_data i)
-listing_answer i listing.Refs = json_answer 200 (refs_data i)
-listing_answer i listing.Marks = json_answer 200 (marks_data i)
-listing_answer i (listing.Rows wanted) = json_answer 200 (rows_data wanted i)
-listing_answer i (listing.Gone edit) = json_answer 200 (all_gone_data edit i)
-listing_answer i (listing.Log from) = sheet_answer (log_text (edits_from from (state_of i).done))
-listing_answer i (listing.LogOfKey key) = sheet_answer (log_text (edits_under key (state_of i).done))
+-- the lines of a list, as the command line prints them; of the log, an edit sheet
+abbrev pub listing_text : Image → Listing → Text
+listing_text i listing.Routes = routes_text i
+listing_text i listing.Links = links_text i
+listing_text i listing.Classes = classes_text i
+listing_text i listing.Refs = refs_text i
+listing_text i listing.Marks = marks_text i
+listing_text i (listing.Rows wanted) = rows_text wanted i
+listing_text i (listing.Gone edit) = gone_text edit i
+listing_text i (listing.Log from) = log_text (edits_from from (state_of i).done)
+listing_text i (listing.LogOfKey key) = log_text (edits_under key (state_of i).done)
+
+-- the reply in a format: with this, as JSON, or with these lines
+abbrev pub in_format : Format → Data → Text → Answer
+in_format Json d lines = json_answer 200 d
+in_format Csv d lines = csv_answer lines
+
+-- The table: the reply with each list in a format. The log is CSV in either.
+abbrev pub listing_answer : Format → Image → Listing → Answer
+listing_answer format i listing.Routes = in_format format (routes_data i) (routes_text i)
+listing_answer format i listing.Links = in_format format (links_data i) (links_text i)
+listing_answer format i listing.Classes = in_format format (classes_data i) (classes_text i)
+listing_answer format i listing.Refs = in_format format (refs_data i) (refs_text i)
+listing_answer format i listing.Marks = in_format format (marks_data i) (marks_text i)
+listing_answer format i (listing.Rows wanted) = in_format format (rows_data wanted i) (rows_text wanted i)
+listing_answer format i (listing.Gone edit) = in_format format (all_gone_data edit i) (gone_text edit i)
+listing_answer format i (listing.Log from) = csv_answer (log_text (edits_from from (state_of i).done))
+listing_answer format i (listing.LogOfKey key) = csv_answer (log_text (edits_under key (state_of i).done))

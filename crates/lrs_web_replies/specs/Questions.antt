@@ -1,6 +1,6 @@
 -- What the parameters of a query ask of an inventory.
-use Rattle.std.specs.Prelude.{◌≡◌, ⊤, ◌⊎◌, ℕ, ◌≤◌, IsTrue, Bool, true, false, if◌then◌else◌, List, [], ◌∷◌, codes, Option, None, Some}
-use Rattle.std.specs.List.{list_all}
+use Rattle.std.specs.Prelude.{◌≡◌, ⊤, ◌⊎◌, ℕ, ◌≤◌, IsTrue, Bool, true, false, if◌then◌else◌, List, [], ◌∷◌, bytes_eq, codes, map, Option, None, Some}
+use Rattle.std.specs.List.{list_all, list_any}
 use Rattle.std.specs.Option.{option_map_or}
 use Rattle.std.specs.Str.Parse.{IsNumeral, digits_value}
 use Rattle.lrs_measure.specs.Limits.{greatest_asset, greatest_link, longest_link, longest_route, most_edits}
@@ -14,7 +14,7 @@ use Rattle.lrs_events.specs.Names.{is_class_name, side_text}
 use Rattle.lrs_machine.specs.declared.question.RowsWanted.{RowsWanted}
 use Rattle.lrs_machine.specs.declared.question.AskedPlace.{AskedPlace}
 use Rattle.lrs_machine.specs.declared.question.AskedPlace.TheVariants as spot
-use Rattle.lrs_web_requests.specs.Query.{parameter, parameters}
+use Rattle.lrs_web_requests.specs.Query.{parameter, parameters, unknown_name}
 use Rattle.lrs_web_requests.specs.declared.paths.Resource.{Resource}
 use Rattle.lrs_web_requests.specs.declared.paths.Resource.TheVariants as path
 use Rattle.lrs_machine.specs.declared.question.Destination.{Destination}
@@ -275,3 +275,30 @@ CannotAsk resource query (Malformed p) = IsFirstMalformed query (parameters_of r
 CannotAsk path.Route name NoRoute = IsTrue (is_route_name name) → ⊥
 CannotAsk resource argument NoRoute = ⊥
 CannotAsk resource argument Memory = ⊤
+
+-- ---- what is not known
+
+-- the names of the parameters that a path knows; of a place, those of either way
+abbrev pub known_names : Resource → List Text
+known_names path.Where = map parameter_text (Route ∷ Chainage ∷ OnLink ∷ Millimetre ∷ [])
+known_names resource = map parameter_text (parameters_of resource [])
+
+abbrev pub is_known : Resource → Text → Bool
+is_known resource name = list_any (λ known. bytes_eq name known) (known_names resource)
+
+-- whether a path passes over parameters that it does not know
+abbrev pub passes_over : Resource → Bool
+passes_over path.At = true
+passes_over path.Route = true
+passes_over path.Segments = true
+passes_over path.Translate = true
+passes_over path.Totals = true
+passes_over path.Health = true
+passes_over path.Edits = true
+passes_over path.Surveys = true
+passes_over path.Questions = true
+passes_over _ = false
+
+-- the first parameter of a query that its path does not know, where it does not pass over it
+abbrev pub unknown_in : Resource → Text → Option Text
+unknown_in resource argument = if passes_over resource then None else unknown_name (is_known resource) argument

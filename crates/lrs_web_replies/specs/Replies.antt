@@ -31,9 +31,9 @@ json_answer status d = json_bytes status (compact_text d)
 abbrev pub svg_answer : Text → Answer
 svg_answer = answer_with 200 Svg
 
--- these bytes are an edit sheet
-abbrev pub sheet_answer : Text → Answer
-sheet_answer = answer_with 200 Csv
+-- these bytes are a list, or an edit sheet
+abbrev pub csv_answer : Text → Answer
+csv_answer = answer_with 200 Csv
 
 abbrev pub error_answer : ℕ → Text → Answer
 error_answer status cause = json_answer status (error_data cause)
@@ -65,3 +65,7 @@ abbrev pub unasked : QueryFault → Answer
 unasked (Malformed p) = error_answer 400 (codes "Malformed:" ++ parameter_text p)
 unasked NoRoute = error_answer 404 (codes "NoRoute")
 unasked Memory = unavailable
+
+-- a parameter of this name is not known
+abbrev pub unknown_answer : Text → Answer
+unknown_answer name = error_answer 400 (codes "Unknown:" ++ name)

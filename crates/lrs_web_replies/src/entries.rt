@@ -241,7 +241,7 @@ pub(crate) fn row_value(
         &[
             Member("asset", Scalar::Whole(row.asset)),
             Member("class", Scalar::Class(row.class)),
-            Member("entered_by", entry_of(asset)),
+            Member("entry", entry_of(asset)),
             Member("from", Scalar::Whole(row.from)),
             Member("from_measure", measure_at(route, row.from)),
             Member("offset", offset_of(asset)),

@@ -4,6 +4,7 @@
 mod answers;
 mod bounded;
 mod entries;
+mod lines;
 mod list;
 mod list_parameters;
 mod list_text;
@@ -14,8 +15,10 @@ mod parts;
 mod question;
 mod replies;
 mod reply;
+mod unknown_parameters;
 
 pub use bounded::BoundedBytes;
 pub use question::{Parameter, QueryFault, question_of};
 pub use replies::reply_to;
 pub use reply::unasked;
+pub use unknown_parameters::{unknown_in, unknown_reply};

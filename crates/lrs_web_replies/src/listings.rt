@@ -5,29 +5,27 @@ ghost use Rattle.std.specs.List.{flat_map};
 ghost use Rattle.std.specs.Option.{option_map, option_map_or};
 ghost use Rattle.serde_json.specs.Written.{compact_text};
 ghost use Rattle.lrs_measure.specs.Lists.{each_two};
-ghost use Rattle.lrs_machine.specs.Image.{state_of};
 ghost use Rattle.lrs_machine.specs.Sound.{IsSound, asset_before, route_before};
 ghost use Rattle.lrs_image.specs.OpenLists.{image_of};
 ghost use Rattle.lrs_report_lists.specs.WantedRows.{is_of_route};
-ghost use Rattle.lrs_sheet_log.specs.Log.{edits_from, edits_under, log_text};
 ghost use Rattle.lrs_web_requests.specs.Text.{answer_of};
+ghost use Rattle.lrs_web_requests.specs.declared.paths.Format.TheVariants.{Json};
 ghost use Rattle.lrs_web_replies.specs.Listings.{all_gone_data, all_of, classes_data, gone_data, links_data, listing_answer, marks_data, named_list, refs_data, routes_data, row_data, rows_data};
 ghost use Rattle.lrs_web_replies.specs.Parts.{gone_part, item_text, row_part, rows_part};
 
-use crate::bounded::BoundedBytes;
 use crate::entries::{OnRoute, gone_value, row_value};
+use crate::lines::csv_listing;
 use crate::list_text::{add_each, add_item, begin, end};
-use crate::reply::{found_reply, sheet_reply};
+use crate::reply::found_reply;
 use lrs_element::Mark;
 use lrs_events::{Asset, Gone, Span};
 use lrs_image::ImageLists;
 use lrs_inventory::Inventory;
-use lrs_machine::{Key, Listing, RouteRow, RowsWanted};
+use lrs_machine::{Listing, RouteRow, RowsWanted};
 use lrs_ordered::Chunked;
 use lrs_position::{Referent, Route};
 use lrs_report_lists::{asset_numbered, is_of_edit, is_wanted};
-use lrs_sheet_log::{write_log, write_log_of_key};
-use lrs_web_requests::Response;
+use lrs_web_requests::{Format, Response};
 use std::alloc::{AllocError, Global};
 
 fn routes_json(alloc: Global, most: usize, kept: &ImageLists) -> Result<Vec<u8>, AllocError>
@@ -379,56 +377,19 @@ fn gone_json(
     end(bytes, start)
 }
 
-// ---- the log
-
-// It takes every byte that it is given, unless it has no room for it or memory runs out.
-fn log_bytes(
-    alloc: Global,
-    most: usize,
-    kept: &ImageLists,
-    from: u64,
-) -> Result<Vec<u8>, AllocError>
-    ensures { IfOk result (λ bytes. bytes.items
-        ≡ log_text (edits_from from (state_of (image_of kept.now)).done)) }
-{
-    let mut text = BoundedBytes::new(alloc, most);
-    match write_log(&mut text, kept, from) {
-        Ok(()) => Ok(text.bytes),
-        Err(_) => Err(AllocError),
-    }
-}
-
-fn log_bytes_of_key(
-    alloc: Global,
-    most: usize,
-    kept: &ImageLists,
-    key: &Key,
-) -> Result<Vec<u8>, AllocError>
-    ensures { IfOk result (λ bytes. bytes.items
-        ≡ log_text (edits_under key.now (state_of (image_of kept.now)).done)) }
-{
-    let mut text = BoundedBytes::new(alloc, most);
-    match write_log_of_key(&mut text, kept, key) {
-        Ok(_) => Ok(text.bytes),
-        Err(_) => Err(AllocError),
-    }
-}
-
 // ---- replies
 
-/// The reply with a list of an inventory: as JSON, and the log as an edit sheet.
-///
-/// # Errors
-/// When memory or so many bytes do not suffice.
-pub(crate) fn listing_reply(
+/// The reply with a list of an inventory as JSON; the log is an edit sheet.
+fn json_listing(
     alloc: Global,
     most: usize,
-    inventory: &Inventory,
+    kept: &ImageLists,
     listing: &Listing,
 ) -> Result<Response, AllocError>
-    ensures { IfOk result (λ reply. answer_of reply ≡ listing_answer inventory.now listing.now) }
+    requires sound { IsSound (image_of kept.now) }
+    ensures { IfOk result (λ reply. answer_of reply
+        ≡ listing_answer Json (image_of kept.now) listing.now) }
 {
-    let kept = inventory.kept();
     match listing {
         Listing::Routes => Ok(found_reply(routes_json(alloc, most, kept)?)),
         Listing::Links => Ok(found_reply(links_json(alloc, most, kept)?)),
@@ -437,7 +398,27 @@ pub(crate) fn listing_reply(
         Listing::Marks => Ok(found_reply(marks_json(alloc, most, kept)?)),
         Listing::Rows(wanted) => Ok(found_reply(rows_json(alloc, most, kept, wanted)?)),
         Listing::Gone(edit) => Ok(found_reply(gone_json(alloc, most, kept, *edit)?)),
-        Listing::Log(from) => Ok(sheet_reply(log_bytes(alloc, most, kept, *from)?)),
-        Listing::LogOfKey(key) => Ok(sheet_reply(log_bytes_of_key(alloc, most, kept, key)?)),
+        Listing::Log(_) | Listing::LogOfKey(_) => csv_listing(alloc, most, kept, listing),
+    }
+}
+
+/// The reply with a list of an inventory in a format; the log is an edit sheet in either.
+///
+/// # Errors
+/// When memory or so many bytes do not suffice.
+pub(crate) fn listing_reply(
+    alloc: Global,
+    most: usize,
+    format: Format,
+    inventory: &Inventory,
+    listing: &Listing,
+) -> Result<Response, AllocError>
+    ensures { IfOk result (λ reply. answer_of reply
+        ≡ listing_answer format inventory.now listing.now) }
+{
+    let kept = inventory.kept();
+    match format {
+        Format::Json => json_listing(alloc, most, kept, listing),
+        Format::Csv => csv_listing(alloc, most, kept, listing),
     }
 }

@@ -182,7 +182,7 @@ fn find_question(alloc: Global, query: &[u8]) -> Result<Question, QueryFault>
 }
 
 /// What a resource is asked: a route by its name, any other by the parameters of a query. Unknown parameters are passed
-/// over; of several of one name the first counts, but of classes all do.
+/// over here (`unknown_in` finds them); of several of one name the first counts, but of classes all do.
 ///
 /// # Errors
 /// `Malformed` with the first parameter that is missing or cannot be read, `NoRoute` at a text that is no route's name,

@@ -1,11 +1,12 @@
 //! Replies to questions.
 
 ghost use Rattle.std.specs.Prelude.{◌≡◌, IfOk};
-ghost use Rattle.lrs_report_answers.specs.declared.told.Told.TheVariants as told;
 ghost use Rattle.lrs_report.specs.Drawings.Pictures.{diagram_text};
+ghost use Rattle.lrs_report_lists.specs.Length.Lines.{lengths_text};
 ghost use Rattle.lrs_web_requests.specs.Text.{answer_of};
 ghost use Rattle.lrs_web_replies.specs.QuestionAnswers.{IsReplyTo, ShowsTold};
-ghost use Rattle.lrs_web_replies.specs.Answers.{segments_data};
+ghost use Rattle.lrs_web_replies.specs.Answers.{at_data, lengths_data, on_link_data, segments_data, translated_data};
+ghost use Rattle.lrs_web_replies.specs.Listings.{in_format};
 ghost use Rattle.lrs_web_replies.specs.Replies.{json_answer};
 
 use crate::answers::{
@@ -13,14 +14,16 @@ use crate::answers::{
     totals_json, translated_json, whereabouts_json,
 };
 use crate::bounded::BoundedBytes;
+use crate::lines::lengths_lines;
 use crate::listings::listing_reply;
-use crate::reply::{found_reply, refusal, svg_reply};
+use crate::reply::{csv_reply, found_reply, refusal, svg_reply};
 use lrs_events::Side;
 use lrs_measure::Frac;
 use lrs_position::{Expr, RouteName};
 use lrs_report::{Diagram, write_diagram};
 use lrs_report_answers::{AskFault, AtAnswer, RouteSegments, Told};
-use lrs_web_requests::Response;
+use lrs_report_lists::ValueLength;
+use lrs_web_requests::{Format, Response};
 use std::alloc::{AllocError, Global};
 
 // It takes every byte that it is given, unless it has no room for it or memory runs out.
@@ -35,7 +38,8 @@ fn diagram_bytes(alloc: Global, most: usize, diagram: &Diagram) -> Result<Vec<u8
 }
 
 fn at_reply(alloc: Global, route: &RouteName, found: &AtAnswer) -> Result<Response, AllocError>
-    ensures { IfOk result (λ reply. ShowsTold (told.At route.now found.now) (answer_of reply)) }
+    ensures { IfOk result (λ reply. answer_of reply
+        ≡ json_answer 200 (at_data route.now found.now.at found.now.ground found.now.hits)) }
 {
     let hits = found.hits.as_slice();
     let bytes = at_json(alloc, route, found.at, found.ground, hits)?;
@@ -61,8 +65,8 @@ fn translated_reply(
     route: &RouteName,
     position: Expr,
 ) -> Result<Response, AllocError>
-    ensures { IfOk result (λ reply. ShowsTold (told.Translated route.now position)
-        (answer_of reply)) }
+    ensures { IfOk result (λ reply. answer_of reply
+        ≡ json_answer 200 (translated_data route.now position)) }
 {
     let bytes = translated_json(alloc, route, position)?;
     Ok(found_reply(bytes))
@@ -74,16 +78,37 @@ fn on_link_reply(
     link: u32,
     distance: Frac,
 ) -> Result<Response, AllocError>
-    ensures { IfOk result (λ reply. ShowsTold (told.OnLink route.now link distance)
-        (answer_of reply)) }
+    ensures { IfOk result (λ reply. answer_of reply
+        ≡ json_answer 200 (on_link_data route.now (link, distance))) }
 {
     let bytes = link_json(alloc, route, link, distance)?;
     Ok(found_reply(bytes))
 }
 
-/// The reply to what is told to a question: a diagram as SVG, the log as CSV, and any other answer as JSON.
-fn told_reply(alloc: Global, most: usize, told: Told<'_>) -> Result<Response, AllocError>
-    ensures { IfOk result (λ reply. ShowsTold told.entry (answer_of reply)) }
+fn lengths_reply(
+    alloc: Global,
+    most: usize,
+    format: Format,
+    lengths: &[ValueLength],
+) -> Result<Response, AllocError>
+    ensures { IfOk result (λ reply. answer_of reply
+        ≡ in_format format (lengths_data lengths.now) (lengths_text lengths.now)) }
+{
+    match format {
+        Format::Json => Ok(found_reply(lengths_json(alloc, lengths)?)),
+        Format::Csv => Ok(csv_reply(lengths_lines(alloc, most, lengths)?)),
+    }
+}
+
+/// The reply to what is told to a question: a list and lengths in a format, the log as CSV, a diagram as SVG, and any
+/// other answer as JSON.
+fn told_reply(
+    alloc: Global,
+    most: usize,
+    format: Format,
+    told: Told<'_>,
+) -> Result<Response, AllocError>
+    ensures { IfOk result (λ reply. ShowsTold format told.entry (answer_of reply)) }
 {
     match told {
         Told::At { route, found } => at_reply(alloc, &route, &found),
@@ -104,26 +129,29 @@ fn told_reply(alloc: Global, most: usize, told: Told<'_>) -> Result<Response, Al
         Told::Totals(totals) => Ok(found_reply(totals_json(alloc, totals.as_slice())?)),
         Told::Found(rows) => Ok(found_reply(found_json(alloc, rows.as_slice())?)),
         Told::Where(found) => Ok(found_reply(whereabouts_json(alloc, &found)?)),
-        Told::Lengths(rows) => Ok(found_reply(lengths_json(alloc, rows.as_slice())?)),
-        Told::Listing { listing, inventory } => listing_reply(alloc, most, inventory, &listing),
+        Told::Lengths(rows) => lengths_reply(alloc, most, format, rows.as_slice()),
+        Told::Listing { listing, inventory } => {
+            listing_reply(alloc, most, format, inventory, &listing)
+        }
         Told::Health(edits) => Ok(found_reply(health_json(alloc, edits)?)),
     }
 }
 
-/// The reply to what is told to a question: its answer, or why it is refused. It is no longer made once it has so many
-/// bytes.
+/// The reply to what is told to a question: its answer, or why it is refused. The format is that of lists and lengths. It
+/// is no longer made once it has so many bytes.
 ///
 /// # Errors
 /// When memory or so many bytes do not suffice; the reply may be the empty 503 then, too.
 pub fn reply_to(
     alloc: Global,
     most: usize,
+    format: Format,
     told: Result<Told<'_>, AskFault>,
 ) -> Result<Response, AllocError>
-    ensures { IfOk result (λ reply. IsReplyTo told.entry (answer_of reply)) }
+    ensures { IfOk result (λ reply. IsReplyTo format told.entry (answer_of reply)) }
 {
     match told {
-        Ok(told) => told_reply(alloc, most, told),
+        Ok(told) => told_reply(alloc, most, format, told),
         Err(fault) => refusal(alloc, fault),
     }
 }

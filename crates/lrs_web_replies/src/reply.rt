@@ -36,9 +36,9 @@ pub(crate) fn found_reply(bytes: Vec<u8>) -> Response
     json_reply(StatusCode::OK, bytes)
 }
 
-/// The reply with an edit sheet, as these bytes of CSV.
-pub(crate) fn sheet_reply(bytes: Vec<u8>) -> Response
-    ensures { answer_of result ≡ spec.sheet_answer bytes.items }
+/// The reply with a list or an edit sheet, as these bytes of CSV.
+pub(crate) fn csv_reply(bytes: Vec<u8>) -> Response
+    ensures { answer_of result ≡ spec.csv_answer bytes.items }
 {
     reply_with(StatusCode::OK, ContentType::Csv, bytes)
 }

@@ -1,4 +1,4 @@
--- The router finds a resource exactly by the paths that name it.
+-- The router finds a resource and a format exactly by the paths that name them.
 use Rattle.std.proofs.Common.{◌≡◌, ◌⊎◌, inl, inr, ℕ, zero, suc, ◌<◌, List, [], ◌∷◌, ◌++◌, length, get_or, map, take, drop, Bool, true, false, cond, ◌==◌, ltb, Option, None, Some, option_map, refl, sym, ap, ◌∙◌, arith, codes, Contains}
 use Rattle.std.proofs.lemmas.Bool.Decides.{nat_tests}
 use Rattle.std.proofs.lemmas.Bool.{and_parts}
@@ -7,9 +7,9 @@ use Rattle.std.specs.List.{list_all}
 use Rattle.matchit.specs.Rows.{RowsOf, param_token}
 use Rattle.matchit.specs.Router.{RouteOf}
 use Rattle.matchit.specs.Seek.{first, has_slash}
-use Rattle.lrs_web_requests.specs.declared.paths.Resource.{Resource}
 use Rattle.lrs_web_requests.specs.declared.paths.Resource.TheVariants.{Route}
-use Rattle.lrs_web_requests.specs.Routes.{named, plain, rows, resource_at}
+use Rattle.lrs_web_requests.specs.declared.paths.Format.TheVariants.{Json}
+use Rattle.lrs_web_requests.specs.Routes.{Named, with_name, plain, rows, named_at}
 use Rattle.lrs_web_requests.specs.Paths.{literal_paths, slash, IsName, Names, FindsWhatIsNamed, FindsNothingElse}
 use Rattle.lrs_web_requests.proofs.LiteralLemmas.{Fits, IsWord, HasFit, AllSimple, text_from, simple_literal, simple_named, fits_literal, fits_named, first_reached, reached_fits, reached_name}
 use Rattle.matchit.proofs.OnLiterals.{matchit_on_literals}
@@ -44,24 +44,24 @@ word_of_name name h = (h.some_byte, by (has_slash name) refl)
     by false e = e
 
 -- the rows of paths that stand for themselves
-abbrev rows_for : List (List ℕ × Resource) → RowsOf (RouteOf Resource)
+abbrev rows_for : List (List ℕ × Named) → RowsOf (RouteOf Named)
 rows_for entries = map (λ entry. plain entry.0 entry.1) entries
 
 -- the paths in front of that of a route, and those behind it
-abbrev front : List (List ℕ × Resource)
-front = take 13 literal_paths
+abbrev front : List (List ℕ × Named)
+front = take 19 literal_paths
 
-abbrev back : List (List ℕ × Resource)
-back = drop 13 literal_paths
+abbrev back : List (List ℕ × Named)
+back = drop 19 literal_paths
 
 -- the path of a route, and what is behind it
-abbrev route_and_back : RowsOf (RouteOf Resource)
-route_and_back = named (codes "/v1/route/") Route ∷ (rows_for back ++ [])
+abbrev route_and_back : RowsOf (RouteOf Named)
+route_and_back = with_name (codes "/v1/route/") (Route, Json) ∷ (rows_for back ++ [])
 
-abbrev are_bytes : List ℕ × Resource → Bool
+abbrev are_bytes : List ℕ × Named → Bool
 are_bytes entry = list_all (λ b. ltb b 256) entry.0
 
-simple_rows : (entries : List (List ℕ × Resource)) (more : RowsOf (RouteOf Resource)) → list_all are_bytes entries ≡ true → AllSimple more → AllSimple (rows_for entries ++ more)
+simple_rows : (entries : List (List ℕ × Named)) (more : RowsOf (RouteOf Named)) → list_all are_bytes entries ≡ true → AllSimple more → AllSimple (rows_for entries ++ more)
 simple_rows [] more bytes simple = simple
 simple_rows (entry ∷ entries) more bytes simple =
     let both = and_parts (are_bytes entry) (list_all are_bytes entries) bytes in
@@ -72,13 +72,13 @@ unfolding rows
 rows_simple = simple_rows front route_and_back refl (simple_named (codes "/v1/route/") (text_from (codes "/v1/route/") refl), simple_rows back [] refl tt)
 
 -- the row that fits is of one of these paths, or another one
-fits_of : (entries : List (List ℕ × Resource)) (more : RowsOf (RouteOf Resource)) (path : List ℕ) (route : RouteOf Resource) → list_all are_bytes entries ≡ true
+fits_of : (entries : List (List ℕ × Named)) (more : RowsOf (RouteOf Named)) (path : List ℕ) (route : RouteOf Named) → list_all are_bytes entries ≡ true
     → HasFit (rows_for entries ++ more) path route → Contains entries (path, route.value) ⊎ HasFit more path route
 fits_of [] more path route bytes fit = inr fit
 fits_of (entry ∷ entries) more path route bytes (inl (same, fits)) =
     let both = and_parts (are_bytes entry) (list_all are_bytes entries) bytes in
     let whole : path ≡ entry.0 = fits_literal entry.0 path (text_from entry.0 both.0) fits in
-    let value : entry.1 ≡ route.value = ap (λ (r : RouteOf Resource). r.value) same in
+    let value : entry.1 ≡ route.value = ap (λ (r : RouteOf Named). r.value) same in
     inl (zero, omega arith, λ k. (sym whole k, value k))
 fits_of (entry ∷ entries) more path route bytes (inr fit) =
     elim (fits_of entries more path route (and_parts (are_bytes entry) (list_all are_bytes entries) bytes).1 fit) [
@@ -86,12 +86,12 @@ fits_of (entry ∷ entries) more path route bytes (inr fit) =
       | inr other ↦ inr other
     ]
 
-names_route : (path : List ℕ) (resource : Resource) → Route ≡ resource → Fits (codes "/v1/route/" ++ param_token ∷ []) path → Names path resource
-names_route path resource same fits =
+names_route : (path : List ℕ) (named : Named) → (Route, Json) ≡ named → Fits (codes "/v1/route/" ++ param_token ∷ []) path → Names path named
+names_route path named same fits =
     let found = fits_named (codes "/v1/route/") path (text_from (codes "/v1/route/") refl) fits in
     inr (sym same, (found.0, found.1, name_of_word found.0 found.2))
 
-named_by_fit : (path : List ℕ) (route : RouteOf Resource) → HasFit rows path route → Names path route.value
+named_by_fit : (path : List ℕ) (route : RouteOf Named) → HasFit rows path route → Names path route.value
 unfolding rows
 named_by_fit path route fit =
     elim (fits_of front route_and_back path route refl fit) [
@@ -105,41 +105,41 @@ named_by_fit path route fit =
       ]
     ]
 
-found_is_named : (path : List ℕ) (resource : Resource) → resource_at path ≡ Some resource → Names path resource
-found_is_named path resource e = by (first rows path) refl e
+found_is_named : (path : List ℕ) (named : Named) → named_at path ≡ Some named → Names path named
+found_is_named path named e = by (first rows path) refl e
   where
-    by : (o : Option (RouteOf Resource)) → first rows path ≡ o → option_map (λ route. route.value) o ≡ Some resource → Names path resource
+    by : (o : Option (RouteOf Named)) → first rows path ≡ o → option_map (λ route. route.value) o ≡ Some named → Names path named
     by None at found = absurd (cc)
     by (Some route) at found =
         let fit = reached_fits rows path route (sym (first_reached rows path rows_simple) ∙ at) in
-        let same : route.value ≡ resource = cc in
+        let same : route.value ≡ named = cc in
         rw (← same) (named_by_fit path route fit)
 
-IsFound : List ℕ × Resource → Type 0
-IsFound entry = resource_at entry.0 ≡ Some entry.1
+IsFound : List ℕ × Named → Type 0
+IsFound entry = named_at entry.0 ≡ Some entry.1
 
-literal_is_found : (path : List ℕ) (resource : Resource) → Contains literal_paths (path, resource) → resource_at path ≡ Some resource
+literal_is_found : (path : List ℕ) (named : Named) → Contains literal_paths (path, named) → named_at path ≡ Some named
 unfolding matchit_on_literals rows IsFound
-literal_is_found path resource has =
-    All-contains IsFound literal_paths (path, resource) (All-from_recursion IsFound literal_paths (refl, (refl, (refl, (refl, (refl, (refl, (refl, (refl, (refl, (refl, (refl, (refl, (refl, (refl, (refl, (refl, (refl, (refl, (refl, (refl, tt))))))))))))))))))))) has
+literal_is_found path named has =
+    All-contains IsFound literal_paths (path, named) (All-from_recursion IsFound literal_paths (refl, (refl, (refl, (refl, (refl, (refl, (refl, (refl, (refl, (refl, (refl, (refl, (refl, (refl, (refl, (refl, (refl, (refl, (refl, (refl, (refl, (refl, (refl, (refl, (refl, (refl, (refl, (refl, tt))))))))))))))))))))))))))))) has
 
-route_is_found : (word : List ℕ) → IsWord word → resource_at (codes "/v1/route/" ++ word) ≡ Some Route
+route_is_found : (word : List ℕ) → IsWord word → named_at (codes "/v1/route/" ++ word) ≡ Some (Route, Json)
 unfolding rows
 route_is_found [] h = absurd (h.0 refl)
 route_is_found (b ∷ word) h =
-    rw (first_reached rows (codes "/v1/route/" ++ b ∷ word) rows_simple, reached_name (named (codes "/v1/route/") Route).1 b word h.1) refl
+    rw (first_reached rows (codes "/v1/route/" ++ b ∷ word) rows_simple, reached_name (with_name (codes "/v1/route/") (Route, Json)).1 b word h.1) refl
 
-named_is_found : (path : List ℕ) (resource : Resource) → Names path resource → resource_at path ≡ Some resource
-named_is_found path resource (inl has) = literal_is_found path resource has
-named_is_found path resource (inr route) =
+named_is_found : (path : List ℕ) (named : Named) → Names path named → named_at path ≡ Some named
+named_is_found path named (inl has) = literal_is_found path named has
+named_is_found path named (inr route) =
     rw (route.0, route.1.1) (route_is_found route.1.0 (word_of_name route.1.0 route.1.2))
 
 pub finds_what_is_named : FindsWhatIsNamed
-finds_what_is_named path resource = (found_is_named path resource, named_is_found path resource)
+finds_what_is_named path named = (found_is_named path named, named_is_found path named)
 
 pub finds_nothing_else : FindsNothingElse
-finds_nothing_else path = (λ none resource names. let found = named_is_found path resource names in cc, by (resource_at path) refl)
+finds_nothing_else path = (λ none named names. let found = named_is_found path named names in cc, by (named_at path) refl)
   where
-    by : (o : Option Resource) → resource_at path ≡ o → ((resource : Resource) → Names path resource → ⊥) → resource_at path ≡ None
+    by : (o : Option Named) → named_at path ≡ o → ((named : Named) → Names path named → ⊥) → named_at path ≡ None
     by None at unnamed = at
-    by (Some resource) at unnamed = absurd (unnamed resource (found_is_named path resource at))
+    by (Some named) at unnamed = absurd (unnamed named (found_is_named path named at))

@@ -1,17 +1,23 @@
--- Which resource a path names: twenty paths stand for themselves, and the path of a route ends in the route's name.
+-- What a path names, a resource and the format of its answer: 28 paths stand for themselves, and the path of a route ends in the route's name.
 use Rattle.std.specs.Prelude.{◌≡◌, ◌≢◌, ◌⊎◌, ◌↔◌, ℕ, List, [], ◌∷◌, ◌++◌, codes, None, Some, Contains}
 use Rattle.lrs_web_requests.specs.declared.paths.Resource.{Resource}
 use Rattle.lrs_web_requests.specs.declared.paths.Resource.TheVariants.{At, Route, Segments, Totals, Translate, Diagram, Routes, Find, Log, Health, Links, Classes, Refs, Marks, Rows, Lengths, Gone, Where, Edits, Surveys, Questions}
-use Rattle.lrs_web_requests.specs.Routes.{resource_at}
+use Rattle.lrs_web_requests.specs.declared.paths.Format.TheVariants.{Json, Csv}
+use Rattle.lrs_web_requests.specs.Routes.{Named, named_at}
 
 -- the paths that stand for themselves
-abbrev pub literal_paths : List (List ℕ × Resource)
+abbrev pub literal_paths : List (List ℕ × Named)
 literal_paths =
-    (codes "/health", Health) ∷ (codes "/v1/at", At) ∷ (codes "/v1/classes", Classes) ∷ (codes "/v1/diagram", Diagram)
-    ∷ (codes "/v1/edits", Edits) ∷ (codes "/v1/find", Find) ∷ (codes "/v1/gone", Gone) ∷ (codes "/v1/lengths", Lengths)
-    ∷ (codes "/v1/links", Links) ∷ (codes "/v1/log", Log) ∷ (codes "/v1/marks", Marks) ∷ (codes "/v1/questions", Questions)
-    ∷ (codes "/v1/refs", Refs) ∷ (codes "/v1/routes", Routes) ∷ (codes "/v1/rows", Rows) ∷ (codes "/v1/segments", Segments) ∷ (codes "/v1/surveys", Surveys) ∷ (codes "/v1/totals", Totals)
-    ∷ (codes "/v1/translate", Translate) ∷ (codes "/v1/where", Where) ∷ []
+    (codes "/health", (Health, Json)) ∷ (codes "/v1/at", (At, Json)) ∷ (codes "/v1/classes", (Classes, Json))
+    ∷ (codes "/v1/classes.csv", (Classes, Csv)) ∷ (codes "/v1/diagram", (Diagram, Json)) ∷ (codes "/v1/edits", (Edits, Json))
+    ∷ (codes "/v1/find", (Find, Json)) ∷ (codes "/v1/gone", (Gone, Json)) ∷ (codes "/v1/gone.csv", (Gone, Csv))
+    ∷ (codes "/v1/lengths", (Lengths, Json)) ∷ (codes "/v1/lengths.csv", (Lengths, Csv)) ∷ (codes "/v1/links", (Links, Json))
+    ∷ (codes "/v1/links.csv", (Links, Csv)) ∷ (codes "/v1/log", (Log, Json)) ∷ (codes "/v1/marks", (Marks, Json))
+    ∷ (codes "/v1/marks.csv", (Marks, Csv)) ∷ (codes "/v1/questions", (Questions, Json)) ∷ (codes "/v1/refs", (Refs, Json))
+    ∷ (codes "/v1/refs.csv", (Refs, Csv)) ∷ (codes "/v1/routes", (Routes, Json)) ∷ (codes "/v1/routes.csv", (Routes, Csv))
+    ∷ (codes "/v1/rows", (Rows, Json)) ∷ (codes "/v1/rows.csv", (Rows, Csv)) ∷ (codes "/v1/segments", (Segments, Json))
+    ∷ (codes "/v1/surveys", (Surveys, Json)) ∷ (codes "/v1/totals", (Totals, Json)) ∷ (codes "/v1/translate", (Translate, Json))
+    ∷ (codes "/v1/where", (Where, Json)) ∷ []
 
 -- the code of a slash
 abbrev pub slash : ℕ
@@ -27,13 +33,13 @@ abbrev pub IsOfRoute : List ℕ → Type 0
 IsOfRoute path = (name : List ℕ) × (path ≡ codes "/v1/route/" ++ name) × IsName name
 
 -- what a path names
-abbrev pub Names : List ℕ → Resource → Type 0
-Names path resource = Contains literal_paths (path, resource) ⊎ ((resource ≡ Route) × IsOfRoute path)
+abbrev pub Names : List ℕ → Named → Type 0
+Names path named = Contains literal_paths (path, named) ⊎ ((named ≡ (Route, Json)) × IsOfRoute path)
 
--- The router finds a resource exactly by the paths that name it.
+-- The router finds a resource and a format exactly by the paths that name them.
 abbrev pub FindsWhatIsNamed : Type 0
-FindsWhatIsNamed = (path : List ℕ) (resource : Resource) → (resource_at path ≡ Some resource) ↔ Names path resource
+FindsWhatIsNamed = (path : List ℕ) (named : Named) → (named_at path ≡ Some named) ↔ Names path named
 
 -- The router finds nothing exactly by the paths that name nothing.
 abbrev pub FindsNothingElse : Type 0
-FindsNothingElse = (path : List ℕ) → (resource_at path ≡ None) ↔ ((resource : Resource) → Names path resource → ⊥)
+FindsNothingElse = (path : List ℕ) → (named_at path ≡ None) ↔ ((named : Named) → Names path named → ⊥)

@@ -1,5 +1,5 @@
 -- The parameters of a query (the URL Standard, section 5).
-use Rattle.std.specs.Prelude.{ℕ, List, [], ◌∷◌, Option, None, Some, if◌then◌else◌, bytes_eq}
+use Rattle.std.specs.Prelude.{ℕ, Bool, List, [], ◌∷◌, Option, None, Some, if◌then◌else◌, bytes_eq}
 use Rattle.std.specs.Str.Lossy.{utf8_lossy}
 use Rattle.form_urlencoded.specs.Form.{decode, raw_pairs}
 
@@ -24,3 +24,12 @@ all_values name (pair ∷ pairs) = if bytes_eq (text_of pair.0) name then text_o
 -- the values of a parameter that may be given more than once
 abbrev pub parameters : List ℕ → List ℕ → List (List ℕ)
 parameters name query = all_values name (raw_pairs query)
+
+-- the first name that is not known
+abbrev pub first_unknown : (List ℕ → Bool) → List (List ℕ × List ℕ) → Option (List ℕ)
+first_unknown knows [] = None
+first_unknown knows (pair ∷ pairs) = if knows (text_of pair.0) then first_unknown knows pairs else Some (text_of pair.0)
+
+-- the name of the first parameter of the query that is not known
+abbrev pub unknown_name : (List ℕ → Bool) → List ℕ → Option (List ℕ)
+unknown_name knows query = first_unknown knows (raw_pairs query)

@@ -14,23 +14,24 @@ use Rattle.lrs_web_requests.specs.declared.response.RequestMethod.TheVariants.{G
 use Rattle.lrs_web_requests.specs.Text.{method_name}
 use Rattle.lrs_web_requests.specs.declared.paths.Resource.{Resource}
 use Rattle.lrs_web_requests.specs.declared.paths.Resource.TheVariants.{At, Route, Segments, Totals, Translate, Diagram, Routes, Find, Log, Health, Links, Classes, Refs, Marks, Rows, Lengths, Gone, Where, Edits, Surveys, Questions}
-use Rattle.lrs_web_requests.specs.Routes.{resource_at}
+use Rattle.lrs_web_requests.specs.declared.paths.Format.{Format}
+use Rattle.lrs_web_requests.specs.Routes.{Named, named_at}
 use Rattle.lrs_web_requests.specs.declared.request.Request.{Request}
 use Rattle.lrs_web_requests.specs.declared.request.Request.TheVariants as task
 
--- what is asked for: nothing that is served, the page, which is this text, an answer to a question, with what it is asked by, or that a sheet is done, gone on with or, of questions, answered
+-- what is asked for: nothing that is served, the page, which is this text, an answer to a question in a format, with what it is asked by, or that a sheet is done, gone on with or, of questions, answered
 pub data Asked : Type 0 where
   refused : ℕ → Asked
   not_allowed : RequestMethod → Asked
   page : List ℕ → Asked
-  query : Resource → List ℕ → Asked
+  query : Resource → Format → List ℕ → Asked
   sheet : Resource → Bool → List ℕ → Asked
 
 abbrev pub asked_by : Request → Asked
 asked_by (task.Refused status) = refused status
 asked_by (task.NotAllowed verb) = not_allowed verb
 asked_by (task.Page text) = page text.now
-asked_by (task.Query resource text) = query resource text.items
+asked_by (task.Query resource format text) = query resource format text.items
 asked_by (task.Sheet resource resumes bytes) = sheet resource resumes bytes.items
 
 abbrev pub is_question_mark : ℕ → Bool
@@ -95,19 +96,19 @@ with_length resource resumes (Err status) rest = refused status
 with_length resource resumes (Ok length) rest = with_body resource resumes (body_at length rest)
 
 -- by the verb of the resource; rest is what follows the head
-abbrev pub by_verb : RequestMethod → Resource → List ℕ → List Field → List ℕ → Asked
-by_verb Get resource target fields rest = query resource (argument_of resource target)
-by_verb Post resource target fields rest = with_length resource (resumes target) (body_length fields) rest
+abbrev pub by_verb : RequestMethod → Named → List ℕ → List Field → List ℕ → Asked
+by_verb Get (resource, format) target fields rest = query resource format (argument_of resource target)
+by_verb Post (resource, format) target fields rest = with_length resource (resumes target) (body_length fields) rest
 
-abbrev pub at_resource : Option Resource → List ℕ → List ℕ → List Field → List ℕ → Asked
+abbrev pub at_resource : Option Named → List ℕ → List ℕ → List Field → List ℕ → Asked
 at_resource None method target fields rest = refused 404
-at_resource (Some resource) method target fields rest =
-    if bytes_eq method (method_name (verb_of resource)) then by_verb (verb_of resource) resource target fields rest
+at_resource (Some (resource, format)) method target fields rest =
+    if bytes_eq method (method_name (verb_of resource)) then by_verb (verb_of resource) (resource, format) target fields rest
     else not_allowed (verb_of resource)
 
 -- what a head and the bytes after it ask for
 abbrev pub asked_at : List ℕ → List ℕ → List Field → List ℕ → Asked
-asked_at method target fields rest = at_resource (resource_at (path_of target)) method target fields rest
+asked_at method target fields rest = at_resource (named_at (path_of target)) method target fields rest
 
 -- the text of the page that is shown, or none
 abbrev pub page_text : Option (Bor (List ℕ)) → Option (List ℕ)
@@ -146,7 +147,7 @@ abbrev pub IsServed : Asked → Type 0
 IsServed (refused status) = ⊤
 IsServed (not_allowed verb) = ⊤
 IsServed (page text) = ⊤
-IsServed (query resource argument) = verb_of resource ≡ Get
+IsServed (query resource format argument) = verb_of resource ≡ Get
 IsServed (sheet resource resumes bytes) = verb_of resource ≡ Post
 
 -- what an input asks for where this page is shown, or none; one whose head has several faults may be refused for either

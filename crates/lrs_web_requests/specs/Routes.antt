@@ -6,69 +6,91 @@ use Rattle.matchit.specs.Router.{RouteOf}
 use Rattle.matchit.specs.Seek.{first}
 use Rattle.lrs_web_requests.specs.declared.paths.Resource.{Resource}
 use Rattle.lrs_web_requests.specs.declared.paths.Resource.TheVariants.{At, Route, Segments, Totals, Translate, Diagram, Routes, Find, Log, Health, Links, Classes, Refs, Marks, Rows, Lengths, Gone, Where, Edits, Surveys, Questions}
+use Rattle.lrs_web_requests.specs.declared.paths.Format.{Format}
+use Rattle.lrs_web_requests.specs.declared.paths.Format.TheVariants.{Json, Csv}
+
+-- what a path names: a resource, and the format of its answer
+abbrev pub Named : Type 0
+Named = Resource × Format
 
 -- the row of a path that stands for itself
-abbrev pub plain : List ℕ → Resource → List ℕ × RouteOf Resource
-plain path resource = (path, record { pattern = path; text = path; names = []; value = resource })
+abbrev pub plain : List ℕ → Named → List ℕ × RouteOf Named
+plain path named = (path, record { pattern = path; text = path; names = []; value = named })
 
 -- the row of a path that ends in one parameter
-abbrev pub named : List ℕ → Resource → List ℕ × RouteOf Resource
-named path resource = (path ++ param_token ∷ [], record { pattern = path ++ param_token ∷ []; text = path ++ codes "{name}"; names = (11, 15) ∷ []; value = resource })
+abbrev pub with_name : List ℕ → Named → List ℕ × RouteOf Named
+with_name path named = (path ++ param_token ∷ [], record { pattern = path ++ param_token ∷ []; text = path ++ codes "{name}"; names = (11, 15) ∷ []; value = named })
 
-unfoldable pub rows : RowsOf (RouteOf Resource)
+-- the row of a resource that is answered as JSON
+abbrev pub json : List ℕ → Resource → List ℕ × RouteOf Named
+json path resource = plain path (resource, Json)
+
+-- the row of a list that is answered as CSV
+abbrev pub csv : List ℕ → Resource → List ℕ × RouteOf Named
+csv path resource = plain path (resource, Csv)
+
+unfoldable pub rows : RowsOf (RouteOf Named)
 rows =
-    plain (codes "/health") Health ∷ plain (codes "/v1/at") At ∷ plain (codes "/v1/classes") Classes ∷ plain (codes "/v1/diagram") Diagram
-    ∷ plain (codes "/v1/edits") Edits ∷ plain (codes "/v1/find") Find ∷ plain (codes "/v1/gone") Gone ∷ plain (codes "/v1/lengths") Lengths
-    ∷ plain (codes "/v1/links") Links ∷ plain (codes "/v1/log") Log ∷ plain (codes "/v1/marks") Marks ∷ plain (codes "/v1/questions") Questions
-    ∷ plain (codes "/v1/refs") Refs ∷ named (codes "/v1/route/") Route ∷ plain (codes "/v1/routes") Routes ∷ plain (codes "/v1/rows") Rows ∷ plain (codes "/v1/segments") Segments ∷ plain (codes "/v1/surveys") Surveys
-    ∷ plain (codes "/v1/totals") Totals ∷ plain (codes "/v1/translate") Translate ∷ plain (codes "/v1/where") Where ∷ []
+    json (codes "/health") Health ∷ json (codes "/v1/at") At ∷ json (codes "/v1/classes") Classes ∷ csv (codes "/v1/classes.csv") Classes
+    ∷ json (codes "/v1/diagram") Diagram ∷ json (codes "/v1/edits") Edits ∷ json (codes "/v1/find") Find ∷ json (codes "/v1/gone") Gone
+    ∷ csv (codes "/v1/gone.csv") Gone ∷ json (codes "/v1/lengths") Lengths ∷ csv (codes "/v1/lengths.csv") Lengths ∷ json (codes "/v1/links") Links
+    ∷ csv (codes "/v1/links.csv") Links ∷ json (codes "/v1/log") Log ∷ json (codes "/v1/marks") Marks ∷ csv (codes "/v1/marks.csv") Marks
+    ∷ json (codes "/v1/questions") Questions ∷ json (codes "/v1/refs") Refs ∷ csv (codes "/v1/refs.csv") Refs ∷ with_name (codes "/v1/route/") (Route, Json)
+    ∷ json (codes "/v1/routes") Routes ∷ csv (codes "/v1/routes.csv") Routes ∷ json (codes "/v1/rows") Rows ∷ csv (codes "/v1/rows.csv") Rows
+    ∷ json (codes "/v1/segments") Segments ∷ json (codes "/v1/surveys") Surveys ∷ json (codes "/v1/totals") Totals ∷ json (codes "/v1/translate") Translate
+    ∷ json (codes "/v1/where") Where ∷ []
 
 -- what a path names
-abbrev pub resource_at : List ℕ → Option Resource
-resource_at path = option_map (λ route. route.value) (first rows path)
+abbrev pub named_at : List ℕ → Option Named
+named_at path = option_map (λ route. route.value) (first rows path)
 
 -- answers about a place, a route or an asset
-abbrev pub is_answer : Resource → Bool
-is_answer At = true
-is_answer Diagram = true
-is_answer Gone = true
-is_answer Segments = true
-is_answer Translate = true
-is_answer Where = true
-is_answer resource = false
+abbrev pub is_answer : Named → Bool
+is_answer (At, Json) = true
+is_answer (Diagram, Json) = true
+is_answer (Gone, Json) = true
+is_answer (Segments, Json) = true
+is_answer (Translate, Json) = true
+is_answer (Where, Json) = true
+is_answer named = false
 
 -- answers about the whole inventory
-abbrev pub is_summary : Resource → Bool
-is_summary Health = true
-is_summary Lengths = true
-is_summary Log = true
-is_summary Totals = true
-is_summary resource = false
+abbrev pub is_summary : Named → Bool
+is_summary (Health, Json) = true
+is_summary (Lengths, Json) = true
+is_summary (Log, Json) = true
+is_summary (Totals, Json) = true
+is_summary named = false
 
 -- lists, and one route
-abbrev pub is_list : Resource → Bool
-is_list Classes = true
-is_list Find = true
-is_list Links = true
-is_list Refs = true
-is_list Marks = true
-is_list Route = true
-is_list Routes = true
-is_list Rows = true
-is_list resource = false
+abbrev pub is_list : Named → Bool
+is_list (Classes, Json) = true
+is_list (Find, Json) = true
+is_list (Links, Json) = true
+is_list (Refs, Json) = true
+is_list (Marks, Json) = true
+is_list (Route, Json) = true
+is_list (Routes, Json) = true
+is_list (Rows, Json) = true
+is_list named = false
 
 -- what takes sheets
-abbrev pub is_sheet : Resource → Bool
-is_sheet Edits = true
-is_sheet Questions = true
-is_sheet Surveys = true
-is_sheet resource = false
+abbrev pub is_sheet : Named → Bool
+is_sheet (Edits, Json) = true
+is_sheet (Questions, Json) = true
+is_sheet (Surveys, Json) = true
+is_sheet named = false
+
+-- lists as CSV
+abbrev pub is_table : Named → Bool
+is_table (resource, Csv) = true
+is_table (resource, Json) = false
 
 -- the rows of some resources
-abbrev pub rows_of : (Resource → Bool) → RowsOf (RouteOf Resource)
+abbrev pub rows_of : (Named → Bool) → RowsOf (RouteOf Named)
 rows_of is = filter (λ row. is row.1.value) rows
 
 -- a router with these rows too, put in one after another
-abbrev pub with_all : RowsOf (RouteOf Resource) → RowsOf (RouteOf Resource) → RowsOf (RouteOf Resource)
+abbrev pub with_all : RowsOf (RouteOf Named) → RowsOf (RouteOf Named) → RowsOf (RouteOf Named)
 with_all [] router = router
 with_all (row ∷ rest) router = with_all rest (placed row router)

@@ -1,8 +1,9 @@
 //! The parameters of a query.
 
-ghost use Rattle.std.specs.Prelude.{◌≡◌, IfOk, map, option_map};
+ghost use Rattle.std.specs.Prelude.{◌≡◌, IfOk, bytes_eq, map, option_map};
 ghost use Rattle.std.specs.Cow.{cow_str_bytes};
-ghost use Rattle.lrs_web_requests.specs.Query.{parameter, parameters};
+ghost use Rattle.std.specs.List.{list_any};
+ghost use Rattle.lrs_web_requests.specs.Query.{parameter, parameters, unknown_name};
 
 use form_urlencoded::parse;
 use std::alloc::{AllocError, Global};
@@ -42,4 +43,35 @@ pub fn values_of<'q>(
         }
     }
     Ok(values)
+}
+
+fn is_name(name: &str, known: &str) -> bool
+    ensures { result ≡ bytes_eq name.now known.now }
+{
+    name == known
+}
+
+/// Whether a name is one of these.
+fn is_among(known: &[&str], name: &str) -> bool
+    ensures { result ≡ list_any (λ one. bytes_eq name.now one.now) known.now }
+{
+    known.iter().any(|one| is_name(name, one))
+}
+
+/// The name of the first pair that has none of the known ones.
+pub fn unknown_name<'q>(
+    alloc: Global,
+    query: &'q [u8],
+    known: &[&str],
+) -> Result<Option<CowStr<'q>>, AllocError>
+    ensures { IfOk result (λ name. option_map cow_str_bytes name
+        ≡ unknown_name (λ text. list_any (λ one. bytes_eq text one.now) known.now) query.now) }
+{
+    for pair in parse(alloc, query) {
+        let (key, _) = pair?;
+        if !is_among(known, key.as_str()) {
+            return Ok(Some(key));
+        }
+    }
+    Ok(None)
 }

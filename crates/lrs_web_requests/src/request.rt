@@ -11,7 +11,7 @@ ghost use Rattle.lrs_web_requests.specs.Request.{asked_by, asked_at, asked_ahead
 use crate::body::{BodyFault, read_body};
 use crate::framing::length_of_body;
 use crate::head::{Outcome, read_head};
-use crate::paths::{Resource, find};
+use crate::paths::{Format, Resource, find};
 use crate::query::value_of;
 use crate::response::RequestMethod;
 use crate::sites::is_own;
@@ -37,8 +37,8 @@ pub enum Request {
     NotAllowed(RequestMethod),
     /// The page that is shown.
     Page(&'static str),
-    /// An answer: to a query, or of a route to the name in its path.
-    Query(Resource, Vec<u8>),
+    /// An answer in a format: to a query, or of a route to the name in its path.
+    Query(Resource, Format, Vec<u8>),
     /// That the sheet in the body is done, or that it goes on behind its last record that is an edit; or that the questions
     /// in the body are answered, whatever the second part says.
     Sheet(Resource, bool, Vec<u8>),
@@ -170,7 +170,7 @@ fn read_sheet<R: Read>(
 
 fn read_task<R: Read>(
     alloc: Global,
-    router: &Router<Resource>,
+    router: &Router<(Resource, Format)>,
     reader: &mut R,
     head: Head<'_>,
 ) -> Result<Request, BodyFault>
@@ -181,7 +181,7 @@ fn read_task<R: Read>(
         asked_by task ≡ asked_at head.entry.method.now head.entry.target.now (map (header_bytes head.entry.text.now) head.entry.fields.now) (head.entry.front.now ++ more))) }
 {
     let (path, _) = split_target(head.target);
-    let Some(resource) = find(router, path) else {
+    let Some((resource, format)) = find(router, path) else {
         return Ok(Request::Refused(StatusCode::NOT_FOUND));
     };
     let verb = verb_for(resource);
@@ -191,7 +191,8 @@ fn read_task<R: Read>(
     match verb {
         RequestMethod::Get => {
             let asked_by = argument(resource, head.target);
-            Ok(Request::Query(resource, Vec::from_slice(alloc, asked_by)?))
+            let argument = Vec::from_slice(alloc, asked_by)?;
+            Ok(Request::Query(resource, format, argument))
         }
         RequestMethod::Post => read_sheet(alloc, reader, resource, head),
     }
@@ -247,7 +248,7 @@ fn read_with<R: Read>(
 /// What a request asks for whose head has been read.
 fn read_on_from<R: Read>(
     alloc: Global,
-    router: &Router<Resource>,
+    router: &Router<(Resource, Format)>,
     page: Option<&'static str>,
     reader: &mut R,
     text: &[u8],
@@ -280,7 +281,7 @@ fn read_on_from<R: Read>(
 /// comes from a page of another site: it is refused with 403 before its body is read.
 pub fn receive<R: Read>(
     alloc: Global,
-    router: &Router<Resource>,
+    router: &Router<(Resource, Format)>,
     page: Option<&'static str>,
     reader: &mut R,
 ) -> Result<Request, BodyFault>

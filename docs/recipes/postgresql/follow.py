@@ -62,9 +62,9 @@ COLUMNS = {
     "pieces": "inventory, route, start, link, from_mm, to_mm, direction",
     "marks": "inventory, route, chainage, measure",
     "referents": "inventory, referent, route, chainage, measure",
-    "rows": "inventory, route, from_mm, to_mm, side, class, asset, value, offset_mm, entered_by, from_measure, to_measure",
+    "rows": "inventory, route, from_mm, to_mm, side, class, asset, value, offset_mm, entry, from_measure, to_measure",
 }
-ROW = "from to side class asset value offset entered_by from_measure to_measure".split()
+ROW = "from to side class asset value offset entry from_measure to_measure".split()
 
 
 class Fault(Exception):

@@ -80,7 +80,7 @@ CREATE TABLE roadlrs.rows (
     asset bigint,
     value text NOT NULL,
     offset_mm integer NOT NULL,
-    entered_by integer NOT NULL,
+    entry integer NOT NULL,
     from_measure text NOT NULL,
     to_measure text NOT NULL,
     from_number numeric GENERATED ALWAYS AS (roadlrs.number_of(from_measure)) STORED,

@@ -7,7 +7,7 @@ pub static PAGE: &str = r##"<!doctype html>
 <meta charset="utf-8">
 <meta name="viewport" content="width=device-width, initial-scale=1">
 <meta name="color-scheme" content="light dark">
-<meta http-equiv="Content-Security-Policy" content="default-src 'none'; style-src 'unsafe-inline'; script-src 'sha256-cXwePLMEQ+gIKC9gE4qYLxj+3u0XLn+72YxgQRjw58M='; img-src data:; connect-src 'self'; form-action 'none'; base-uri 'none'">
+<meta http-equiv="Content-Security-Policy" content="default-src 'none'; style-src 'unsafe-inline'; script-src 'sha256-aNOs8oMjdwsWpquVLzyZIU8nCp24ijQD8M53MWFmXw0='; img-src data:; connect-src 'self'; form-action 'none'; base-uri 'none'">
 <title>Road inventory</title>
 <link rel="icon" href="data:,">
 <style>
@@ -370,10 +370,10 @@ for (const listener of whenSwitched) listener();}
 const switchAll = on => switchClasses(classes, on);function hideClasses() {for (const group of $("diagram").querySelectorAll("g[data-class]")) group.style.display = off.has(group.dataset.class) ? "none" : "";if (!view.route) return;
 const on = classes.filter(name => !off.has(name)), chosen = on.length < classes.length ? on.map(name => ["class", name]) : [];$("plain").href = "v1/diagram" + query([["route", view.route.name], ...rangeOf(view), ...chosen]);}
 function rangeOf({ route, from, to }) {return from === 0 && to === route.length ? [] : [["from", from], ["to", to]];}
-const COLUMNS = { class: "Class", value: "Value", side: "Side", from_measure: "From measure", to_measure: "To measure", from: "From, m", to: "To, m", asset: "Asset", offset: "Offset, mm", entered_by: "Edit" };const HISTORY = "History";
-const SAVED = ["route", "from", "to", "from_measure", "to_measure", "side", "asset", "class", "value", "offset", "entered_by"];const sorted = { by: "from", down: false }, listed = {};let table, rows = [], chosen = [];
-const sorterOf = name => {const head = make("th", "", { scope: "col" }), button = make("button", COLUMNS[name], { type: "button", className: "plain", value: name });button.onclick = () => sortBy(name);head.append(button);return head;};
-async function loadRows() {const { route, from, to } = view;table ||= new LongTable($("rows"), [...Object.keys(COLUMNS).map(sorterOf), ...headsOf([HISTORY])], assetRow);const all = await rowsOf(view);
+const COLUMNS = { class: "Class", value: "Value", side: "Side", from_measure: "From measure", to_measure: "To measure", from: "From, m", to: "To, m", asset: "Asset", offset: "Offset, mm", entry: "Edit" };const HISTORY = "History";
+const SAVED = ["route", "from", "to", "from_measure", "to_measure", "side", "asset", "class", "value", "offset", "entry"];const sorted = { by: "from", down: false }, listed = {};let table, rows = [], chosen = [];const sorterOf = name => {
+const head = make("th", "", { scope: "col" }), button = make("button", COLUMNS[name], { type: "button", className: "plain", value: name });button.onclick = () => sortBy(name);head.append(button);return head;};async function loadRows() {
+const { route, from, to } = view;table ||= new LongTable($("rows"), [...Object.keys(COLUMNS).map(sorterOf), ...headsOf([HISTORY])], assetRow);const all = await rowsOf(view);
 if (view.route !== route || view.from !== from || view.to !== to) return;const name = `${from} ${to}`;if (listed.all === all && listed.name === name) return table.show(chosen);Object.assign(listed, { all, name });
 rows = all.filter(row => row.from < to && row.to > from);listRows();}
 function rowsOf({ route, from, to }) {return known("v1/rows", [["route", route.name]])
@@ -389,7 +389,7 @@ for (const button of table.head.querySelectorAll("button")) {const way = button.
 table.show(chosen);say("rows-said", `${chosen.length} of ${counted(rows.length, "row")} of this stretch.`);}
 function assetRow(row) {const { route, address } = view, link = linkTo(writeAddress(aroundAsset(route.name, row.from, row.to, row.asset, route.length)), row.asset);
 if (address.asset === String(row.asset)) link.setAttribute("aria-current", "true");
-const made = rowOf([row.class, row.value, SIDES[row.side], short(row.from_measure), short(row.to_measure), metres(row.from), metres(row.to), link, row.offset, linkToEdit(row.entered_by), linkToAsset(row.asset, HISTORY)]);
+const made = rowOf([row.class, row.value, SIDES[row.side], short(row.from_measure), short(row.to_measure), metres(row.from), metres(row.to), link, row.offset, linkToEdit(row.entry), linkToAsset(row.asset, HISTORY)]);
 for (const at of [3, 4, 5, 6, 7, 9]) made.cells[at].className = "number";return made;}
 function saveRows() {const lines = chosen.map(row => SAVED.map(name => row[name]).join(","));$("csv").download = `${view.route.name}.csv`;offer($("csv"), [[SAVED.join(","), ...lines, ""].join("\n")], "text/csv");}
 whenSwitched.push(() => table && listRows());
@@ -461,8 +461,7 @@ function showPlaces(rows, lengths) {const [row] = rows, holds = rows.length === 
 if (row) $("lies").replaceChildren(tableOf(PLACES, rows.map(found => heldRow(found, lengths.get(found.route)))));}
 function heldRow({ route, from, to, from_measure: start, to_measure: end, side, asset, offset }, length) {const link = linkTo(writeAddress(aroundAsset(route, from, to, asset, length)), route);
 const row = rowOf([link, SIDES[side], short(start), short(end), metres(from), metres(to), offset]);for (const cell of [...row.cells].slice(2)) cell.className = "number";return row;}
-async function entryOf(asset, rows, edits = 0) {if (rows.length) return { edit: rows[0].entered_by, record: await recordAt(rows[0].entered_by) };
-return findEdit(edits, (_, verb, first) => first === asset && /^(enter|supersede)$/.test(verb));}
+async function entryOf(asset, rows, edits = 0) {if (rows.length) return { edit: rows[0].entry, record: await recordAt(rows[0].entry) };return findEdit(edits, (_, verb, first) => first === asset && /^(enter|supersede)$/.test(verb));}
 function showEntry({ edit, record, within }, names) {say("entered-said", edit ? "" : `No edit entered it${within}.`);if (edit) $("entered").replaceChildren(recordTable(record, names, edit));}
 function showLost(asset, gone) {const parts = gone.filter(part => String(part.asset) === asset);lost.show(parts);say("lost-said", `${counted(parts.length, "part")}. In all ${counted(gone.length, "part is", "parts are")} gone.`);}
 const MOST_FOUND = 200;const upper = text => text.toUpperCase();const KINDS = { asset: findAsset, value: findValue, class: findClass, key: findKey, ref: findRef, route: findRoute };function search() {

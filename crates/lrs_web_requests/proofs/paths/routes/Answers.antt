@@ -8,4 +8,5 @@ returns c =
     let b = c.in_ok-add_summaries.ensures in
     let d = c.in_ok-add_lists.ensures in
     let e = c.in_ok-add_sheets.ensures in
-    rw (e, d, b, a, c.new-router.ensures)
+    let f = c.in_ok-add_tables.ensures in
+    rw (f, e, d, b, a, c.new-router.ensures)

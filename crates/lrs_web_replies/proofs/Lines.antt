@@ -1,0 +1,25 @@
+-- A list as CSV is its lines.
+use Rattle.std.proofs.Common.{◌≡◌, refl, ap, ◌∙◌}
+use Rattle.lrs_machine.specs.Lines.{Text}
+use Rattle.lrs_machine.specs.declared.image.Image.{Image}
+use Rattle.lrs_machine.specs.declared.question.Listing.{Listing}
+use Rattle.lrs_machine.specs.declared.question.Listing.TheVariants as listing
+use Rattle.lrs_web_requests.specs.Text.{Answer}
+use Rattle.lrs_web_requests.specs.declared.paths.Format.TheVariants.{Csv}
+use Rattle.lrs_web_replies.specs.Listings.{listing_answer, listing_text}
+use Rattle.lrs_web_replies.specs.Replies.{csv_answer}
+
+lines_of : (i : Image) (l : Listing) → csv_answer (listing_text i l) ≡ listing_answer Csv i l
+lines_of i listing.Routes = refl
+lines_of i listing.Links = refl
+lines_of i listing.Classes = refl
+lines_of i listing.Refs = refl
+lines_of i listing.Marks = refl
+lines_of i (listing.Rows wanted) = refl
+lines_of i (listing.Gone edit) = refl
+lines_of i (listing.Log from) = refl
+lines_of i (listing.LogOfKey key) = refl
+
+-- a reply with the lines of a list is the list as CSV
+pub as_lines : (i : Image) (l : Listing) (lines : Text) (answer : Answer) → lines ≡ listing_text i l → answer ≡ csv_answer lines → answer ≡ listing_answer Csv i l
+as_lines i l lines answer same is = is ∙ ap csv_answer same ∙ lines_of i l
