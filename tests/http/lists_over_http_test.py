@@ -13,7 +13,9 @@ from serving import AT_3000, by_curl, by_http_client, by_socket, answer, error, 
 from stores import MORE, edit, is_whole, make, rows_of
 
 # the fields that are numbers as JSON, of whichever list; all others are texts, but for the measure of a mark, which is whole
-NUMBERS = {"length", "left", "right", "link", "chainage", "asset", "from", "to", "offset", "entry", "edit"}
+NUMBERS = {"length", "left", "right", "link", "chainage", "asset", "from", "to", "offset", "entered_by", "edit"}
+# members that have another name than their column
+NAMES = {"entered_by": "entry"}
 
 # what is asked for over HTTP, and the words for it on the command line
 ASKED = {
@@ -63,7 +65,7 @@ def as_json(target, ended):
     numbers = NUMBERS | {"measure"} if name_of(target) == "marks" else NUMBERS
     if name_of(target) == "routes":
         rows = [{"length": row["length"], "name": row["route"]} for row in rows]
-    shown = [{field: number(text) if field in numbers else text for field, text in row.items()} for row in rows]
+    shown = [{NAMES.get(field, field): number(text) if field in numbers else text for field, text in row.items()} for row in rows]
     return reply(200, json.dumps({name_of(target): shown}, separators=(",", ":"), sort_keys=True).encode())
 
 

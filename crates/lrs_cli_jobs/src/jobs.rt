@@ -14,8 +14,7 @@ use lrs_cli_sheets::{
     Pace, ProgressDisplay, Sheets, World, do_audit, do_check, do_questions, do_records, do_tidy,
 };
 use lrs_cli_tasks::{
-    Ending, ProgramFault, Task, Work, answer_sum, do_page, is_in_memory, open_in_memory,
-    task_of,
+    Ending, ProgramFault, Task, Work, answer_sum, do_page, is_in_memory, open_in_memory, task_of,
 };
 use lrs_cli_words::{Job, QuestionFault, new_has_sums};
 use lrs_desk::{Desk, Files, Holder, Keeper, OpenFault, Plain};

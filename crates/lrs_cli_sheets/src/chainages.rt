@@ -54,9 +54,15 @@ pub(crate) fn chainages_in(question: &Question) -> Option<(RouteName, Chainages)
             Some((*route, Chainages::At(*chainage)))
         }
         Question::Diagram {
-            route, from, to, ..
+            route,
+            from,
+            to,
+            ..
         } => on_route(Some(*route), ends(*from, *to)),
-        Question::List(Listing::Rows(wanted)) => on_route(wanted.route, ends(wanted.from, wanted.to)),
+        Question::List(Listing::Rows(wanted)) => on_route(
+            wanted.route,
+            ends(wanted.from, wanted.to),
+        ),
         _ => None,
     }
 }
@@ -68,7 +74,10 @@ pub(crate) fn chainages_of(command: &Command) -> Option<(RouteName, Chainages)>
     match command {
         Command::Split { route, at, .. } => Some((*route, Chainages::At(at.get()))),
         Command::Realign {
-            route, from, to, ..
+            route,
+            from,
+            to,
+            ..
         } => Some((*route, Chainages::Between(from.get(), to.get()))),
         _ => None,
     }

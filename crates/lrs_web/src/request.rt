@@ -237,7 +237,14 @@ pub(crate) fn do_task<C: Client, K: Keeper>(
         Request::NotAllowed(verb) => allowed_reply(*verb),
         Request::Page(page) => page_reply(alloc, to.most, page),
         Request::Query(resource, format, argument) => {
-            query_reply(alloc, to.most, *format, *resource, argument.as_slice(), desk)
+            query_reply(
+                alloc,
+                to.most,
+                *format,
+                *resource,
+                argument.as_slice(),
+                desk,
+            )
         }
         Request::Sheet(resource, resumes, bytes) => {
             let kind = sheet_of(*resource);

@@ -23,11 +23,7 @@ use std::alloc::{AllocError, Global};
 use std::io;
 use std::io::Write;
 
-fn write_listing<W: Write>(
-    writer: &mut W,
-    kept: &ImageLists,
-    listing: &Listing,
-) -> io::Result<()>
+fn write_listing<W: Write>(writer: &mut W, kept: &ImageLists, listing: &Listing) -> io::Result<()>
     requires sound { IsSound (image_of kept.now) }
     ensures { OnOk result (Appends (W.contents writer.old) (W.contents writer.new)
         (listing_text (image_of kept.now) listing.now)) }

@@ -36,11 +36,8 @@ pub fn unknown_in<'q>(
         Resource::Lengths => unknown_name(alloc, argument, &["route"]),
         Resource::Gone => unknown_name(alloc, argument, &["edit"]),
         Resource::Log => unknown_name(alloc, argument, &["from"]),
-        Resource::Routes
-        | Resource::Links
-        | Resource::Classes
-        | Resource::Refs
-        | Resource::Marks => unknown_name(alloc, argument, &[]),
+        Resource::Routes | Resource::Links | Resource::Classes | Resource::Refs | Resource::Marks =>
+            unknown_name(alloc, argument, &[]),
         Resource::At
         | Resource::Route
         | Resource::Segments
