@@ -9,7 +9,7 @@ ghost use Rattle.lrs_web.specs.Visits.{IsCut, IsFull, Visited};
 use crate::recipient::{Client, Recipient};
 use crate::request::{WebFault, do_task, refuse, write_to};
 use lrs_sheet::{Desk, Keeper};
-use lrs_web_requests::{BodyFault, Resource, receive, routes};
+use lrs_web_requests::{BodyFault, Format, Resource, receive, routes};
 use matchit::Router;
 use std::alloc::Global;
 use std::io::{Read, Write};
@@ -83,7 +83,7 @@ fn is_full(written: Result<u16, WebFault>) -> bool
 fn serve_by<R: Read, W: Write + Client, K: Keeper>(
     alloc: Global,
     most: usize,
-    router: &Router<Resource>,
+    router: &Router<(Resource, Format)>,
     page: Option<&'static str>,
     reader: &mut R,
     writer: &mut W,

@@ -223,7 +223,7 @@ fn asked_ahead(page: &'static str, head: Head<'_>) -> Option<Request>
 
 fn read_with<R: Read>(
     alloc: Global,
-    router: &Router<Resource>,
+    router: &Router<(Resource, Format)>,
     page: Option<&'static str>,
     reader: &mut R,
     head: Head<'_>,
