@@ -155,14 +155,7 @@ pub fn task_of<'a>(alloc: Global, job: &Job<'a>) -> Result<Task<'a>, QuestionFau
             ..
         } => (
             db,
-            Work::Service(service_of(
-                port,
-                max,
-                *log,
-                *end_on_fault,
-                *most_reply,
-                *page,
-            )?),
+            Work::Service(service_of(port, max, *log, *end_on_fault, *most_reply, *page)?),
         ),
         Job::At { db, .. }
         | Job::Where { db, .. }
