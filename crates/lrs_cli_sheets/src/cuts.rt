@@ -107,11 +107,7 @@ fn tell_cut<R: Runtime<A = Global>>(
 }
 
 // Does the command of a record, if it is well formed. Where it cuts a route, that is told before.
-fn do_row<R: Runtime<A = Global>, K: Keeper>(
-    rt: &R,
-    desk: &mut Desk<K>,
-    row: &ByteRecord,
-) -> bool {
+fn do_row<R: Runtime<A = Global>, K: Keeper>(rt: &R, desk: &mut Desk<K>, row: &ByteRecord) -> bool {
     match command_in(rt.alloc(), row) {
         Some((key, command)) => {
             let is_cut = tell_cut(rt, desk.inventory(), &key, &command);
@@ -151,12 +147,7 @@ fn do_first_at<R: Runtime<A = Global>, K: Keeper>(rt: &R, desk: Desk<K>, text: &
 }
 
 // Tells the first cuts of a sheet at a copy of a desk's inventory, and how many more there are.
-fn tell_first<R: Runtime<A = Global>, K: Keeper>(
-    rt: &R,
-    desk: &Desk<K>,
-    text: &[u8],
-    cuts: u64,
-) {
+fn tell_first<R: Runtime<A = Global>, K: Keeper>(rt: &R, desk: &Desk<K>, text: &[u8], cuts: u64) {
     if let Ok(copy) = copy_desk(rt.alloc(), desk) {
         let (plain, told) = do_first_at(rt, copy, text);
         plain.discard();

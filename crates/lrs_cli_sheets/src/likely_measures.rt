@@ -25,7 +25,10 @@ impl fmt::Display for LikelyMeasures {
                 let (from, to) = numbers;
                 let (first, last) = at;
                 write!(f, "{from} and {to} are chainages in millimetres; ")?;
-                write!(f, "measures {from} and {to} are at chainages {first} and {last}")
+                write!(
+                    f,
+                    "measures {from} and {to} are at chainages {first} and {last}"
+                )
             }
         }
     }

@@ -39,7 +39,10 @@ fn copy_of(alloc: Global, inventory: &Inventory) -> Result<Plain, ProgramFault>
 }
 
 /// A desk with full limits over a copy of the inventory of another, in memory.
-pub(crate) fn copy_desk<K: Keeper>(alloc: Global, desk: &Desk<K>) -> Result<Desk<Plain>, ProgramFault>
+pub(crate) fn copy_desk<K: Keeper>(
+    alloc: Global,
+    desk: &Desk<K>,
+) -> Result<Desk<Plain>, ProgramFault>
     ensures image { IfOk result (λ copy. copy.image ≡ desk.now.image) }
     ensures limits { IfOk result (λ copy. IsFull copy.limits) }
     ensures memory { IfErr result (λ e. e ≡ ProgramFault.Memory) }
