@@ -1,4 +1,4 @@
--- Which chainages a question or a command names, and the measures that stand there.
+-- Which chainages a question or a command names, and what measures are there.
 use Rattle.std.specs.Prelude.{◌≡◌, ℕ, pos, ◌*ℤ◌, unsigned_abs, Option, Some, None}
 use Rattle.std.specs.Option.{option_map, option_and_then}
 use Rattle.lrs_measure.specs.Fraction.{Fraction, IsNearest, IsQuotient}
@@ -43,13 +43,9 @@ chainages_of (command.Split route at name) = Some (route, At at)
 chainages_of (command.Realign route from to pieces marks) = Some (route, Between from to)
 chainages_of _ = None
 
--- a measure of a route locates this chainage
-abbrev pub Measures : Route → Fraction → Fraction → Type 0
-Measures route measure x = LocatesAt (alignment_of route) (referent_at route.refs) (Abs measure) x
-
 -- a measure goes to this whole millimetre of a route, as an end of a stretch does
 abbrev pub GoesTo : Route → ℕ → ℕ → Type 0
-GoesTo route measure at = (x : Fraction) × Measures route (whole (pos measure)) x × (at ≡ snap (unsigned_abs x.num, x.den))
+GoesTo route measure at = (x : Fraction) × LocatesAt (alignment_of route) (referent_at route.refs) (Abs (whole (pos measure))) x × (at ≡ snap (unsigned_abs x.num, x.den))
 
 -- the nearest thousandth, a half going up
 abbrev pub IsThousandths : Fraction → ℕ → Type 0

@@ -2,13 +2,14 @@
 
 ghost use Rattle.std.specs.Prelude.{◌≡◌, ◌*ℤ◌, pos, IfSome};
 ghost use Rattle.lrs_measure.specs.Fraction.{IsQuotient};
+ghost use Rattle.lrs_element.specs.Line.{HasMeasure};
 ghost use Rattle.lrs_position.specs.Readings.{whole};
 ghost use Rattle.lrs_cli_sheets.specs.Chainages as spec;
 
 use lrs_machine::{AskedPlace, Command, Listing, Question};
 use lrs_measure::limits::GREATEST_MEASURE;
 use lrs_measure::{Frac, Metres};
-use lrs_position::{Expr, Route, RouteName, Target, express, locate, snap};
+use lrs_position::{Expr, Route, RouteName, locate, snap};
 use std::fmt;
 
 /// What is named of a route by chainages in millimetres: a place, an end of a stretch, or both ends.
@@ -85,15 +86,12 @@ pub(crate) fn chainages_of(command: &Command) -> Option<(RouteName, Chainages)>
 
 /// The exact measure at a chainage of a route; none behind its end.
 fn measure_at(route: &Route, chainage: u64) -> Option<Frac>
-    ensures { IfSome result (λ m. spec.Measures route.now m (whole (pos chainage))) }
+    ensures { IfSome result (HasMeasure route.now.marks (whole (pos chainage))) }
 {
     if chainage > route.length() {
         return None;
     }
-    match express(route, Frac::of_whole(chainage as i64), Target::Abs) {
-        Ok(Expr::Abs(measure)) => Some(measure),
-        _ => None,
-    }
+    route.marks.measure_at(Frac::of_whole(chainage as i64))
 }
 
 /// The whole millimetre of a route to which a measure goes, as an end of a stretch does; none outside its marks.
