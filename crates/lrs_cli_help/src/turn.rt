@@ -1,8 +1,8 @@
 //! Turns at the file of an inventory, which one program has at a time: a run waits until no lock of another is in its way.
 //!
-//! Runs of this program go through a gate, a lock on a byte of the file behind those that SQLite locks: who changes the
-//! file has the gate alone while it waits and opens, so that nobody else begins to open it, and questions, one behind
-//! the other, do not keep it out for ever.
+//! Runs of this program go through a gate, a lock on a byte of the file behind those that SQLite locks. Who changes the
+//! file has the gate alone while it waits and opens, so that nobody else begins to open it. Who only looks has it no
+//! longer than it takes to lock the file: else questions, one beside the other, would keep a change out for ever.
 
 use crate::holder::{COUNT_LOCKED, FIRST_LOCKED, Holder, holder_of};
 use lrs_store_questions::ReadLock;
@@ -74,7 +74,7 @@ impl Patience {
     }
 }
 
-/// A turn at a file. Until it ends it has the gate, and, of a file that is only read, a reader's locks: so nobody comes
+/// A turn at a file. Until it ends, who changes it has the gate, and who only looks a reader's locks: so nobody comes
 /// between them and those of the opening.
 #[derive(Drop)]
 pub struct Turn {
@@ -104,13 +104,17 @@ fn is_kept_out(file: &fs::File, kind: RangeLock, range: LockedBytes) -> bool {
         && io::Error::from_raw_os_error(os::errno()).kind() == ErrorKind::WouldBlock
 }
 
+fn let_go(file: &fs::File, range: LockedBytes) {
+    let (first, count) = range;
+    let _ = os::try_lock_range(file.as_raw_fd(), RangeLock::Unlock, first, count);
+}
+
 // The same of a lock that is let go at once.
 fn would_be_kept_out(file: &fs::File, kind: RangeLock, range: LockedBytes) -> bool {
     if is_kept_out(file, kind, range) {
         return true;
     }
-    let (first, count) = range;
-    let _ = os::try_lock_range(file.as_raw_fd(), RangeLock::Unlock, first, count);
+    let_go(file, range);
     false
 }
 
@@ -164,6 +168,24 @@ fn tell_waiting(rt: &HostRuntime, path: &str) {
     }
 }
 
+// Whether a turn at this file has come. Who only looks lets the gate go again, so that a change that waits comes first.
+fn has_come(
+    rt: &HostRuntime,
+    path: &str,
+    file: &fs::File,
+    purpose: Purpose,
+    reader: &mut Option<ReadLock>,
+) -> bool {
+    if is_kept_out(file, kind_for(purpose), GATE) {
+        return false;
+    }
+    let is_free = !is_taken(rt, path, file, purpose, reader);
+    if purpose == Purpose::Look {
+        let_go(file, GATE);
+    }
+    is_free
+}
+
 // Waits until a turn at this file has come, or patience is over; says whether a terminal shows that.
 fn wait_at(
     rt: &HostRuntime,
@@ -173,13 +195,10 @@ fn wait_at(
     patience: Patience,
     reader: &mut Option<ReadLock>,
 ) -> bool {
-    let kind = kind_for(purpose);
-    let (mut is_at_gate, mut is_told) = (false, false);
+    let mut is_told = false;
     let mut pause = SHORTEST_PAUSE;
     for _turn in 0..u64::MAX {
-        is_at_gate = is_at_gate || !is_kept_out(file, kind, GATE);
-        let is_free = is_at_gate && !is_taken(rt, path, file, purpose, reader);
-        if is_free || patience.is_over(rt) {
+        if has_come(rt, path, file, purpose, reader) || patience.is_over(rt) {
             return is_told;
         }
         if patience.tells
