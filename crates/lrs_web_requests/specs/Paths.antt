@@ -8,14 +8,14 @@ use Rattle.lrs_web_requests.specs.Routes.{Named, named_at}
 -- the paths that stand for themselves
 abbrev pub literal_paths : List (List ℕ × Named)
 literal_paths =
-    (codes "/health", (Health, Json)) ∷ (codes "/v1/at", (At, Json)) ∷ (codes "/v1/classes", (Classes, Json))
-    ∷ (codes "/v1/classes.csv", (Classes, Csv)) ∷ (codes "/v1/diagram", (Diagram, Json)) ∷ (codes "/v1/edits", (Edits, Json))
-    ∷ (codes "/v1/find", (Find, Json)) ∷ (codes "/v1/gone", (Gone, Json)) ∷ (codes "/v1/gone.csv", (Gone, Csv))
-    ∷ (codes "/v1/lengths", (Lengths, Json)) ∷ (codes "/v1/lengths.csv", (Lengths, Csv)) ∷ (codes "/v1/links", (Links, Json))
-    ∷ (codes "/v1/links.csv", (Links, Csv)) ∷ (codes "/v1/log", (Log, Json)) ∷ (codes "/v1/marks", (Marks, Json))
-    ∷ (codes "/v1/marks.csv", (Marks, Csv)) ∷ (codes "/v1/questions", (Questions, Json)) ∷ (codes "/v1/refs", (Refs, Json))
-    ∷ (codes "/v1/refs.csv", (Refs, Csv)) ∷ (codes "/v1/routes", (Routes, Json)) ∷ (codes "/v1/routes.csv", (Routes, Csv))
-    ∷ (codes "/v1/rows", (Rows, Json)) ∷ (codes "/v1/rows.csv", (Rows, Csv)) ∷ (codes "/v1/segments", (Segments, Json))
+    (codes "/health", (Health, Json)) ∷ (codes "/v1/at", (At, Json)) ∷ (codes "/v1/classes.csv", (Classes, Csv))
+    ∷ (codes "/v1/classes", (Classes, Json)) ∷ (codes "/v1/diagram", (Diagram, Json)) ∷ (codes "/v1/edits", (Edits, Json))
+    ∷ (codes "/v1/find", (Find, Json)) ∷ (codes "/v1/gone.csv", (Gone, Csv)) ∷ (codes "/v1/gone", (Gone, Json))
+    ∷ (codes "/v1/lengths.csv", (Lengths, Csv)) ∷ (codes "/v1/lengths", (Lengths, Json)) ∷ (codes "/v1/links.csv", (Links, Csv))
+    ∷ (codes "/v1/links", (Links, Json)) ∷ (codes "/v1/log", (Log, Json)) ∷ (codes "/v1/marks.csv", (Marks, Csv))
+    ∷ (codes "/v1/marks", (Marks, Json)) ∷ (codes "/v1/questions", (Questions, Json)) ∷ (codes "/v1/refs.csv", (Refs, Csv))
+    ∷ (codes "/v1/refs", (Refs, Json)) ∷ (codes "/v1/routes.csv", (Routes, Csv)) ∷ (codes "/v1/routes", (Routes, Json))
+    ∷ (codes "/v1/rows.csv", (Rows, Csv)) ∷ (codes "/v1/rows", (Rows, Json)) ∷ (codes "/v1/segments", (Segments, Json))
     ∷ (codes "/v1/surveys", (Surveys, Json)) ∷ (codes "/v1/totals", (Totals, Json)) ∷ (codes "/v1/translate", (Translate, Json))
     ∷ (codes "/v1/where", (Where, Json)) ∷ []
 

@@ -31,12 +31,12 @@ csv path resource = plain path (resource, Csv)
 
 unfoldable pub rows : RowsOf (RouteOf Named)
 rows =
-    json (codes "/health") Health ∷ json (codes "/v1/at") At ∷ json (codes "/v1/classes") Classes ∷ csv (codes "/v1/classes.csv") Classes
-    ∷ json (codes "/v1/diagram") Diagram ∷ json (codes "/v1/edits") Edits ∷ json (codes "/v1/find") Find ∷ json (codes "/v1/gone") Gone
-    ∷ csv (codes "/v1/gone.csv") Gone ∷ json (codes "/v1/lengths") Lengths ∷ csv (codes "/v1/lengths.csv") Lengths ∷ json (codes "/v1/links") Links
-    ∷ csv (codes "/v1/links.csv") Links ∷ json (codes "/v1/log") Log ∷ json (codes "/v1/marks") Marks ∷ csv (codes "/v1/marks.csv") Marks
-    ∷ json (codes "/v1/questions") Questions ∷ json (codes "/v1/refs") Refs ∷ csv (codes "/v1/refs.csv") Refs ∷ with_name (codes "/v1/route/") (Route, Json)
-    ∷ json (codes "/v1/routes") Routes ∷ csv (codes "/v1/routes.csv") Routes ∷ json (codes "/v1/rows") Rows ∷ csv (codes "/v1/rows.csv") Rows
+    json (codes "/health") Health ∷ json (codes "/v1/at") At ∷ csv (codes "/v1/classes.csv") Classes ∷ json (codes "/v1/classes") Classes
+    ∷ json (codes "/v1/diagram") Diagram ∷ json (codes "/v1/edits") Edits ∷ json (codes "/v1/find") Find ∷ csv (codes "/v1/gone.csv") Gone
+    ∷ json (codes "/v1/gone") Gone ∷ csv (codes "/v1/lengths.csv") Lengths ∷ json (codes "/v1/lengths") Lengths ∷ csv (codes "/v1/links.csv") Links
+    ∷ json (codes "/v1/links") Links ∷ json (codes "/v1/log") Log ∷ csv (codes "/v1/marks.csv") Marks ∷ json (codes "/v1/marks") Marks
+    ∷ json (codes "/v1/questions") Questions ∷ csv (codes "/v1/refs.csv") Refs ∷ json (codes "/v1/refs") Refs ∷ with_name (codes "/v1/route/") (Route, Json)
+    ∷ csv (codes "/v1/routes.csv") Routes ∷ json (codes "/v1/routes") Routes ∷ csv (codes "/v1/rows.csv") Rows ∷ json (codes "/v1/rows") Rows
     ∷ json (codes "/v1/segments") Segments ∷ json (codes "/v1/surveys") Surveys ∷ json (codes "/v1/totals") Totals ∷ json (codes "/v1/translate") Translate
     ∷ json (codes "/v1/where") Where ∷ []
 

@@ -21,21 +21,21 @@ found knows rest left due k v key is says unknown was =
 
 pub returns-then-not-is_among : goal.returns-then-not-is_among
 returns-then-not-is_among c =
-    let knows = λ text. list_any (λ one. bytes_eq text one.now) c.args.known.now in
+    let knows : List ℕ → Bool = λ text. list_any (λ one. bytes_eq text one.now) c.args.known.now in
     let a = c.in-Some.ensures.steps.0 in
     let e = IfOk-at_ok _ c.in_ok-key.was a.3 in
     found knows _ _ _ a.0 a.1 (cow_str_bytes c.in_ok-key.key) a.2 e.0.2 (ap knows (sym c.as_str.ensures.value) ∙ sym c.is_among.ensures ∙ c.if-not-is_among.true) c.loop-pair.invariant
 
 pub loop-pair-preserved-else-not-is_among : goal.loop-pair-preserved-else-not-is_among
 loop-pair-preserved-else-not-is_among c =
-    let knows = λ text. list_any (λ one. bytes_eq text one.now) c.args.known.now in
+    let knows : List ℕ → Bool = λ text. list_any (λ one. bytes_eq text one.now) c.args.known.now in
     let a = c.in-Some.ensures.steps.0 in
     let e = IfOk-at_ok _ c.in_ok-key.was a.3 in
     passed knows _ _ _ a.0 a.1 (cow_str_bytes c.in_ok-key.key) a.2 e.0.2 (ap knows (sym c.as_str.ensures.value) ∙ sym c.is_among.ensures ∙ c.if-not-is_among.false) c.loop-pair.invariant
 
 pub loop-pair-preserved : goal.loop-pair-preserved
 loop-pair-preserved c =
-    let knows = λ text. list_any (λ one. bytes_eq text one.now) c.args.known.now in
+    let knows : List ℕ → Bool = λ text. list_any (λ one. bytes_eq text one.now) c.args.known.now in
     let a = c.in-Some.ensures.steps.0 in
     let e = IfOk-at_ok _ c.in_ok-key.was a.3 in
     passed knows _ _ _ a.0 a.1 (cow_str_bytes c.in_ok-key.key) a.2 e.0.2 (ap knows (sym c.as_str.ensures.value) ∙ sym c.is_among.ensures ∙ c.if-not-is_among.false) c.loop-pair.invariant
