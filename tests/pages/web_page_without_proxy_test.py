@@ -57,7 +57,8 @@ def test_a_page_from_elsewhere_sends_no_sheet(browser, way):
         assert b"4247" not in log_of(server)
     posts = [one for one in requests if one[0] == b"POST"]
     assert all(one == [b"POST", b"/v1/edits", b"403"] for one in posts), requests
-    assert posts or way == "a fetch of CSV", requests
+    # a browser asks before a fetch of CSV, and may send a beacon late
+    assert posts or way in ["a fetch of CSV", "a beacon"], requests
 
 
 def test_without_the_option_a_page_from_elsewhere_does(browser):
@@ -99,4 +100,4 @@ def test_the_page_is_used_as_ever(browser, tmp_path):
         assert b"m1,ref,KM2,A1,abs,3" in log_of(server)
         page.is_as_it_should_be()
         browser.goes_to("about:blank")
-    assert [b"POST", b"/v1/edits", b"200"] in requests and all(one[2] == b"200" for one in requests), requests
+    assert requests.count([b"POST", b"/v1/edits", b"200"]) == 2, requests
