@@ -11,34 +11,27 @@ pub(crate) struct Lead<'a> {
     pub is_named: bool,
 }
 
+/// A line without a carriage return at its end, and without quotation marks around it.
+fn bare_line(line: &[u8]) -> &[u8] {
+    let line = line.strip_suffix(b"\r").unwrap_or(line);
+    match line.strip_prefix(b"\"") {
+        Some(behind) => behind.strip_suffix(b"\"").unwrap_or(b""),
+        None => line,
+    }
+}
+
+fn is_separator(byte: u8) -> bool {
+    byte == b',' || byte == b';' || byte == b'\t' || byte == b'|'
+}
+
 /// What a line `sep=;` names, as spreadsheets write it before the header.
 fn separator_named(line: &[u8]) -> Option<u8> {
-    let named = match line {
-        [b's' | b'S', b'e' | b'E', b'p' | b'P', b'=', named] => *named,
-        [b's' | b'S', b'e' | b'E', b'p' | b'P', b'=', named, b'\r'] => *named,
-        [
-            b'"',
-            b's' | b'S',
-            b'e' | b'E',
-            b'p' | b'P',
-            b'=',
-            named,
-            b'"',
-        ] => *named,
-        [
-            b'"',
-            b's' | b'S',
-            b'e' | b'E',
-            b'p' | b'P',
-            b'=',
-            named,
-            b'"',
-            b'\r',
-        ] => *named,
-        _ => return None,
-    };
-    if matches!(named, b',' | b';' | b'\t' | b'|') {
-        Some(named)
+    let line = bare_line(line);
+    if line.len() != 5 || !line[..4].eq_ignore_ascii_case(b"sep=") {
+        return None;
+    }
+    if is_separator(line[4]) {
+        Some(line[4])
     } else {
         None
     }

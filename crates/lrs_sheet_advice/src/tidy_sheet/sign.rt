@@ -4,7 +4,7 @@ use crate::tidy_sheet::cell::are_digits;
 use std::alloc::AllocError;
 
 /// What stands at the front of a text.
-#[derive(Clone, Copy, PartialEq, Eq)]
+#[derive(Clone, Copy)]
 enum Sign {
     /// A space, a tab, a line end, or one of the other spaces of Unicode.
     Space,
@@ -18,24 +18,47 @@ enum Sign {
     Byte(u8),
 }
 
+/// The low bits of a byte of UTF-8 behind the first one of its character.
+fn low_bits(byte: u8) -> u32 {
+    u32::from(byte & 0x3f)
+}
+
+/// The code of the character at the front of a text in UTF-8, and how many bytes it has. Of one of two bytes that is above
+/// U+00BF, or of four, or inside a character it is 0.
+fn code_at(text: &[u8]) -> (u32, usize) {
+    match text {
+        [byte, ..] if *byte < 0x80 => (u32::from(*byte), 1),
+        [0xc2, last, ..] => (0x80 | low_bits(*last), 2),
+        [first, next, last, ..] if *first >= 0xe0 && *first < 0xf0 => {
+            let high = u32::from(*first & 0xf) << 12;
+            (high | low_bits(*next) << 6 | low_bits(*last), 3)
+        }
+        _ => (0, 1),
+    }
+}
+
+/// The sign that a code is; none of any other character.
+fn sign_of(code: u32) -> Option<Sign> {
+    match code {
+        0x09 | 0x0a | 0x0d | 0x20 | 0xa0 | 0x2000..=0x200a | 0x202f | 0x205f | 0x3000 => {
+            Some(Sign::Space)
+        }
+        0xab | 0xbb | 0x2018..=0x201f | 0x2039..=0x203a => Some(Sign::Quote),
+        0xad | 0x200b..=0x200f | 0x2060 | 0xfeff => Some(Sign::Nothing),
+        0x2010..=0x2015 | 0x2212 => Some(Sign::Minus),
+        _ => None,
+    }
+}
+
 /// What stands at the front of a text, and how many bytes it has.
 fn sign_at(text: &[u8]) -> (Sign, usize) {
-    match text {
-        [b' ' | b'\t' | b'\r' | b'\n', ..] => (Sign::Space, 1),
-        [0xc2, 0xa0, ..] => (Sign::Space, 2),
-        [0xc2, 0xad, ..] => (Sign::Nothing, 2),
-        [0xc2, 0xab | 0xbb, ..] => (Sign::Quote, 2),
-        [0xe2, 0x80, 0x80..=0x8a | 0xaf, ..] => (Sign::Space, 3),
-        [0xe2, 0x80, 0x8b..=0x8f, ..] => (Sign::Nothing, 3),
-        [0xe2, 0x80, 0x90..=0x95, ..] => (Sign::Minus, 3),
-        [0xe2, 0x80, 0x98..=0x9f | 0xb9 | 0xba, ..] => (Sign::Quote, 3),
-        [0xe2, 0x81, 0x9f, ..] => (Sign::Space, 3),
-        [0xe2, 0x81, 0xa0, ..] => (Sign::Nothing, 3),
-        [0xe2, 0x88, 0x92, ..] => (Sign::Minus, 3),
-        [0xe3, 0x80, 0x80, ..] => (Sign::Space, 3),
-        [0xef, 0xbb, 0xbf, ..] => (Sign::Nothing, 3),
-        [byte, ..] => (Sign::Byte(*byte), 1),
-        [] => (Sign::Nothing, 1),
+    let (code, width) = code_at(text);
+    match sign_of(code) {
+        Some(sign) => (sign, width),
+        None => match text.first() {
+            Some(byte) => (Sign::Byte(*byte), 1),
+            None => (Sign::Nothing, 1),
+        },
     }
 }
 
@@ -85,14 +108,22 @@ pub(crate) fn mend_text(text: &[u8], mended: &mut Vec<u8>) -> Result<(), AllocEr
     Ok(())
 }
 
+/// Whether a text is a point or comma and one or two noughts.
+fn are_noughts(text: &[u8]) -> bool {
+    let count = text.len();
+    count > 1 && count < 4 && text[1..].iter().all(|byte| *byte == b'0')
+}
+
 /// A whole number without the point or comma and the one or two noughts that spreadsheets write behind it. Three could be
 /// thousands.
 pub(crate) fn without_noughts(text: &[u8]) -> &[u8] {
-    match text.iter().position(|byte| *byte == b'.' || *byte == b',') {
-        Some(place) if place > 0 && are_digits(&text[..place]) => match &text[place..] {
-            [_, b'0'] | [_, b'0', b'0'] => &text[..place],
-            _ => text,
-        },
-        _ => text,
+    let Some(place) = text.iter().position(|byte| *byte == b'.' || *byte == b',') else {
+        return text;
+    };
+    let (whole, rest) = text.split_at(place);
+    if !whole.is_empty() && are_digits(whole) && are_noughts(rest) {
+        whole
+    } else {
+        text
     }
 }
