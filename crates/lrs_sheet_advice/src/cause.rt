@@ -1,6 +1,6 @@
 //! Causes as replies name them, and the fields that they are about.
 
-ghost use Rattle.std.specs.Prelude.{◌≡◌, IfSome};
+ghost use Rattle.std.specs.Prelude.{◌≡◌, IfSome, true};
 ghost use Rattle.lrs_machine.specs.AnswerTexts as texts;
 
 use crate::slot::{Slot, slot_of};
@@ -21,23 +21,75 @@ const ARGUMENTS: [Field; 9] = [
     Field::I,
 ];
 
+/// What there can be too many of.
+const WHATS: [What; 3] = [What::Edits, What::Assets, What::Routes];
+
+/// The causes without an argument.
+const PLAIN: [Cause; 18] = [
+    Cause::LinkKnown,
+    Cause::NoLink,
+    Cause::RouteKnown,
+    Cause::NoRoute,
+    Cause::ClassKnown,
+    Cause::NoClass,
+    Cause::AssetKnown,
+    Cause::NoAsset,
+    Cause::RefKnown,
+    Cause::NoRef,
+    Cause::TooLong,
+    Cause::OffRoute,
+    Cause::Empty,
+    Cause::WrongKind,
+    Cause::NoMark,
+    Cause::SameRoute,
+    Cause::MeasureRange,
+    Cause::NothingLeft,
+];
+
+/// How a reply names a field.
+fn field_name(field: Field) -> &'static str
+    ensures { result.now ≡ texts.field_text field }
+{
+    match field {
+        Field::Key => "key",
+        Field::Verb => "verb",
+        Field::A => "a",
+        Field::B => "b",
+        Field::C => "c",
+        Field::D => "d",
+        Field::E => "e",
+        Field::F => "f",
+        Field::G => "g",
+        Field::H => "h",
+        Field::I => "i",
+    }
+}
+
 /// The field of this name.
 fn read_field(text: &[u8]) -> Option<Field>
     ensures { IfSome result (λ field. text.now ≡ texts.field_text field) }
 {
-    match text {
-        b"key" => Some(Field::Key),
-        b"verb" => Some(Field::Verb),
-        b"a" => Some(Field::A),
-        b"b" => Some(Field::B),
-        b"c" => Some(Field::C),
-        b"d" => Some(Field::D),
-        b"e" => Some(Field::E),
-        b"f" => Some(Field::F),
-        b"g" => Some(Field::G),
-        b"h" => Some(Field::H),
-        b"i" => Some(Field::I),
-        _ => None,
+    if text == field_name(Field::Key).as_bytes() {
+        return Some(Field::Key);
+    }
+    if text == field_name(Field::Verb).as_bytes() {
+        return Some(Field::Verb);
+    }
+    for field in &ARGUMENTS {
+        if text == field_name(*field).as_bytes() {
+            return Some(*field);
+        }
+    }
+    None
+}
+
+fn what_name(what: What) -> &'static str
+    ensures { result.now ≡ texts.what_text what }
+{
+    match what {
+        What::Edits => "edits",
+        What::Assets => "assets",
+        What::Routes => "routes",
     }
 }
 
@@ -45,11 +97,47 @@ fn read_field(text: &[u8]) -> Option<Field>
 fn read_what(text: &[u8]) -> Option<What>
     ensures { IfSome result (λ what. text.now ≡ texts.what_text what) }
 {
-    match text {
-        b"edits" => Some(What::Edits),
-        b"assets" => Some(What::Assets),
-        b"routes" => Some(What::Routes),
+    for what in &WHATS {
+        if text == what_name(*what).as_bytes() {
+            return Some(*what);
+        }
+    }
+    None
+}
+
+/// The name of a cause without an argument.
+fn plain_name(cause: Cause) -> Option<&'static str>
+    ensures { IfSome result (λ name. name.now ≡ texts.cause_text cause) }
+{
+    match cause {
+        Cause::LinkKnown => Some("LinkKnown"),
+        Cause::NoLink => Some("NoLink"),
+        Cause::RouteKnown => Some("RouteKnown"),
+        Cause::NoRoute => Some("NoRoute"),
+        Cause::ClassKnown => Some("ClassKnown"),
+        Cause::NoClass => Some("NoClass"),
+        Cause::AssetKnown => Some("AssetKnown"),
+        Cause::NoAsset => Some("NoAsset"),
+        Cause::RefKnown => Some("RefKnown"),
+        Cause::NoRef => Some("NoRef"),
+        Cause::TooLong => Some("TooLong"),
+        Cause::OffRoute => Some("OffRoute"),
+        Cause::Empty => Some("Empty"),
+        Cause::WrongKind => Some("WrongKind"),
+        Cause::NoMark => Some("NoMark"),
+        Cause::SameRoute => Some("SameRoute"),
+        Cause::MeasureRange => Some("MeasureRange"),
+        Cause::NothingLeft => Some("NothingLeft"),
         _ => None,
+    }
+}
+
+fn is_named(cause: Cause, text: &[u8]) -> bool
+    ensures { result ≡ true → text.now ≡ texts.cause_text cause }
+{
+    match plain_name(cause) {
+        Some(name) => text == name.as_bytes(),
+        None => false,
     }
 }
 
@@ -57,49 +145,45 @@ fn read_what(text: &[u8]) -> Option<What>
 fn read_plain(text: &[u8]) -> Option<Cause>
     ensures { IfSome result (λ cause. text.now ≡ texts.cause_text cause) }
 {
-    match text {
-        b"LinkKnown" => Some(Cause::LinkKnown),
-        b"NoLink" => Some(Cause::NoLink),
-        b"RouteKnown" => Some(Cause::RouteKnown),
-        b"NoRoute" => Some(Cause::NoRoute),
-        b"ClassKnown" => Some(Cause::ClassKnown),
-        b"NoClass" => Some(Cause::NoClass),
-        b"AssetKnown" => Some(Cause::AssetKnown),
-        b"NoAsset" => Some(Cause::NoAsset),
-        b"RefKnown" => Some(Cause::RefKnown),
-        b"NoRef" => Some(Cause::NoRef),
-        b"TooLong" => Some(Cause::TooLong),
-        b"OffRoute" => Some(Cause::OffRoute),
-        b"Empty" => Some(Cause::Empty),
-        b"WrongKind" => Some(Cause::WrongKind),
-        b"NoMark" => Some(Cause::NoMark),
-        b"SameRoute" => Some(Cause::SameRoute),
-        b"NothingLeft" => Some(Cause::NothingLeft),
-        // a pattern of so many bytes is not proved
-        _ if text == b"MeasureRange".as_slice() => Some(Cause::MeasureRange),
-        _ => None,
+    for cause in &PLAIN {
+        if is_named(*cause, text) {
+            return Some(*cause);
+        }
     }
+    None
+}
+
+/// The causes about a number, by their names.
+fn numbered(number: u64) -> [(&'static str, Cause); 5] {
+    [
+        ("KeyUsed", Cause::KeyUsed(number)),
+        ("BadPiece", Cause::BadPiece(number)),
+        ("Taken", Cause::Taken(number)),
+        ("BadMarks", Cause::BadMarks(number)),
+        ("Overlap", Cause::Overlap(number)),
+    ]
 }
 
 /// The cause of this name about a number.
 fn read_numbered(name: &[u8], number: u64) -> Option<Cause> {
-    match name {
-        b"KeyUsed" => Some(Cause::KeyUsed(number)),
-        b"BadPiece" => Some(Cause::BadPiece(number)),
-        b"Taken" => Some(Cause::Taken(number)),
-        b"BadMarks" => Some(Cause::BadMarks(number)),
-        b"Overlap" => Some(Cause::Overlap(number)),
-        _ => None,
+    let causes = numbered(number);
+    for (known, cause) in &causes {
+        if name == known.as_bytes() {
+            return Some(*cause);
+        }
     }
+    None
 }
 
 /// The cause of this name with an argument.
 fn read_about(name: &[u8], argument: &[u8]) -> Option<Cause> {
-    match name {
-        b"Malformed" => Some(Cause::Malformed(read_field(argument)?)),
-        b"TooMany" => Some(Cause::TooMany(read_what(argument)?)),
-        _ => read_numbered(name, read_digits(argument, u64::MAX)?),
+    if name == b"Malformed".as_slice() {
+        return Some(Cause::Malformed(read_field(argument)?));
     }
+    if name == b"TooMany".as_slice() {
+        return Some(Cause::TooMany(read_what(argument)?));
+    }
+    read_numbered(name, read_digits(argument, u64::MAX)?)
 }
 
 /// The cause that a reply names.
@@ -114,23 +198,23 @@ pub(crate) fn read_cause(text: &[u8]) -> Option<Cause> {
 /// neither is meant.
 fn is_about(cause: Cause, verb: Verb, slot: Slot) -> bool {
     match cause {
-        Cause::LinkKnown => slot == Slot::LinkNumber,
-        Cause::ClassKnown | Cause::NoClass => slot == Slot::ClassName,
-        Cause::AssetKnown | Cause::NoAsset => slot == Slot::Asset,
-        Cause::RefKnown => slot == Slot::Referent,
-        Cause::NoRef if verb == Verb::Unref => slot == Slot::Referent,
+        Cause::LinkKnown => matches!(slot, Slot::LinkNumber),
+        Cause::ClassKnown | Cause::NoClass => matches!(slot, Slot::ClassName),
+        Cause::AssetKnown | Cause::NoAsset => matches!(slot, Slot::Asset),
+        Cause::RefKnown => matches!(slot, Slot::Referent),
+        Cause::NoRef if verb == Verb::Unref => matches!(slot, Slot::Referent),
         Cause::NoRef => matches!(slot, Slot::At(_) | Slot::From(_)),
-        Cause::RouteKnown if verb == Verb::Route => slot == Slot::Route,
-        Cause::RouteKnown => slot == Slot::NewName,
-        Cause::NoRoute => slot == Slot::Route && verb != Verb::Join,
-        Cause::SameRoute => slot == Slot::SecondRoute,
+        Cause::RouteKnown if verb == Verb::Route => matches!(slot, Slot::Route),
+        Cause::RouteKnown => matches!(slot, Slot::NewName),
+        Cause::NoRoute => verb != Verb::Join && matches!(slot, Slot::Route),
+        Cause::SameRoute => matches!(slot, Slot::SecondRoute),
         Cause::NoLink
         | Cause::BadPiece(_)
         | Cause::Taken(_)
         | Cause::TooLong
         | Cause::NothingLeft => matches!(slot, Slot::Pieces | Slot::SomePieces),
-        Cause::BadMarks(_) => slot == Slot::Marks,
-        Cause::NoMark => slot == Slot::Chainage,
+        Cause::BadMarks(_) => matches!(slot, Slot::Marks),
+        Cause::NoMark => matches!(slot, Slot::Chainage),
         Cause::OffRoute | Cause::Empty => {
             matches!(slot, Slot::At(_) | Slot::From(_) | Slot::ChainageStart)
         }

@@ -7,7 +7,7 @@ use lrs_machine::Field;
 use lrs_sheet_records::{Verb, place_of};
 
 /// What a field is for. A position has the field of its method.
-#[derive(Clone, Copy, PartialEq, Eq)]
+#[derive(Clone, Copy)]
 pub(crate) enum Slot {
     Key,
     VerbName,
