@@ -51,6 +51,30 @@ fn go_through<W: Write>(
     }
 }
 
+/// Goes on to the header, then through the replies and their records, and writes a line for each reply that refuses.
+fn write_lines<W: Write>(
+    alloc: Global,
+    writer: &mut W,
+    head: &mut AdviceLine,
+    body: &mut AdviceLine,
+    records: &mut Records<'_>,
+    replies: &[u8],
+) -> Result<(), AdviceFault>
+    ensures { OnOk result (WritesAdvice (refusals replies.now)
+        (W.contents writer.old) (W.contents writer.new)) }
+{
+    records.go_on()?;
+    let mut rest = replies;
+    'replies: loop {
+        let (reply, behind) = cut_at(rest, b'\n');
+        go_through(alloc, writer, head, body, records, reply)?;
+        match behind {
+            Some(text) => rest = text,
+            None => return Ok(()),
+        }
+    }
+}
+
 /// Writes a line for each record of a sheet that its reply refuses, in their order: the line of the sheet on which the
 /// record starts and its key, the field that is meant, what is wrong with it and what to do about it. `replies` are the
 /// reply lines of the sheet, one a record. Where none refuses, nothing is written.
@@ -68,16 +92,8 @@ pub fn write_advice<W: Write>(
     ensures { OnOk result (WritesAdvice (refusals replies.now)
         (W.contents writer.old) (W.contents writer.new)) }
 {
-    let mut records = Records::new(alloc, kind, sheet)?;
+    let mut records = Records::new(alloc, kind, sheet);
     let mut head = AdviceLine::new(alloc);
     let mut body = AdviceLine::new(alloc);
-    let mut rest = replies;
-    'replies: loop {
-        let (reply, behind) = cut_at(rest, b'\n');
-        go_through(alloc, writer, &mut head, &mut body, &mut records, reply)?;
-        match behind {
-            Some(text) => rest = text,
-            None => return Ok(()),
-        }
-    }
+    write_lines(alloc, writer, &mut head, &mut body, &mut records, replies)
 }

@@ -26,21 +26,15 @@ pub(crate) struct Records<'a> {
 }
 
 impl<'a> Records<'a> {
-    /// The records of a sheet, before the first behind its header.
-    pub(crate) fn new(
-        alloc: Global,
-        kind: Sheet,
-        sheet: &'a [u8],
-    ) -> Result<Records<'a>, AdviceFault> {
-        let mut records = Records {
+    /// The records of a sheet, before its header.
+    pub(crate) fn new(alloc: Global, kind: Sheet, sheet: &'a [u8]) -> Records<'a> {
+        Records {
             kind,
             rows: open(alloc, sheet),
             row: ByteRecord::new(alloc),
             is_found: false,
             place: Place::start(sheet),
-        };
-        records.go_on()?;
-        Ok(records)
+        }
     }
 
     /// Goes on to the next record.

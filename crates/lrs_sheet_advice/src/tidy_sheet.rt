@@ -83,40 +83,41 @@ fn push_text(
     alloc: Global,
     kind: Sheet,
     text: &[u8],
+    bench: &mut Bench,
     notes: &mut Notes,
     tidied: &mut Vec<u8>,
 ) -> Result<(), TidyFault> {
-    let mut bench = Bench::new(alloc);
     if let Some(broken) = broken_from(text) {
-        doubt_bytes(alloc, &mut bench, notes, text, broken)?;
+        doubt_bytes(alloc, bench, notes, text, broken)?;
         return Ok(());
     }
     let lead = lead_of(text);
-    tell_lead(&mut bench, notes, lead)?;
+    tell_lead(bench, notes, lead)?;
     let mut rows = Rows::new(alloc, lead);
-    rows.push_sheet(alloc, kind, &mut bench, notes, tidied)
+    rows.push_sheet(alloc, kind, bench, notes, tidied)
 }
 
-/// The same of a text in UTF-16.
+fn doubt_units(bench: &mut Bench, notes: &mut Notes) -> Result<(), TidyFault> {
+    bench.note.clear();
+    bench.note.say("this is no UTF-16, though it begins so: save it as CSV in UTF-8")?;
+    notes.add_doubt(&bench.note)?;
+    Ok(())
+}
+
+/// The same of a text in UTF-16. What was changed is not told where there is a doubt.
 fn push_units(
     alloc: Global,
     kind: Sheet,
     units: &[u8],
     is_big: bool,
+    bench: &mut Bench,
     notes: &mut Notes,
     tidied: &mut Vec<u8>,
 ) -> Result<(), TidyFault> {
-    let mut bench = Bench::new(alloc);
+    add_words(bench, notes, "UTF-16 became UTF-8")?;
     match decoded(alloc, units, is_big)? {
-        Some(text) => {
-            add_words(&mut bench, notes, "UTF-16 became UTF-8")?;
-            push_text(alloc, kind, text.as_bytes(), notes, tidied)
-        }
-        None => {
-            bench.note.say("this is no UTF-16, though it begins so: save it as CSV in UTF-8")?;
-            notes.add_doubt(&bench.note)?;
-            Ok(())
-        }
+        Some(text) => push_text(alloc, kind, text.as_bytes(), bench, notes, tidied),
+        None => doubt_units(bench, notes),
     }
 }
 
@@ -125,23 +126,42 @@ fn push_bytes(
     alloc: Global,
     kind: Sheet,
     bytes: &[u8],
+    bench: &mut Bench,
     notes: &mut Notes,
     tidied: &mut Vec<u8>,
 ) -> Result<(), TidyFault> {
     match encoding_of(bytes) {
-        Encoding::Utf8(text) => push_text(alloc, kind, text, notes, tidied),
+        Encoding::Utf8(text) => push_text(alloc, kind, text, bench, notes, tidied),
         Encoding::MarkedUtf8(text) => {
-            let mut bench = Bench::new(alloc);
-            add_words(&mut bench, notes, "the byte order mark was left out")?;
-            push_text(alloc, kind, text, notes, tidied)
+            add_words(bench, notes, "the byte order mark was left out")?;
+            push_text(alloc, kind, text, bench, notes, tidied)
         }
-        Encoding::BigUtf16(units) => push_units(alloc, kind, units, true, notes, tidied),
-        Encoding::LittleUtf16(units) => push_units(alloc, kind, units, false, notes, tidied),
+        Encoding::BigUtf16(units) => push_units(alloc, kind, units, true, bench, notes, tidied),
+        Encoding::LittleUtf16(units) => push_units(alloc, kind, units, false, bench, notes, tidied),
     }
 }
 
 /// Writes a sheet of the bytes of a file, and says what became of it, in lines. Whether there is nothing that could be read
 /// in two ways; if there is, each such text is named, and nothing else is said.
+fn mend_at(
+    alloc: Global,
+    kind: Sheet,
+    bytes: &[u8],
+    bench: &mut Bench,
+    notes: &mut Notes,
+    tidied: &mut Vec<u8>,
+    said: &mut Vec<u8>,
+) -> Result<bool, TidyFault> {
+    push_bytes(alloc, kind, bytes, bench, notes, tidied)?;
+    said.extend_from_slice(notes.lines())?;
+    if notes.has_doubts() {
+        said.extend_from_slice(b"nothing is written\n")?;
+        return Ok(false);
+    }
+    Ok(true)
+}
+
+/// The same at a bench of its own. What may fail only borrows it, so that there is one place where it is dropped.
 fn mend(
     alloc: Global,
     kind: Sheet,
@@ -149,14 +169,9 @@ fn mend(
     tidied: &mut Vec<u8>,
     said: &mut Vec<u8>,
 ) -> Result<bool, TidyFault> {
+    let mut bench = Bench::new(alloc);
     let mut notes = Notes::new(alloc);
-    push_bytes(alloc, kind, bytes, &mut notes, tidied)?;
-    said.extend_from_slice(notes.lines())?;
-    if notes.has_doubts() {
-        said.extend_from_slice(b"nothing is written\n")?;
-        return Ok(false);
-    }
-    Ok(true)
+    mend_at(alloc, kind, bytes, &mut bench, &mut notes, tidied, said)
 }
 
 #[tactic(auto, using(crate::proofs::TidyRows::tidied_same, crate::proofs::TidyRows::tidied_other, crate::proofs::TidyRows::untidy))]

@@ -7,13 +7,13 @@ use crate::fault::AdviceFault;
 use crate::line::{AdviceLine, write_line};
 use crate::place::Place;
 use crate::records::{Records, open};
-use csv::{ByteRecord, ErrorKind};
+use csv::{ByteRecord, Error, ErrorKind, Reader};
 use lrs_sheet_records::{Sheet, column, is_header};
 use std::alloc::{AllocError, Global};
 use std::io::Write;
 
 /// What is wrong with a whole sheet.
-#[derive(Clone, Copy, PartialEq, Eq)]
+#[derive(Clone, Copy)]
 pub enum SheetFlaw {
     /// The first record is not the header: the fault `BadHeader` of a sheet.
     Header,
@@ -64,7 +64,8 @@ fn say_header(
     line: &mut AdviceLine,
     kind: Sheet,
     records: &mut Records<'_>,
-) -> Result<(), AllocError> {
+) -> Result<(), AdviceFault> {
+    records.go_on()?;
     match records.line() {
         Some(number) => {
             line.say("line ")?;
@@ -82,21 +83,53 @@ fn say_header(
         }
         line.say_bytes(column(kind, place))?;
     }
-    line.say(" is wanted")
+    line.say(" is wanted")?;
+    Ok(())
 }
 
-/// Why a sheet cannot be read to its end, if that is so.
-fn stop_of(alloc: Global, sheet: &[u8]) -> Option<ErrorKind> {
-    let mut rows = open(alloc, sheet);
-    let mut row = ByteRecord::new(alloc);
+/// Why a sheet cannot be read to its end.
+#[derive(Clone, Copy)]
+enum Stop {
+    Memory,
+    /// The record at this byte has so many fields, and not as many as are wanted.
+    Width { byte: u64, wanted: u64, found: u64 },
+    Other,
+}
+
+/// What an error of the reader says.
+fn stop_by(error: Error) -> Stop {
+    match error.into_kind() {
+        ErrorKind::OutOfMemory => Stop::Memory,
+        ErrorKind::UnequalLengths {
+            pos: Some(position),
+            expected_len,
+            len,
+        } => Stop::Width {
+            byte: position.byte,
+            wanted: expected_len,
+            found: len,
+        },
+        _ => Stop::Other,
+    }
+}
+
+/// Why the records that are left cannot all be read.
+fn stop_behind(rows: &mut Reader<&[u8]>, row: &mut ByteRecord) -> Stop {
     for _turn in 0..u64::MAX {
-        match rows.read_byte_record(&mut row) {
+        match rows.read_byte_record(row) {
             Ok(true) => {}
-            Ok(false) => return None,
-            Err(error) => return Some(error.into_kind()),
+            Ok(false) => return Stop::Other,
+            Err(error) => return stop_by(error),
         }
     }
-    None
+    Stop::Other
+}
+
+/// Why a sheet cannot be read to its end.
+fn stop_of(alloc: Global, sheet: &[u8]) -> Stop {
+    let mut rows = open(alloc, sheet);
+    let mut row = ByteRecord::new(alloc);
+    stop_behind(&mut rows, &mut row)
 }
 
 /// Says how many fields the record at a place has, and how many are wanted.
@@ -125,18 +158,16 @@ fn say_lengths(
 /// Says which record has the wrong number of fields.
 fn say_width(alloc: Global, line: &mut AdviceLine, sheet: &[u8]) -> Result<(), AdviceFault> {
     match stop_of(alloc, sheet) {
-        Some(ErrorKind::OutOfMemory) => return Err(AdviceFault::Memory),
-        Some(
-            ErrorKind::UnequalLengths {
-                pos: Some(position),
-                expected_len,
-                len,
-            },
-        ) => {
-            let start = Place::start(sheet).record_from(position.byte);
-            say_lengths(alloc, line, start, len, expected_len)?;
+        Stop::Memory => return Err(AdviceFault::Memory),
+        Stop::Width {
+            byte,
+            wanted,
+            found,
+        } => {
+            let start = Place::start(sheet).record_from(byte);
+            say_lengths(alloc, line, start, found, wanted)?;
         }
-        _ => line.say("the sheet cannot be read to its end")?,
+        Stop::Other => line.say("the sheet cannot be read to its end")?,
     }
     Ok(())
 }
@@ -151,12 +182,27 @@ fn say_flaw(
 ) -> Result<(), AdviceFault> {
     match flaw {
         SheetFlaw::Header => {
-            let mut records = Records::new(alloc, kind, sheet)?;
-            say_header(alloc, line, kind, &mut records)?;
-            Ok(())
+            let mut records = Records::new(alloc, kind, sheet);
+            say_header(alloc, line, kind, &mut records)
         }
         SheetFlaw::Width => say_width(alloc, line, sheet),
     }
+}
+
+/// Writes the line about a flaw, and nothing behind it.
+fn write_flaw<W: Write>(
+    alloc: Global,
+    writer: &mut W,
+    line: &mut AdviceLine,
+    nothing: &AdviceLine,
+    flaw: SheetFlaw,
+    kind: Sheet,
+    sheet: &[u8],
+) -> Result<(), AdviceFault>
+    ensures { OnOk result (WritesOneLine (W.contents writer.old) (W.contents writer.new)) }
+{
+    say_flaw(alloc, line, flaw, kind, sheet)?;
+    write_line(writer, line, nothing)
 }
 
 /// Writes one line about a sheet that cannot be read to its end: where it stops, what was found there, and what is wanted.
@@ -174,7 +220,6 @@ pub fn write_fault_advice<W: Write>(
     ensures { OnOk result (WritesOneLine (W.contents writer.old) (W.contents writer.new)) }
 {
     let mut line = AdviceLine::new(alloc);
-    say_flaw(alloc, &mut line, flaw, kind, sheet)?;
     let nothing = AdviceLine::new(alloc);
-    write_line(writer, &line, &nothing)
+    write_flaw(alloc, writer, &mut line, &nothing, flaw, kind, sheet)
 }

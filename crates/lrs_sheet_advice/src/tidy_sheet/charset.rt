@@ -37,9 +37,8 @@ fn unit_of(first: u8, second: u8, is_big: bool) -> u16 {
     }
 }
 
-/// The units of UTF-16; none where a byte is left over.
-fn units_of(alloc: Global, bytes: &[u8], is_big: bool) -> Result<Option<Vec<u16>>, AllocError> {
-    let mut units = Vec::new(alloc);
+/// Reads the units of UTF-16, and says whether no byte is left over.
+fn read_units(units: &mut Vec<u16>, bytes: &[u8], is_big: bool) -> Result<bool, AllocError> {
     let mut first: Option<u8> = None;
     for byte in bytes {
         match first {
@@ -50,9 +49,28 @@ fn units_of(alloc: Global, bytes: &[u8], is_big: bool) -> Result<Option<Vec<u16>
             None => first = Some(*byte),
         }
     }
-    match first {
-        Some(_) => Ok(None),
-        None => Ok(Some(units)),
+    Ok(first.is_none())
+}
+
+/// The text of the units of UTF-16; none where they are no text.
+fn text_of(alloc: Global, units: &[u16]) -> Result<Option<String>, AllocError> {
+    match String::from_utf16(alloc, units)? {
+        Ok(text) => Ok(Some(text)),
+        Err(_) => Ok(None),
+    }
+}
+
+/// The text of UTF-16, read into these units; none where it is no text.
+fn decoded_by(
+    alloc: Global,
+    units: &mut Vec<u16>,
+    bytes: &[u8],
+    is_big: bool,
+) -> Result<Option<String>, AllocError> {
+    if read_units(units, bytes, is_big)? {
+        text_of(alloc, units.as_slice())
+    } else {
+        Ok(None)
     }
 }
 
@@ -62,13 +80,8 @@ pub(crate) fn decoded(
     bytes: &[u8],
     is_big: bool,
 ) -> Result<Option<String>, AllocError> {
-    match units_of(alloc, bytes, is_big)? {
-        Some(units) => match String::from_utf16(alloc, units.as_slice())? {
-            Ok(text) => Ok(Some(text)),
-            Err(_) => Ok(None),
-        },
-        None => Ok(None),
-    }
+    let mut units = Vec::new(alloc);
+    decoded_by(alloc, &mut units, bytes, is_big)
 }
 
 /// Up to which byte a text is UTF-8; none where all of it is.

@@ -233,6 +233,20 @@ impl<'a> Header<'a> {
         notes.add_change(note)
     }
 
+    /// Finds the columns, and says what the header was made. What is wrong with it is a doubt.
+    fn read(
+        &self,
+        alloc: Global,
+        note: &mut AdviceLine,
+        notes: &mut Notes,
+        given: &ByteRecord,
+        found: &mut Vec<usize>,
+    ) -> Result<(), AllocError> {
+        self.find_columns(alloc, note, notes, found)?;
+        self.look_at_columns(alloc, note, notes)?;
+        self.tell_change(alloc, note, notes, given)
+    }
+
     /// In which column each field stands. What is wrong with the header is a doubt. `given` is the header as it stands in
     /// the text.
     pub(crate) fn columns(
@@ -242,12 +256,8 @@ impl<'a> Header<'a> {
         notes: &mut Notes,
         given: &ByteRecord,
     ) -> Result<Columns, AllocError> {
-        let mut columns = Columns {
-            found: Vec::new(alloc),
-        };
-        self.find_columns(alloc, note, notes, &mut columns.found)?;
-        self.look_at_columns(alloc, note, notes)?;
-        self.tell_change(alloc, note, notes, given)?;
-        Ok(columns)
+        let mut found = Vec::new(alloc);
+        self.read(alloc, note, notes, given, &mut found)?;
+        Ok(Columns { found })
     }
 }

@@ -9,7 +9,7 @@ use crate::tidy_sheet::notes::Notes;
 use crate::tidy_sheet::record::{Bench, Row, push_header};
 use csv::{ByteRecord, ErrorKind, Reader, ReaderBuilder};
 use lrs_sheet_records::Sheet;
-use std::alloc::Global;
+use std::alloc::{AllocError, Global};
 
 /// A reader of the rows of a text, however many fields each has.
 fn open<'a>(alloc: Global, lead: Lead<'a>) -> Reader<&'a [u8]> {
@@ -89,8 +89,10 @@ impl<'a> Rows<'a> {
             row: &bench.record,
             line,
         };
-        let columns = header.columns(alloc, &mut bench.note, notes, &self.row)?;
-        Ok(columns)
+        match header.columns(alloc, &mut bench.note, notes, &self.row) {
+            Ok(columns) => Ok(columns),
+            Err(AllocError) => Err(TidyFault::Memory),
+        }
     }
 
     /// Writes a record for each row that is left.
@@ -119,6 +121,23 @@ impl<'a> Rows<'a> {
         Err(TidyFault::Read)
     }
 
+    /// Writes a sheet of the rows behind the header, where nothing in that is in doubt.
+    fn push_behind(
+        &mut self,
+        alloc: Global,
+        kind: Sheet,
+        columns: &Columns,
+        bench: &mut Bench,
+        notes: &mut Notes,
+        sheet: &mut Vec<u8>,
+    ) -> Result<(), TidyFault> {
+        if notes.has_doubts() {
+            return Ok(());
+        }
+        push_header(sheet, kind)?;
+        self.push_records(alloc, kind, columns, bench, notes, sheet)
+    }
+
     /// Writes a sheet of the rows: a header, and a record for each row with something in it. Says what became of them.
     pub(crate) fn push_sheet(
         &mut self,
@@ -135,10 +154,6 @@ impl<'a> Rows<'a> {
             return Ok(());
         }
         let columns = self.columns(alloc, kind, bench, notes)?;
-        if notes.has_doubts() {
-            return Ok(());
-        }
-        push_header(sheet, kind)?;
-        self.push_records(alloc, kind, &columns, bench, notes, sheet)
+        self.push_behind(alloc, kind, &columns, bench, notes, sheet)
     }
 }

@@ -1,7 +1,7 @@
 use Rattle.std.proofs.Common.{◌≡◌, ◌++◌, List, length}
 use Rattle.lrs_machine.specs.Lines.{Text}
 use Rattle.lrs_sheet_advice.specs.Refusals.{WritesAdvice, refusals}
-use Rattle.lrs_sheet_advice.proofs.advice.write_advice.Given as goal
+use Rattle.lrs_sheet_advice.proofs.advice.write_lines.Given as goal
 
 abbrev pub decreases-replies : goal.decreases-replies
 decreases-replies g l = length l.rest

@@ -1,6 +1,6 @@
 use Rattle.std.proofs.Common.{[], refl}
 use Rattle.lrs_sheet_advice.proofs.WrittenLines.{advises-none, through-last, through-more}
-use Rattle.lrs_sheet_advice.proofs.advice.write_advice.Goals as goal
+use Rattle.lrs_sheet_advice.proofs.advice.write_lines.Goals as goal
 
 pub replies-init : goal.replies-init
 replies-init g c = ([], refl, advises-none (g.W.Write.contents c.args.writer.now))
