@@ -5,7 +5,7 @@ use crate::slot::Slot;
 use lrs_position::Method;
 
 /// What is seen in a malformed text.
-#[derive(Clone, Copy, PartialEq, Eq)]
+#[derive(Clone, Copy)]
 pub(crate) enum Flaw {
     Unused,
     SpaceFirst,
@@ -28,7 +28,7 @@ pub(crate) enum Flaw {
 }
 
 /// What a field wants: what can be wrong with its text.
-#[derive(Clone, Copy, PartialEq, Eq)]
+#[derive(Clone, Copy)]
 enum Sort {
     Number,
     Key,
@@ -193,7 +193,7 @@ fn sort_flaw(sort: Sort, text: &[u8], method: Option<Method>) -> Flaw {
 /// What is wrong with a malformed text: the first that is seen, in this order.
 pub(crate) fn flaw_of(slot: Slot, text: &[u8], method: Option<Method>) -> Flaw {
     let sort = sort_of(slot);
-    if sort == Sort::Nothing {
+    if matches!(sort, Sort::Nothing) {
         Flaw::Unused
     } else if matches!(text, [b' ' | b'\t', ..]) {
         Flaw::SpaceFirst
@@ -201,7 +201,7 @@ pub(crate) fn flaw_of(slot: Slot, text: &[u8], method: Option<Method>) -> Flaw {
         Flaw::SpaceLast
     } else if has_wrong_small_letter(sort, text, method) {
         Flaw::SmallLetters
-    } else if sort == Sort::Word && has_capital(text) {
+    } else if matches!(sort, Sort::Word) && has_capital(text) {
         Flaw::Capitals
     } else if is_decimal(sort, text, method) {
         match method {

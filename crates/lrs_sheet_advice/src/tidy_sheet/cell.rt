@@ -8,7 +8,7 @@ ghost use Rattle.lrs_sheet_advice.specs.TidySheets as spec;
 use crate::line::is_printable;
 
 /// What the text of a field is made of.
-#[derive(Clone, Copy, PartialEq, Eq)]
+#[derive(Clone, Copy)]
 pub(crate) enum CellForm {
     /// A whole number.
     Digits,
