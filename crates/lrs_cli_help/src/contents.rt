@@ -52,14 +52,23 @@ fn sort_of(text: &[u8]) -> &'static str {
     }
 }
 
+fn push_name(alloc: Global, names: &mut String, name: &[u8]) -> Option<()> {
+    names.push_str(" ").ok()?;
+    let name = shown(alloc, name)?;
+    names.push_str(name.as_str()).ok()
+}
+
+fn push_names<S: Alter>(alloc: Global, names: &mut String, conn: &Connection<S>) -> Option<()> {
+    for table in conn.schema().tables.as_slice() {
+        push_name(alloc, names, table.name.as_slice())?;
+    }
+    Some(())
+}
+
 // The names of a database's tables, with a space before each.
 fn table_names<S: Alter>(alloc: Global, conn: &Connection<S>) -> Option<String> {
     let mut names = String::new(alloc);
-    for table in conn.schema().tables.as_slice() {
-        let name = shown(alloc, table.name.as_slice())?;
-        names.push_str(" ").ok()?;
-        names.push_str(name.as_str()).ok()?;
-    }
+    push_names(alloc, &mut names, conn)?;
     Some(names)
 }
 

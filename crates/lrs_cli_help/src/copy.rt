@@ -17,13 +17,24 @@ fn copied(alloc: Global, bytes: &[u8]) -> Option<Memory> {
     Some(copy)
 }
 
+fn read_copy(rt: &HostRuntime, path: &str) -> Option<Memory> {
+    let bytes = fs::read(rt, path).ok()?;
+    copied(rt.alloc(), bytes.as_slice())
+}
+
 // What is in the file at a path: nothing where there is none.
 fn copy_at(rt: &HostRuntime, path: &str) -> Option<Memory> {
     match fs::metadata(rt, path) {
         Ok(found) if found.len() > MOST_BYTES => None,
-        Ok(_) => copied(rt.alloc(), fs::read(rt, path).ok()?.as_slice()),
+        Ok(_) => read_copy(rt, path),
         Err(_) => Some(Memory::new(rt.alloc())),
     }
+}
+
+// The same of its log.
+fn copy_of_log(rt: &HostRuntime, path: &str) -> Option<Memory> {
+    let log_path = format!(in rt.alloc(); "{path}-wal").ok()?;
+    copy_at(rt, log_path.as_str())
 }
 
 // Over any disk, as one function makes the call.
@@ -47,8 +58,7 @@ pub(crate) fn connect_to_copy(
     rt: &HostRuntime,
     path: &str,
 ) -> Option<Result<Connection<FileStore<Memory>>, Error>> {
-    let log_path = format!(in rt.alloc(); "{path}-wal").ok()?;
-    let log = copy_at(rt, log_path.as_str())?;
+    let log = copy_of_log(rt, path)?;
     let db = copy_at(rt, path)?;
     Some(connect(rt.alloc(), Files { log, db }))
 }

@@ -22,6 +22,12 @@ fn bytes_of(rt: &HostRuntime, sheet: &str) -> Option<Vec<u8>> {
     fs::read(rt, sheet).ok()
 }
 
+fn say_text(rt: &HostRuntime, sheet: &str, text: &[u8]) -> Option<()> {
+    let line = str::from_utf8(text).ok()?;
+    say_of(rt, sheet, line.trim());
+    Some(())
+}
+
 // Says which line of a sheet is wrong, what stands there and what is wanted.
 fn tell_line(
     rt: &HostRuntime,
@@ -31,10 +37,9 @@ fn tell_line(
     text: &[u8],
 ) -> Option<()> {
     let mut said = Vec::new(rt.alloc());
-    write_fault_advice(rt.alloc(), &mut said, flaw, kind, text).ok()?;
-    let line = str::from_utf8(said.as_slice()).ok()?;
-    say_of(rt, sheet, line.trim());
-    Some(())
+    let done = write_fault_advice(rt.alloc(), &mut said, flaw, kind, text);
+    done.ok()?;
+    say_text(rt, sheet, said.as_slice())
 }
 
 // The same of the header of a sheet of questions.
@@ -82,20 +87,25 @@ fn is_near(rt: &HostRuntime, kind: Sheet, header: &str, text: &[u8]) -> bool {
     }
 }
 
-/// Says what makes a sheet of what a spreadsheet wrote, where the sheet of a job is in a file and nearly one.
-pub(crate) fn tell_tidying(rt: &HostRuntime, job: &Job<'_>) -> Option<()> {
-    let kind = sheet_kind(job)?;
-    let sheet = sheet_of(job)?;
-    let text = bytes_of(rt, sheet)?;
-    if !is_near(rt, kind, wanted_header(job), text.as_slice()) {
-        return None;
-    }
+fn name_tidying(rt: &HostRuntime, kind: Sheet, sheet: &str) {
     let option = match kind {
         Sheet::Edits => "",
         Sheet::Survey => " --survey",
     };
     let _ = eprintln!(rt; "explain: roadlrs tidy {sheet}{option} > NEW.csv makes a sheet of it");
-    Some(())
+}
+
+/// Says what makes a sheet of what a spreadsheet wrote, where the sheet of a job is in a file and nearly one.
+pub(crate) fn tell_tidying(rt: &HostRuntime, job: &Job<'_>) -> Option<()> {
+    let kind = sheet_kind(job)?;
+    let sheet = sheet_of(job)?;
+    let text = bytes_of(rt, sheet)?;
+    if is_near(rt, kind, wanted_header(job), text.as_slice()) {
+        name_tidying(rt, kind, sheet);
+        Some(())
+    } else {
+        None
+    }
 }
 
 /// Reads the sheet of a job once more, if it is in a file, and says which line is the first that is wrong. None where
@@ -109,12 +119,16 @@ pub(crate) fn tell_flaw(rt: &HostRuntime, job: &Job<'_>, flaw: SheetFlaw) -> Opt
     }
 }
 
+fn show_last_line(rt: &HostRuntime, sheet: &str, line: &[u8]) -> Option<()> {
+    let line = shown(rt.alloc(), line)?;
+    let _ = eprintln!(rt; "explain: {sheet}: its last line has no end: \"{line}\"");
+    Some(())
+}
+
 /// Reads the sheet of a job once more, if it is in a file, and says what stands in its last line, which has no end. None
 /// where that is not said.
 pub(crate) fn tell_last_line(rt: &HostRuntime, job: &Job<'_>) -> Option<()> {
     let sheet = sheet_of(job)?;
     let text = bytes_of(rt, sheet)?;
-    let line = shown(rt.alloc(), last_line(text.as_slice()))?;
-    let _ = eprintln!(rt; "explain: {sheet}: its last line has no end: \"{line}\"");
-    Some(())
+    show_last_line(rt, sheet, last_line(text.as_slice()))
 }

@@ -1,11 +1,12 @@
 //! Which process has a file locked, as far as the system says it.
 
 use os::RangeLock;
-use std::alloc::Global;
+use std::alloc::{AllocError, Global};
 use std::fs;
-use std::fs::OpenOptions;
+use std::fs::{OpenOptions, ReadDir};
 use std::os::fd::AsRawFd;
 use std::os::unix::fs::MetadataExt;
+use std::path::Path;
 use std::rt::HostRuntime;
 
 /// A process that has a file: its number, and its name, with the job that it does where it is this program.
@@ -36,19 +37,19 @@ fn is_of_sqlite(first: &str) -> bool {
     }
 }
 
+fn process_by_words(words: &[&str], inode: u64) -> Option<u64> {
+    if words.len() < 7 || inode_in(words[5]) != Some(inode) || !is_of_sqlite(words[6]) {
+        return None;
+    }
+    Some(words[4].parse::<u64>().unwrap_or(0))
+}
+
 // The process that has a lock of SQLite's on this file by a line of the system's locks, as
 // `1: POSIX  ADVISORY  WRITE 1234 08:01:5678 1073741824 1073742335`. A process that cannot be seen from here is 0, and
 // of a lock that goes with an open file it is -1: then it is 0 here.
 fn process_in(alloc: Global, line: &str, inode: u64) -> Option<u64> {
     let words = line.split_whitespace().collect::<Vec<&str>>(alloc).ok()?;
-    if words.len() < 7 {
-        return None;
-    }
-    let (process, place, first) = (words[4], words[5], words[6]);
-    if inode_in(place) != Some(inode) || !is_of_sqlite(first) {
-        return None;
-    }
-    Some(process.parse::<u64>().unwrap_or(0))
+    process_by_words(words.as_slice(), inode)
 }
 
 fn process_among(alloc: Global, locks: &str, inode: u64) -> Option<u64> {
@@ -74,28 +75,43 @@ fn is_locked_by(alloc: Global, told: &str, inode: u64) -> bool {
     false
 }
 
+fn tells_lock(rt: &HostRuntime, path: Path<'_>, inode: u64) -> bool {
+    match fs::read_to_string(rt, path) {
+        Ok(told) => is_locked_by(rt.alloc(), told.as_str(), inode),
+        Err(_) => false,
+    }
+}
+
+fn open_files_of(rt: &HostRuntime, process: u64) -> Option<ReadDir<HostRuntime>> {
+    let folder = format!(in rt.alloc(); "/proc/{process}/fdinfo").ok()?;
+    fs::read_dir(rt, folder.as_str()).ok()
+}
+
 // Whether a process has a lock of SQLite's on this file by one of its open files.
 fn has_lock(rt: &HostRuntime, process: u64, inode: u64) -> Option<bool> {
-    let folder = format!(in rt.alloc(); "/proc/{process}/fdinfo").ok()?;
-    for entry in fs::read_dir(rt, folder.as_str()).ok()? {
-        let entry = entry.ok()?;
-        if let Ok(told) = fs::read_to_string(rt, entry.path()) {
-            if is_locked_by(rt.alloc(), told.as_str(), inode) {
-                return Some(true);
-            }
+    for entry in open_files_of(rt, process)? {
+        if tells_lock(rt, entry.ok()?.path(), inode) {
+            return Some(true);
         }
     }
     Some(false)
 }
 
+// The process of this name, if it has a lock of SQLite's on this file.
+fn process_named(rt: &HostRuntime, name: &str, inode: u64) -> Option<u64> {
+    let process = name.parse::<u64>().ok()?;
+    if has_lock(rt, process, inode) == Some(true) {
+        Some(process)
+    } else {
+        None
+    }
+}
+
 // The process of a lock that goes with an open file, which the list of all locks does not name.
 fn process_by_files(rt: &HostRuntime, inode: u64) -> Option<u64> {
     for entry in fs::read_dir(rt, "/proc").ok()? {
-        let entry = entry.ok()?;
-        if let Ok(process) = entry.file_name().parse::<u64>() {
-            if has_lock(rt, process, inode) == Some(true) {
-                return Some(process);
-            }
+        if let Some(process) = process_named(rt, entry.ok()?.file_name(), inode) {
+            return Some(process);
         }
     }
     None
@@ -131,53 +147,52 @@ fn port_among(words: &[&str]) -> Option<u64> {
     None
 }
 
-// The words of a process; none where the system does not tell them.
-fn command_of(rt: &HostRuntime, process: u64) -> Option<String> {
-    let path = format!(in rt.alloc(); "/proc/{process}/cmdline").ok()?;
+// What the system tells of a process in its file of this name; none where it tells nothing.
+fn told_of(rt: &HostRuntime, process: u64, file: &str) -> Option<String> {
+    let path = format!(in rt.alloc(); "/proc/{process}/{file}").ok()?;
     fs::read_to_string(rt, path.as_str()).ok()
 }
 
-fn name_of(rt: &HostRuntime, process: u64) -> Option<String> {
-    let path = format!(in rt.alloc(); "/proc/{process}/comm").ok()?;
-    let text = fs::read_to_string(rt, path.as_str()).ok()?;
-    let name = text.as_str().trim();
-    format!(in rt.alloc(); "{name}").ok()
+fn holder_called(
+    process: u64,
+    name: Result<String, AllocError>,
+    port: Option<u64>,
+) -> Option<Holder> {
+    match name {
+        Ok(name) => Some(Holder {
+            process,
+            name,
+            port,
+        }),
+        Err(AllocError) => None,
+    }
 }
 
 // What is known of a process by its words, where the first of them is this program's job.
-fn holder_by_words(rt: &HostRuntime, process: u64, name: String, command: &str) -> Option<Holder> {
-    let words = command.split('\0').collect::<Vec<&str>>(rt.alloc()).ok()?;
-    let port = port_among(words.as_slice());
-    let job = words.iter().skip(1).find(|word| is_job(**word));
-    match job {
-        Some(job) if port.is_some() || name.as_str() == "roadlrs" => {
-            let called = format!(in rt.alloc(); "{} {job}", name.as_str()).ok()?;
-            Some(Holder {
-                process,
-                name: called,
-                port,
-            })
+fn holder_by_words(alloc: Global, process: u64, name: &str, words: &[&str]) -> Option<Holder> {
+    let port = port_among(words);
+    match words.iter().skip(1).find(|word| is_job(**word)) {
+        Some(job) if port.is_some() || name == "roadlrs" => {
+            holder_called(process, format!(in alloc; "{name} {job}"), port)
         }
-        _ => Some(Holder {
-            process,
-            name,
-            port: None,
-        }),
+        _ => holder_called(process, format!(in alloc; "{name}"), None),
     }
+}
+
+fn holder_by(alloc: Global, process: u64, name: &str, command: &str) -> Option<Holder> {
+    let words = command.split('\0').collect::<Vec<&str>>(alloc).ok()?;
+    holder_by_words(alloc, process, name, words.as_slice())
 }
 
 /// The process that has the database at a path locked, where the system tells it.
 pub(crate) fn holder_of(rt: &HostRuntime, path: &str) -> Option<Holder> {
     let inode = fs::metadata(rt, path).ok()?.ino();
     let process = process_of(rt, inode)?;
-    let name = name_of(rt, process)?;
-    match command_of(rt, process) {
-        Some(command) => holder_by_words(rt, process, name, command.as_str()),
-        None => Some(Holder {
-            process,
-            name,
-            port: None,
-        }),
+    let name = told_of(rt, process, "comm")?;
+    let name = name.as_str().trim();
+    match told_of(rt, process, "cmdline") {
+        Some(command) => holder_by(rt.alloc(), process, name, command.as_str()),
+        None => holder_by_words(rt.alloc(), process, name, &[]),
     }
 }
 

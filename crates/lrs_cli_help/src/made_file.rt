@@ -10,7 +10,7 @@ use std::rt::HostRuntime;
 const MODE: u32 = 0o644;
 
 /// A file that this run has made, whatever it is named.
-#[derive(Clone, Copy, PartialEq, Eq)]
+#[derive(Clone, Copy)]
 pub struct MadeFile {
     device: u64,
     number: u64,

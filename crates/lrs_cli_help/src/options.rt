@@ -16,7 +16,7 @@ const USUAL_WAIT: u64 = 5;
 const LONGEST_WAIT: u64 = 3_600;
 
 /// The options that go with every job.
-#[derive(Clone, Copy, PartialEq, Eq)]
+#[derive(Clone, Copy)]
 pub struct Options {
     /// An inventory that is not there is a fault, and is not made.
     pub existing: bool,
@@ -36,7 +36,7 @@ impl Options {
 }
 
 /// What the next word is: one of the job, or what an option is given.
-#[derive(Clone, Copy, PartialEq, Eq)]
+#[derive(Clone, Copy)]
 pub enum NextWord {
     OfJob,
     Wait,

@@ -15,14 +15,32 @@ const ERROR: i32 = 2;
 // How many seconds a reader of standard error is waited for.
 const PATIENCE: u64 = 1;
 
-// What is told of a stream that is to be written, as soon as there is something, and within this time.
-fn told_of(rt: &HostRuntime, stream: i32, time: Duration) -> io::Result<Events<Global>> {
-    let mut poll = Poll::new(rt)?;
-    let mut events = Events::with_capacity(rt.alloc(), 1)?;
+fn wait_for(
+    poll: &mut Poll,
+    events: &mut Events<Global>,
+    stream: i32,
+    time: Duration,
+) -> io::Result<()> {
     let mut source = SourceFd(&stream);
     poll.registry()
         .register(&mut source, Token(0), Interest::WRITABLE)?;
-    poll.poll(&mut events, Some(time))?;
+    poll.poll(events, Some(time))
+}
+
+fn fill(
+    rt: &HostRuntime,
+    events: &mut Events<Global>,
+    stream: i32,
+    time: Duration,
+) -> io::Result<()> {
+    let mut poll = Poll::new(rt)?;
+    wait_for(&mut poll, events, stream, time)
+}
+
+// What is told of a stream that is to be written, as soon as there is something, and within this time.
+fn told_of(rt: &HostRuntime, stream: i32, time: Duration) -> io::Result<Events<Global>> {
+    let mut events = Events::with_capacity(rt.alloc(), 1)?;
+    fill(rt, &mut events, stream, time)?;
     Ok(events)
 }
 

@@ -2,7 +2,7 @@
 
 use crate::copy::connect_to_copy;
 use crate::shown::shown;
-use sqlite::{Alter, Connection, Error};
+use sqlite::{Alter, Connection, Error, Row};
 use std::alloc::Global;
 use std::rt::HostRuntime;
 
@@ -124,31 +124,52 @@ const RULES: [Rule; 20] = [
     },
 ];
 
-// The first row that a query finds, as one text.
-fn first_row<S: Alter>(alloc: Global, conn: &mut Connection<S>, query: &str) -> Option<String> {
-    let row = conn.query_row(query, &[]).ok()?;
+fn text_in(alloc: Global, row: &Row) -> Option<String> {
     let text = row.get::<String>(0).ok()?;
     shown(alloc, text.as_str().as_bytes())
 }
 
-// Over any store, since a function over one that is in files is costly to prove.
+// The first row that a query finds, as one text.
+fn first_row<S: Alter>(alloc: Global, conn: &mut Connection<S>, query: &str) -> Option<String> {
+    let row = conn.query_row(query, &[]).ok()?;
+    text_in(alloc, &row)
+}
+
+// The first row that breaks a rule.
+fn row_by<S: Alter>(alloc: Global, conn: &mut Connection<S>, rule: &Rule) -> Option<BrokenRow> {
+    let row = first_row(alloc, conn, rule.query)?;
+    Some(BrokenRow {
+        row,
+        flaw: rule.flaw,
+    })
+}
+
+fn first_broken<S: Alter>(
+    alloc: Global,
+    conn: &mut Connection<S>,
+    table: &str,
+) -> Option<BrokenRow> {
+    for rule in &RULES {
+        if rule.table == table {
+            if let Some(broken) = row_by(alloc, conn, rule) {
+                return Some(broken);
+            }
+        }
+    }
+    None
+}
+
+// Over any store, since a function over one that is in files is costly to prove. What looks for the row borrows the
+// connection, so that there is one place where it is dropped.
 fn broken_in<S: Alter + Drop>(
     alloc: Global,
     conn: Result<Connection<S>, Error>,
     table: &str,
 ) -> Option<BrokenRow> {
-    let Ok(mut conn) = conn else {
-        return None;
-    };
-    for rule in &RULES {
-        if rule.table == table {
-            if let Some(row) = first_row(alloc, &mut conn, rule.query) {
-                let flaw = rule.flaw;
-                return Some(BrokenRow { row, flaw });
-            }
-        }
+    match conn {
+        Ok(mut conn) => first_broken(alloc, &mut conn, table),
+        Err(_) => None,
     }
-    None
 }
 
 /// A row of a table in the file at a path that breaks a rule of its own, by its key. None where the rows have to be seen

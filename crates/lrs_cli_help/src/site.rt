@@ -12,7 +12,7 @@ const HEADER: u64 = 100;
 const EMPTY_LOG: u64 = 41;
 
 /// What stands at the path of an inventory.
-#[derive(Clone, Copy, PartialEq, Eq)]
+#[derive(Clone, Copy)]
 pub enum Site {
     /// Neither a file nor a log; or a file of no bytes, without a log.
     Vacant,

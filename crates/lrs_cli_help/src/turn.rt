@@ -31,7 +31,7 @@ const LONGEST_PAUSE: u64 = 50;
 const QUIET_SECONDS: u64 = 1;
 
 /// What a file is opened for.
-#[derive(Clone, Copy, PartialEq, Eq)]
+#[derive(Clone, Copy)]
 pub enum Purpose {
     /// It is only read, beside others that do so.
     Look,
@@ -119,7 +119,7 @@ fn open_to_lock(rt: &HostRuntime, path: &str, purpose: Purpose) -> Option<fs::Fi
     if !fs::metadata(rt, path).ok()?.is_file() {
         return None;
     }
-    let is_written = purpose == Purpose::Change;
+    let is_written = matches!(purpose, Purpose::Change);
     let file = OpenOptions::new()
         .read(true)
         .write(is_written)
@@ -140,7 +140,7 @@ fn is_taken(
     purpose: Purpose,
     reader: &mut Option<ReadLock>,
 ) -> bool {
-    if purpose == Purpose::Change {
+    if let Purpose::Change = purpose {
         return would_be_kept_out(file, RangeLock::Exclusive, OF_DATABASE);
     }
     match ReadLock::take(rt, path) {
