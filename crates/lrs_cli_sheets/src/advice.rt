@@ -16,24 +16,24 @@ pub(crate) struct Trial<'a> {
 }
 
 // A line for each record: an empty one where it was passed over.
-fn lines_of(alloc: Global, trial: &Trial<'_>) -> Result<Vec<u8>, AllocError> {
-    let mut lines = Vec::new(alloc);
+fn push_lines(lines: &mut Vec<u8>, trial: &Trial<'_>) -> Result<(), AllocError> {
     for _ in 0..trial.passed {
         lines.push(b'\n')?;
     }
-    lines.extend_from_slice(trial.replies)?;
-    Ok(lines)
+    lines.extend_from_slice(trial.replies)
 }
 
 // Writes what to do about each record that is refused, and about the sheet where it cannot be read on; and how many
-// records there are of each kind.
+// records there are of each kind. Whatever may fail only borrows the lines, here and below, so that there is one place
+// where they are dropped.
 fn write_said(
     alloc: Global,
     said: &mut Vec<u8>,
     trial: &Trial<'_>,
-    lines: &[u8],
+    lines: &mut Vec<u8>,
 ) -> Result<(), AdviceFault> {
-    write_advice(alloc, said, trial.kind, trial.text, lines)?;
+    push_lines(lines, trial)?;
+    write_advice(alloc, said, trial.kind, trial.text, lines.as_slice())?;
     let flaw = match trial.outcome {
         Ok(tally) => return write_summary(said, tally.done, tally.again, tally.refused),
         Err(SheetFault::BadHeader) => SheetFlaw::Header,
@@ -43,23 +43,18 @@ fn write_said(
     write_fault_advice(alloc, said, flaw, trial.kind, trial.text)
 }
 
-// The same as a text. Whatever may fail only borrows it, so that there is one place where it is dropped.
-fn advice_on(alloc: Global, trial: &Trial<'_>) -> Result<Vec<u8>, AdviceFault> {
-    let Ok(lines) = lines_of(alloc, trial) else {
-        return Err(AdviceFault::Memory);
-    };
-    let mut said = Vec::new(alloc);
-    write_said(alloc, &mut said, trial, lines.as_slice())?;
-    Ok(said)
+fn push_said(alloc: Global, said: &mut Vec<u8>, trial: &Trial<'_>) -> Result<(), AdviceFault> {
+    let mut lines = Vec::new(alloc);
+    write_said(alloc, said, trial, &mut lines)
 }
 
 /// Says on standard error how many records would be done, and what to do about each one that would be refused. Where
 /// standard error takes nothing, or memory runs out, the status alone tells.
 pub(crate) fn advise<R: Runtime<A = Global>>(rt: &R, trial: &Trial<'_>) {
-    let Ok(said) = advice_on(rt.alloc(), trial) else {
-        return;
-    };
-    if let Ok(text) = str::from_utf8(said.as_slice()) {
-        let _ = eprint!(rt; "{text}");
+    let mut said = Vec::new(rt.alloc());
+    if push_said(rt.alloc(), &mut said, trial).is_ok() {
+        if let Ok(text) = str::from_utf8(said.as_slice()) {
+            let _ = eprint!(rt; "{text}");
+        }
     }
 }

@@ -25,7 +25,7 @@ pub enum ProgressDisplay {
 }
 
 /// How much there is of a sheet.
-#[derive(Clone, Copy, PartialEq, Eq)]
+#[derive(Clone, Copy)]
 pub enum Extent {
     /// So many bytes, which are there already, as in a file.
     Bytes(u64),
@@ -160,7 +160,7 @@ impl<'a, R: Eprint + Clock> ProgressLine<'a, R> {
         }
         self.bytes
             .set(self.bytes.get().saturating_add(read.len() as u64));
-        if self.work == LongWork::Trial {
+        if let LongWork::Trial = self.work {
             self.lines
                 .set(self.lines.get().saturating_add(lines_in(read)));
         }

@@ -16,7 +16,7 @@ use std::io::{Read, Write};
 use std::rt::Runtime;
 
 /// When the answers to a sheet of questions are handed to the operating system.
-#[derive(Clone, Copy, PartialEq, Eq)]
+#[derive(Clone, Copy)]
 pub enum QuestionPace {
     /// Those to the questions that have arrived, before more is read: whoever sends them may wait for each of them.
     AsTheyArrive,

@@ -3,7 +3,7 @@
 use std::fmt;
 
 /// What takes long.
-#[derive(Clone, Copy, PartialEq, Eq)]
+#[derive(Clone, Copy)]
 pub(crate) enum LongWork {
     /// The records of a sheet are done, in memory.
     Records,
@@ -94,7 +94,7 @@ impl fmt::Display for Report {
             write!(f, ", {left} left")?;
         }
         // No signal can be caught, so what to do behind one stands there before it comes.
-        if self.work == LongWork::KeptRecords {
+        if let LongWork::KeptRecords = self.work {
             f.write_str("; after Ctrl-C: --resume")?;
         }
         Ok(())

@@ -16,13 +16,22 @@ const INPUT: i32 = 0;
 
 const OUTPUT: i32 = 1;
 
-// Waits until a stream is ready, but no longer than a second.
-fn wait_for<R: Runtime<A = Global> + Net>(rt: &R, fd: i32, interest: Interest) -> io::Result<()> {
-    let mut poll = Poll::new(rt)?;
-    let mut events = Events::with_capacity(rt.alloc(), 1)?;
+fn wait_by(
+    poll: &mut Poll,
+    events: &mut Events<Global>,
+    fd: i32,
+    interest: Interest,
+) -> io::Result<()> {
     let mut stream = SourceFd(&fd);
     poll.registry().register(&mut stream, Token(0), interest)?;
-    poll.poll(&mut events, Some(Duration::from_secs(1)))
+    poll.poll(events, Some(Duration::from_secs(1)))
+}
+
+// Waits until a stream is ready, but no longer than a second.
+fn wait_for<R: Runtime<A = Global> + Net>(rt: &R, fd: i32, interest: Interest) -> io::Result<()> {
+    let mut events = Events::with_capacity(rt.alloc(), 1)?;
+    let mut poll = Poll::new(rt)?;
+    wait_by(&mut poll, &mut events, fd, interest)
 }
 
 // Waits where a stream was not ready; where a signal cut a call short it is called again. Any other error is answered.

@@ -33,21 +33,21 @@ fn write_tidied<W: Write + Drop>(tidied: &[u8], to: W) -> Result<W, ProgramFault
     }
 }
 
-// Tidies the bytes of a file, and writes what they became.
+// Tidies the bytes of a file into one list, and writes what they became. What is said is put together in the other one.
 #[tactic(auto, using(crate::proofs::Tidied::has_tidied, crate::proofs::Tidied::has_not_tidied))]
-fn tidy_bytes<R: Runtime<A = Global>, W: Write + Drop>(
+fn tidy_by<R: Runtime<A = Global>, W: Write + Drop>(
     rt: &R,
     kind: Sheet,
     bytes: &[u8],
+    tidied: &mut Vec<u8>,
+    said: &mut Vec<u8>,
     to: W,
 ) -> Result<(W, Ending), ProgramFault>
     ensures ended { IfOk result (λ done. EndsTidy kind (Some bytes.now)
         (W.contents to) (W.contents done.0) done.1) }
     ensures failed { IfErr result (λ e. e ≡ ProgramFault.Write) }
 {
-    let mut tidied = Vec::new(rt.alloc());
-    let mut said = Vec::new(rt.alloc());
-    match tidy(rt.alloc(), kind, bytes, &mut tidied, &mut said) {
+    match tidy(rt.alloc(), kind, bytes, tidied, said) {
         Ok(true) => {
             tell(rt, said.as_slice());
             match write_tidied(tidied.as_slice(), to) {
@@ -62,6 +62,22 @@ fn tidy_bytes<R: Runtime<A = Global>, W: Write + Drop>(
         Err(TidyFault::Memory) => Ok((to, Ending::Stopped(ProgramFault::Memory))),
         Err(TidyFault::Read) => Ok((to, Ending::Stopped(ProgramFault::Read))),
     }
+}
+
+// The same, with lists of its own.
+fn tidy_bytes<R: Runtime<A = Global>, W: Write + Drop>(
+    rt: &R,
+    kind: Sheet,
+    bytes: &[u8],
+    to: W,
+) -> Result<(W, Ending), ProgramFault>
+    ensures ended { IfOk result (λ done. EndsTidy kind (Some bytes.now)
+        (W.contents to) (W.contents done.0) done.1) }
+    ensures failed { IfErr result (λ e. e ≡ ProgramFault.Write) }
+{
+    let mut tidied = Vec::new(rt.alloc());
+    let mut said = Vec::new(rt.alloc());
+    tidy_by(rt, kind, bytes, &mut tidied, &mut said, to)
 }
 
 /// Writes the sheet of this kind that the file of a name becomes, and on standard error what was changed. A tidy sheet is
