@@ -48,7 +48,7 @@ impl Write for ShortWriter {
 }
 
 /// How a call ended: well, with how many records were done or with the status of its reply; or in a fault.
-#[derive(Clone, Copy, PartialEq, Eq)]
+#[derive(Clone, Copy)]
 enum End {
     Well(u64),
     Read,
@@ -157,7 +157,7 @@ fn count_taken<K: Keeper>(
     for room in 0..10_000usize {
         let mut writer = writer_of(rt, room);
         let end = end_of(rt, kind, whole(bytes), &mut writer, desk);
-        if end != End::Write {
+        if !matches!(end, End::Write) {
             return (room, end);
         }
     }
@@ -174,7 +174,7 @@ fn count_given<K: Keeper>(
     for count in 0..bytes.len() {
         let mut writer = writer_of(rt, 10_000);
         let end = end_of(rt, kind, broken(&bytes[..count]), &mut writer, desk);
-        if end != End::Read {
+        if !matches!(end, End::Read) {
             return (count, end);
         }
     }

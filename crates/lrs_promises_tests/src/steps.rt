@@ -7,7 +7,7 @@ use lrs_machine::Limits;
 use lrs_promises::{act, act_in_memory, act_on_first, close, open, safe};
 
 /// How commands are given to a desk.
-#[derive(Clone, Copy, PartialEq, Eq)]
+#[derive(Clone, Copy)]
 enum Way {
     Each,
     Safely,
