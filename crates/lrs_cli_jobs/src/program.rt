@@ -4,13 +4,14 @@ use crate::explanation::explain;
 use crate::jobs::do_job;
 use crate::output::Output;
 use lrs_cli_help::{
-    Options, expected_of, hint_at, is_error_read, is_reader_gone, options_of, read_words,
-    verb_help, wait_of,
+    GivenWords, Options, expected_of, hint_at, is_error_read, is_reader_gone, options_of,
+    read_words, verb_help, wait_of,
 };
 use lrs_cli_sheets::{ProgressDisplay, Sheets, World};
 use lrs_cli_tasks::{Ending, ProgramFault, status};
 use lrs_cli_words::{Job, WordsFault, job_of};
 use lrs_desk::Files;
+use std::alloc::AllocError;
 use std::cell::Cell;
 use std::env;
 use std::io::{ErrorKind, IsTerminal};
@@ -134,38 +135,78 @@ fn refuse_expected(rt: &HostRuntime, given: Option<&[u8]>) -> Ending {
     )
 }
 
-fn do_words<F: Files, S: Sheets>(world: &World<'_, HostRuntime, S>, files: F) -> Ending {
-    let rt = world.rt;
+// Does what words say of which the job's and its options are told apart. What may end the program only borrows the words,
+// here and below, so that there is one place where they are dropped.
+fn do_read<F: Files, S: Sheets>(
+    world: &World<'_, HostRuntime, S>,
+    files: F,
+    words: &[&str],
+    read: &GivenWords<'_>,
+) -> Ending {
+    let Some(wait) = wait_of(read.wait) else {
+        return refuse_wait(world.rt, read.wait);
+    };
+    let Some(expected) = expected_of(read.expected) else {
+        return refuse_expected(world.rt, read.expected);
+    };
+    let options = options_of(words, wait, expected);
+    do_given(world, files, read.words.as_slice(), options)
+}
+
+fn do_words<F: Files, S: Sheets>(
+    world: &World<'_, HostRuntime, S>,
+    files: F,
+    words: &[&str],
+) -> Ending {
+    match read_words(world.rt.alloc(), words) {
+        Ok(read) => do_read(world, files, words, &read),
+        Err(AllocError) => Ending::Stopped(ProgramFault::Memory),
+    }
+}
+
+// The words behind the name of the program.
+fn push_words<'a>(words: &mut Vec<&'a str>, given: &'a [String]) -> Result<(), AllocError> {
+    for word in given.iter().skip(1) {
+        words.push(word.as_str())?;
+    }
+    Ok(())
+}
+
+fn do_texts<F: Files, S: Sheets>(
+    world: &World<'_, HostRuntime, S>,
+    files: F,
+    given: &[String],
+) -> Ending {
+    let mut words = Vec::new(world.rt.alloc());
+    match push_words(&mut words, given) {
+        Ok(()) => do_words(world, files, words.as_slice()),
+        Err(AllocError) => Ending::Stopped(ProgramFault::Memory),
+    }
+}
+
+// The words that the program was started with, or how it ends where they cannot be had.
+fn words_given(rt: &HostRuntime) -> Result<Vec<String>, Ending> {
     let given = match env::args(rt) {
         Ok(given) => given,
         Err(error) if error.kind() == ErrorKind::OutOfMemory => {
-            return Ending::Stopped(ProgramFault::Memory);
+            return Err(Ending::Stopped(ProgramFault::Memory));
         }
         Err(_) => {
             let _ = rt.eprintln("error: a word is not UTF-8");
-            return Ending::Misused;
+            return Err(Ending::Misused);
         }
     };
-    let Ok(given) = given.collect::<Vec<String>>(rt.alloc()) else {
-        return Ending::Stopped(ProgramFault::Memory);
-    };
-    let mut words = Vec::new(rt.alloc());
-    for word in given.iter().skip(1) {
-        if words.push(word.as_str()).is_err() {
-            return Ending::Stopped(ProgramFault::Memory);
-        }
+    match given.collect::<Vec<String>>(rt.alloc()) {
+        Ok(given) => Ok(given),
+        Err(_) => Err(Ending::Stopped(ProgramFault::Memory)),
     }
-    let Ok(read) = read_words(rt.alloc(), words.as_slice()) else {
-        return Ending::Stopped(ProgramFault::Memory);
-    };
-    let Some(wait) = wait_of(read.wait) else {
-        return refuse_wait(rt, read.wait);
-    };
-    let Some(expected) = expected_of(read.expected) else {
-        return refuse_expected(rt, read.expected);
-    };
-    let options = options_of(words.as_slice(), wait, expected);
-    do_given(world, files, read.words.as_slice(), options)
+}
+
+fn do_started<F: Files, S: Sheets>(world: &World<'_, HostRuntime, S>, files: F) -> Ending {
+    match words_given(world.rt) {
+        Ok(given) => do_texts(world, files, given.as_slice()),
+        Err(ending) => ending,
+    }
 }
 
 // Says how the program ends, where somebody reads it.
@@ -189,7 +230,7 @@ pub fn run<F: Files, S: Sheets>(rt: &HostRuntime, files: F, sheets: &S) -> ExitC
         (true, true) => ProgressDisplay::BetweenLines,
     };
     let world = World { rt, sheets, shown };
-    let ending = do_words(&world, files);
+    let ending = do_started(&world, files);
     tell_ending(rt, ending);
     ExitCode::from(status(ending))
 }
