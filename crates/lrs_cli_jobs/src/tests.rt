@@ -26,6 +26,8 @@ const EDITS: &str = "key,verb,a,b,c,d,e,f,g,h,i\n\
     e2,link,2,3000,,,,,,,\n\
     e3,link,1,9,,,,,,,\n";
 
+const REPLIES: &str = "s1,again,1\ne2,done,5\ne3,refused,LinkKnown\n";
+
 const SURVEY: &str = "key,asset,class,route,side,method,from,to,value,offset\n\
     v1,8,SPEED,A1,B,abs,3000,4000,50,0\n";
 
@@ -35,6 +37,10 @@ const STRIP: &str = "STRIP A1 L 5.000
        1.000        3.000           80
        3.000        5.000            -
 ";
+
+const ROWS: &str =
+    "route,from,to,from_measure,to_measure,side,asset,class,value,offset,entered_by\n\
+    A1,1000,3000,1000,3000,B,7,SPEED,80,0,4\n";
 
 const QUESTIONS: &str = "key,question,a,b,c,d\nq1,at,A1,abs,1500,\nq2,find,8,,,\n";
 
@@ -191,119 +197,64 @@ fn gives(host: &HostRuntime, rt: &impl Abort, words: &str, text: &str, wanted: &
     assert!(rt; status(ending) == ends, "{words}");
 }
 
-// Of a path it is looked whether something is there: so files in memory are named as one that is.
-
-fn sheets_are_done(host: &HostRuntime, rt: &impl Abort) {
-    let replies = "s1,again,1\ne2,done,5\ne3,refused,LinkKnown\n";
-    gives(host, rt, "edit /bin/sh sheet", EDITS, replies, 1);
-    gives(host, rt, "check /bin/sh sheet", EDITS, replies, 1);
-    gives(
-        host,
-        rt,
+/// Jobs by their words, with the text of their sheet; what each writes, and the status of the program behind it. Of a path it
+/// is looked whether something is there: so files in memory are named as one that is.
+const JOBS: [(&str, &str, &str, u8); 20] = [
+    ("edit /bin/sh sheet", EDITS, REPLIES, 1),
+    ("check /bin/sh sheet", EDITS, REPLIES, 1),
+    (
         "edit :memory: sheet",
         FIRST,
         "s1,done,1\ns2,done,2\ns3,done,3\ns4,done,4\n",
         0,
-    );
-    gives(host, rt, "edit :memory: sheet --all", EDITS, "", 1);
-    gives(host, rt, "survey /bin/sh sheet", SURVEY, "v1,done,5\n", 0);
-    gives(
-        host,
-        rt,
-        "check /bin/sh sheet --survey",
-        SURVEY,
-        "v1,done,5\n",
-        0,
-    );
-    gives(
-        host,
-        rt,
+    ),
+    ("edit :memory: sheet --all", EDITS, "", 1),
+    ("survey /bin/sh sheet", SURVEY, "v1,done,5\n", 0),
+    ("check /bin/sh sheet --survey", SURVEY, "v1,done,5\n", 0),
+    (
         "survey /bin/sh sheet",
         EDITS,
         "roadlrs: fault BadHeader\n",
         3,
-    );
-    gives(
-        host,
-        rt,
-        "edit /bin/sh another",
-        EDITS,
-        "roadlrs: fault Read\n",
-        3,
-    );
-}
-
-fn questions_are_answered(host: &HostRuntime, rt: &impl Abort) {
-    gives(
-        host,
-        rt,
+    ),
+    ("edit /bin/sh another", EDITS, "roadlrs: fault Read\n", 3),
+    (
         "at /bin/sh A1 abs 1500",
         "",
         "A1 1500 1 1500 +\n7 SPEED B 0 80 4\n",
         0,
-    );
-    gives(
-        host,
-        rt,
-        "translate /bin/sh A1 abs 1500 int",
-        "",
-        "3/10\n",
-        0,
-    );
-    gives(host, rt, "strip /bin/sh A1 L SPEED", "", STRIP, 0);
-    gives(host, rt, "diagram /bin/sh A2", "", "roadlrs: NoRoute\n", 1);
-    gives(host, rt, "totals /bin/sh", "", "SPEED 4000 0 0 4000\n", 0);
-    gives(host, rt, "find /bin/sh 7", "", "A1 1000 3000 B\n", 0);
-    gives(
-        host,
-        rt,
+    ),
+    ("translate /bin/sh A1 abs 1500 int", "", "3/10\n", 0),
+    ("strip /bin/sh A1 L SPEED", "", STRIP, 0),
+    ("diagram /bin/sh A2", "", "roadlrs: NoRoute\n", 1),
+    ("totals /bin/sh", "", "SPEED 4000 0 0 4000\n", 0),
+    ("find /bin/sh 7", "", "A1 1000 3000 B\n", 0),
+    (
         "find /bin/sh x",
         "",
         "error: ASSET is no asset number\n",
         2,
-    );
-}
-
-fn lists_are_written(host: &HostRuntime, rt: &impl Abort) {
-    gives(
-        host,
-        rt,
-        "rows /bin/sh",
-        "",
-        "route,from,to,from_measure,to_measure,side,asset,class,value,offset,entered_by\n\
-         A1,1000,3000,1000,3000,B,7,SPEED,80,0,4\n",
-        0,
-    );
-    gives(
-        host,
-        rt,
+    ),
+    ("rows /bin/sh", "", ROWS, 0),
+    (
         "gone /bin/sh",
         "",
         "edit,reason,asset,class,value,link,from,to,side\n",
         0,
-    );
-    gives(host, rt, "log /bin/sh", "", FIRST, 0);
-    gives(
-        host,
-        rt,
-        "audit /bin/sh",
-        "",
-        "sound, and as its log says\n",
-        0,
-    );
-    gives(
-        host,
-        rt,
+    ),
+    ("log /bin/sh", "", FIRST, 0),
+    ("audit /bin/sh", "", "sound, and as its log says\n", 0),
+    (
         "ask /bin/sh sheet",
         QUESTIONS,
         "q1,place,A1,1500,1,1500,+,1\nq1,hit,7,SPEED,B,0,80,4\nq2,refused,NoAsset\n",
         1,
-    );
-}
+    ),
+];
 
 #[test]
 fn each_job_is_done_in_memory(rt: HostRuntime) {
-    sheets_are_done(&rt, &rt);
-    questions_are_answered(&rt, &rt);
-    lists_are_written(&rt, &rt);
+    for (words, text, wanted, ends) in &JOBS {
+        gives(&rt, &rt, words, text, wanted, *ends);
+    }
 }
