@@ -3,7 +3,7 @@
 use std::alloc::AllocError;
 
 /// Why advice was not written to its end.
-#[derive(Clone, Copy, PartialEq, Eq)]
+#[derive(Clone, Copy)]
 pub enum AdviceFault {
     /// The writer failed.
     Write,

@@ -13,7 +13,7 @@ use std::alloc::{AllocError, Global};
 use std::io::Write;
 
 /// What is wrong with a whole sheet.
-#[derive(Clone, Copy, PartialEq, Eq)]
+#[derive(Clone, Copy)]
 pub enum SheetFlaw {
     /// The first record is not the header: the fault `BadHeader` of a sheet.
     Header,

@@ -4,7 +4,7 @@ use lrs_sheet_records::SheetFault;
 use std::alloc::AllocError;
 
 /// Why a sheet was not tidied.
-#[derive(Clone, Copy, PartialEq, Eq)]
+#[derive(Clone, Copy)]
 pub enum TidyFault {
     /// It was not read to its end.
     Read,
