@@ -285,6 +285,30 @@ def values(path, *words):
     return values_in(run("rows", str(path), *words))
 
 
+def test_an_edit_comes_between_questions_that_never_pause():
+    """Each of them is still reading when the next one begins."""
+    with folder() as path:
+        assets(path)
+        over = threading.Event()
+
+        def ask():
+            while not over.is_set():
+                values(path, "--wait", "60")
+
+        readers = [threading.Thread(target=ask) for _ in range(6)]
+        for thread in readers:
+            thread.start()
+        try:
+            time.sleep(0.5)
+            for n in range(4):
+                ends(run("edit", str(path), "stdin", "--wait", "30", given=sheet_of(f"z{n},link,{n + 2},5")), b"z%d,done,%d\n" % (n, n + 3_004), 0)
+        finally:
+            over.set()
+            for thread in readers:
+                thread.join()
+        is_whole(path)
+
+
 @pytest.mark.parametrize("mode, pages", [("WAL", 1_000_000), ("WAL", 20), ("DELETE", 0)])
 def test_nothing_but_what_sqlite_has_committed_is_answered(mode, pages):
     with folder() as path:

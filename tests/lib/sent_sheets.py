@@ -1,4 +1,5 @@
-"""Sheets that several files of tests send: one in which records are refused between others that are done, and drawn records."""
+"""Sheets that several files of tests send: one in which records are refused between others that are done, one whose cells are no
+numbers, dates and formulas, and drawn records."""
 
 from program import lines, sheet_of
 
@@ -33,3 +34,18 @@ def random_record(random, number):
         "nothing",
     ]
     return f"k{number if random.random() < 0.9 else random.randint(1, number)},{random.choice(kinds)}"
+
+
+# names, keys and values that spreadsheets take for formulas, dates, times and numbers
+MISTAKEN = sheet_of(
+    "1-2,link,1,5000",
+    "1:2,link,2,3000",
+    "-A1,class,1E5,exclusive",
+    "-1,class,MAR1,point",
+    "s5,route,1-2,1:0:5000:+ 2:0:3000:-,0:0 5000:6000 8000:9000",
+    "007,ref,MAR1,1-2,int,1/3",
+    "x1,enter,7,1E5,1-2,B,int,1/7,1/3,-A1,0",
+    "x2,enter,8,1E5,1-2,B,abs,4000,5000,1-2,0",
+    "x3,enter,9,MAR1,1-2,L,rel,MAR1-1,,007,5",
+    "x4,retire,9,1-2,rel,MAR1-1",
+)

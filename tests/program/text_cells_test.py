@@ -10,22 +10,9 @@ import tempfile
 import pytest
 
 from program import ends, faults, lines, run, sheet_of
-from sent_sheets import random_record
+from sent_sheets import MISTAKEN, random_record
 from stores import edit, make_full
 
-# names, keys and values that spreadsheets take for formulas, dates, times and numbers
-SHEET = sheet_of(
-    "1-2,link,1,5000",
-    "1:2,link,2,3000",
-    "-A1,class,1E5,exclusive",
-    "-1,class,MAR1,point",
-    "s5,route,1-2,1:0:5000:+ 2:0:3000:-,0:0 5000:6000 8000:9000",
-    "007,ref,MAR1,1-2,int,1/3",
-    "x1,enter,7,1E5,1-2,B,int,1/7,1/3,-A1,0",
-    "x2,enter,8,1E5,1-2,B,abs,4000,5000,1-2,0",
-    "x3,enter,9,MAR1,1-2,L,rel,MAR1-1,,007,5",
-    "x4,retire,9,1-2,rel,MAR1-1",
-)
 LISTS = [
     ["lengths"],
     ["lengths", "--route", "1-2"],
@@ -46,7 +33,7 @@ LISTS = [
 def db():
     with tempfile.TemporaryDirectory() as folder:
         path = pathlib.Path(folder) / "roads.db"
-        assert edit(path, SHEET).status == 0
+        assert edit(path, MISTAKEN).status == 0
         yield path
 
 
