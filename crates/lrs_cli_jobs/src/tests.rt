@@ -229,12 +229,7 @@ const JOBS: [(&str, &str, &str, u8); 20] = [
     ("diagram /bin/sh A2", "", "roadlrs: NoRoute\n", 1),
     ("totals /bin/sh", "", "SPEED 4000 0 0 4000\n", 0),
     ("find /bin/sh 7", "", "A1 1000 3000 B\n", 0),
-    (
-        "find /bin/sh x",
-        "",
-        "error: ASSET is no asset number\n",
-        2,
-    ),
+    ("find /bin/sh x", "", "error: ASSET is no asset number\n", 2),
     ("rows /bin/sh", "", ROWS, 0),
     (
         "gone /bin/sh",
