@@ -3,4 +3,4 @@ pub mod FirstFaults
 pub mod ClassNames
 pub mod Said
 pub mod Listing
-pub mod Lines
+pub mod WrittenLines

@@ -65,7 +65,7 @@ fn listing_lines(
 ///
 /// # Errors
 /// When memory or so many bytes do not suffice.
-#[tactic(auto, using(crate::proofs::Lines::as_lines))]
+#[tactic(auto, using(crate::proofs::WrittenLines::as_lines))]
 pub(crate) fn csv_listing(
     alloc: Global,
     most: usize,
