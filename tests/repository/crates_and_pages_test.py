@@ -175,7 +175,7 @@ def test_the_readme_is_short_and_leads_to_the_architecture():
 
 
 def test_the_pages_stay_short():
-    for pages, most in [("docs/*.md", 160), ("docs/recipes/*.md", 64), ("crates/*/README.md", 110)]:
+    for pages, most in [("docs/*.md", 160), ("docs/recipes/*.md", 68), ("crates/*/README.md", 110)]:
         assert sum(page.stat().st_size for page in TOP.glob(pages)) <= most * 1024, pages
 
 
