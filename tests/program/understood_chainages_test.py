@@ -156,6 +156,7 @@ def test_a_check_tells_of_twenty_cuts_and_counts_the_others():
 
 def test_a_check_tells_nothing_of_cuts_where_there_are_none(county):
     assert said("check", county, "stdin", given=sheet_of("x1,renumber,A38,A39")) == []
-    assert said("check", county, "stdin", given=record("x1,split,A38,4200000,A439")) == []
+    of_no_header = said("check", county, "stdin", given=record("x1,split,A38,4200000,A439"))
+    assert all(line.startswith("explain: ") for line in of_no_header), of_no_header
     survey = b"key,asset,class,route,side,method,from,to,value,offset\nv1,900,SPEED,A38,B,abs,12000,13000,50,0\n"
     assert said("check", county, "stdin", "--survey", given=survey) == []
