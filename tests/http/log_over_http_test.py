@@ -102,8 +102,14 @@ NUMBERS = {
     "?%66rom=8": 8,
     "?from=8&from=x": 8,
     "?from=x&from=8": None,
-    "?key=r1&to=3&From=2&route=B1&=&%ff": 1,
-    "?to=x&from=9&key=s1": 9,
+}
+
+# parameters that the path does not know, and the first of them
+UNKNOWN = {
+    "?key=r1&to=3&From=2&route=B1&=&%ff": "key",
+    "?From=2": "From",
+    "?from=9&to=x&key=s1": "to",
+    "?from=x&to=3": "to",
 }
 
 
@@ -111,6 +117,11 @@ NUMBERS = {
 def test_the_number_of_the_first_edit(desk, query):
     number = NUMBERS[query]
     gets(desk, f"/v1/log{query}", error(400, "Malformed:from") if number is None else log_from(number))
+
+
+@pytest.mark.parametrize("query", UNKNOWN)
+def test_a_parameter_that_it_does_not_know_is_named(desk, query):
+    gets(desk, f"/v1/log{query}", error(400, f"Unknown:{UNKNOWN[query]}"))
 
 
 # ---- paths and methods
