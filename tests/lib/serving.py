@@ -68,6 +68,8 @@ def free_port():
     ports = [0] if slot is None else (12_000 + 2_000 * int(slot) + next(TAKEN) % 2_000 for _ in range(2_000))
     for port in ports:
         with socket.socket() as stream, contextlib.suppress(OSError):
+            # a port whose last connections have just ended is free: a server takes it too
+            stream.setsockopt(socket.SOL_SOCKET, socket.SO_REUSEADDR, 1)
             stream.bind((HOST, port))
             return stream.getsockname()[1]
     raise AssertionError("no port is free")
