@@ -119,7 +119,7 @@ def test_each_field_has_a_label_and_is_reached_by_keys(page):
     assert browser.runs(small) == []
 
 
-# What is wider than the paper, or has a part that only scrolling would show.
+# What is wider than a printed sheet, or has a part that only scrolling would show.
 CUT = """
 const isCut = e => e.getBoundingClientRect().right > innerWidth + 1
   || (getComputedStyle(e).overflowY !== 'visible' && (e.scrollHeight > e.clientHeight + 1 || e.scrollWidth > e.clientWidth + 1));

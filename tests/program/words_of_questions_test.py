@@ -159,6 +159,6 @@ def test_help_names_each_command():
 
 
 def test_the_version_names_the_kit_that_proved_it():
-    kit = re.search(r"Proved with the kit `([^`]+)`", (TOP / "README.md").read_text()).group(1)
+    kit = re.search(r"the program names `([^`]+)`", (TOP / "README.md").read_text()).group(1)
     for word in ["--version", "-V"]:
         ends(run(word), f"roadlrs 0.8.17, proved by {kit}\n".encode(), 0)
