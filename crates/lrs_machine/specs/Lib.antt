@@ -15,3 +15,4 @@ pub mod Sound
 pub mod Laws
 pub mod Stop
 pub mod Absence
+pub mod PlaceTexts

@@ -14,6 +14,7 @@ mod key;
 pub mod laws;
 mod line;
 mod operands;
+mod place;
 mod question;
 mod segment;
 pub mod stops;
@@ -29,7 +30,10 @@ pub use image::{Edit, Image, RouteRow};
 pub use key::Key;
 pub use line::Line;
 pub use operands::{AssetNumber, Chainage, LateralOffset, MarkList, PieceList};
-pub use question::{AskedPlace, Destination, Listing, Question, RowsWanted};
+pub use place::read_place;
+pub use question::{
+    AskedPlace, Destination, GoneWanted, Listing, Place, Question, RowForm, RowsAsked, RowsWanted,
+};
 pub use segment::{SegFault, Segment};
 pub use stops::Fault;
 pub use table::Table;

@@ -14,17 +14,48 @@ pub enum Destination {
     Link,
 }
 
+/// A place of a route.
+#[derive(Clone, Copy, PartialEq, Eq)]
+pub enum Place {
+    /// A chainage of the route, in millimetres.
+    Chainage(u64),
+    /// Where a position expression stands on the route.
+    Position(Expr),
+}
+
 /// A place that is asked for.
 #[derive(Clone, Copy, PartialEq, Eq)]
 pub enum AskedPlace {
-    /// A chainage of the route of a name, in millimetres from 0 to the route's length.
-    OnRoute { route: RouteName, chainage: u64 },
+    /// A place of the route of a name, a chainage from 0 to the route's length; a position stands in its millimetre.
+    OnRoute { route: RouteName, place: Place },
     /// A millimetre of the link of a number, from 0 to the link's length; at the link's end the last one is meant.
     OnLink { link: u32, mm: u64 },
 }
 
-/// What is asked of rows: to lie on a route, to have a millimetre at or behind chainage `from` and before chainage `to`, to be
-/// of a class, and of an asset. What is not asked leaves out nothing.
+/// How rows are told.
+#[derive(Clone, Copy, PartialEq, Eq)]
+pub enum RowForm {
+    /// On their routes, with measures as decimals of three places.
+    Decimal,
+    /// On their routes, with measures as they are, as whole numbers or fractions.
+    Exact,
+    /// On the links under them.
+    OnLinks,
+}
+
+/// What is asked of rows: to lie on a route, between two places of it, to be of a class, and of an asset. What is not asked
+/// leaves out nothing.
+#[derive(Clone, Copy, PartialEq, Eq)]
+pub struct RowsAsked {
+    pub route: Option<RouteName>,
+    pub from: Option<Place>,
+    pub to: Option<Place>,
+    pub class: Option<ClassName>,
+    pub asset: Option<u64>,
+    pub form: RowForm,
+}
+
+/// The same where the places are found: a row has a millimetre at or behind chainage `from` and before chainage `to`.
 #[derive(Clone, Copy, PartialEq, Eq)]
 pub struct RowsWanted {
     pub route: Option<RouteName>,
@@ -32,6 +63,17 @@ pub struct RowsWanted {
     pub to: Option<u64>,
     pub class: Option<ClassName>,
     pub asset: Option<u64>,
+    pub form: RowForm,
+}
+
+/// What is asked of parts that were retired or abandoned: to be taken away by an edit, by edits from a number on, by edits up
+/// to a number, and to be of a class. What is not asked leaves out nothing.
+#[derive(Clone, Copy, PartialEq, Eq)]
+pub struct GoneWanted {
+    pub edit: Option<u64>,
+    pub since: Option<u64>,
+    pub until: Option<u64>,
+    pub class: Option<ClassName>,
 }
 
 /// What is listed, entry by entry, in the order in which the inventory keeps it.
@@ -41,16 +83,24 @@ pub enum Listing {
     Routes,
     Links,
     Classes,
-    /// The referents of every route.
-    Refs,
-    /// The marks of every route.
-    Marks,
-    /// The stretches that assets hold.
-    Rows(RowsWanted),
-    /// What was retired or abandoned, by one edit where it is given.
-    Gone(Option<u64>),
-    /// The accepted commands from this number on, as an edit sheet.
-    Log(u64),
+    /// The referents of every route, or of one; measures are exact, or decimals of three places.
+    Refs {
+        route: Option<RouteName>,
+        exact: bool,
+    },
+    /// The marks of every route, or of one.
+    Marks(Option<RouteName>),
+    /// The pieces of links of which every route is made, or one.
+    Pieces(Option<RouteName>),
+    /// What was retired or abandoned.
+    Gone(GoneWanted),
+    /// What was entered, retired and abandoned of the asset of a number.
+    History(u64),
+    /// The accepted commands from this number on, or up to another, as an edit sheet.
+    Log {
+        from: u64,
+        until: Option<u64>,
+    },
     /// The accepted command of this key, as an edit sheet.
     LogOfKey(Key),
 }
@@ -80,12 +130,12 @@ pub enum Question {
         to: Destination,
     },
     /// What is drawn of a route as a straight-line diagram: the assets of these classes, or of all where none is named,
-    /// from a chainage to another in millimetres, or from the route's start, or to its end.
+    /// from a place to another, or from the route's start, or to its end.
     Diagram {
         route: RouteName,
         classes: Rows<ClassName>,
-        from: Option<u64>,
-        to: Option<u64>,
+        from: Option<Place>,
+        to: Option<Place>,
     },
     /// What there is of each class.
     Totals,
@@ -97,6 +147,8 @@ pub enum Question {
     Where(AskedPlace),
     /// How long each value of each class is, on a route where it is given.
     Lengths(Option<RouteName>),
+    /// The stretches that assets hold.
+    Rows(RowsAsked),
     /// A list of the inventory.
     List(Listing),
     /// How many edits were accepted.
