@@ -1,5 +1,5 @@
 -- What is told to a question that is asked of an inventory.
-use Rattle.std.specs.Prelude.{◌≡◌, ℕ, List, length, Result, Ok, Err, MatchOption}
+use Rattle.std.specs.Prelude.{◌≡◌, ℕ, List, length, Some, Result, Ok, Err, MatchOption}
 use Rattle.std.specs.List.{find}
 use Rattle.std.specs.Option.{option_map_or}
 use Rattle.lrs_measure.specs.Fraction.{Fraction}
@@ -21,10 +21,11 @@ use Rattle.lrs_image.specs.Change.{is_named}
 use Rattle.lrs_report_answers.specs.declared.fault.AskFault.{AskFault}
 use Rattle.lrs_report_answers.specs.declared.told.Told.{Told}
 use Rattle.lrs_report_answers.specs.declared.told.Told.TheVariants as told
-use Rattle.lrs_report_answers.specs.Answers.{AsksRoute, IsAt, UnlessMemory, route_missing}
+use Rattle.lrs_report_answers.specs.Answers.{AsksRoute, IsAt, Tells, UnlessMemory, route_missing}
 use Rattle.lrs_report_answers.specs.DrawnRows.{IsDrawn}
 use Rattle.lrs_report_answers.specs.AssetStretches.{IsFound}
-use Rattle.lrs_report_answers.specs.Listings.{AreLengthsOf, IsListing}
+use Rattle.lrs_report_answers.specs.Listings.{AreLengthsOf, AreRows, IsListing}
+use Rattle.lrs_report_answers.specs.Stretches.{OnStretch}
 use Rattle.lrs_report_answers.specs.Place.Answers.{IsWhereabouts}
 use Rattle.lrs_report_answers.specs.RouteSegments.{IsSegmented}
 use Rattle.lrs_report_answers.specs.Totals.{totals_of}
@@ -49,11 +50,6 @@ IsNamedRoute i name result = MatchOption (find (is_named name) i.routes) (result
 abbrev pub length_on : State → Name → ℕ
 length_on s route = option_map_or (λ a. length a.course) (get s.routes route) 0
 
--- An answer that passes is told as this says; a fault that passes is told as it is.
-abbrev pub Tells : {A : Type 0} → (Result A AskFault → Type 0) → (A → Told) → Result Told AskFault → Type 0
-Tells {A} Passes told_of (Ok t) = (answer : A) × Passes (Ok answer) × (t ≡ told_of answer)
-Tells Passes told_of (Err fault) = Passes (Err fault)
-
 -- What an inventory tells to each question.
 abbrev pub IsTold : Image → Question → Result Told AskFault → Type 0
 IsTold i (question.At route e) = Tells (IsAt (state_of i) route e) (told.At route)
@@ -61,10 +57,11 @@ IsTold i (question.Route route) = Tells (IsNamedRoute i route) told.Route
 IsTold i (question.Segments route side classes) = Tells (IsSegmented (state_of i) route classes side) (told.Segments route side (length_on (state_of i) route) classes)
 IsTold i (question.Translate route e (destination.Method target)) = Tells (IsTranslated (state_of i) route e target) (told.Translated route)
 IsTold i (question.Translate route e destination.Link) = Tells (IsOnLink (state_of i) route e) (λ on. told.OnLink route on.0 on.1)
-IsTold i (question.Diagram route classes from to) = Tells (IsDrawn i route classes from to) told.Diagram
+IsTold i (question.Diagram route classes from to) = OnStretch i (Some route) from to (λ first last. Tells (IsDrawn i route classes first last) told.Diagram)
 IsTold i question.Totals = Tells (AreTotals (state_of i)) told.Totals
 IsTold i (question.Find asset) = Tells (IsFound (state_of i) asset) told.Found
 IsTold i (question.Where spot) = Tells (IsWhereabouts i spot) told.Where
 IsTold i (question.Lengths route) = Tells (AreLengthsOf i route) told.Lengths
+IsTold i (question.Rows asked) = AreRows i asked
 IsTold i (question.List l) = Tells (IsListing i l) (told.Listing l)
 IsTold i question.Health = λ result. result ≡ Ok (told.Health (length i.edits))
