@@ -18,7 +18,6 @@ use Rattle.lrs_image.specs.Change.{is_named}
 use Rattle.lrs_report_answers.specs.declared.fault.AskFault.{AskFault}
 use Rattle.lrs_report_answers.specs.declared.fault.AskFault.TheVariants.{Missing, Place, Memory}
 use Rattle.lrs_report_answers.specs.declared.hits.AtAnswer.{AtAnswer}
-use Rattle.lrs_report_answers.specs.declared.told.Told.{Told}
 
 -- whether a route runs along a link or against it
 abbrev pub direction_text : Bool → Text
@@ -44,11 +43,6 @@ UnlessMissing (Some what) Passes result = result ≡ Err (Missing what)
 abbrev pub UnlessMemory : {A : Type 0} → (A → Type 0) → Result A AskFault → Type 0
 UnlessMemory Passes (Ok answer) = Passes answer
 UnlessMemory Passes (Err fault) = fault ≡ Memory
-
--- An answer that passes is told as this says; a fault that passes is told as it is.
-abbrev pub Tells : {A : Type 0} → (Result A AskFault → Type 0) → (A → Told) → Result Told AskFault → Type 0
-Tells {A} Passes told_of (Ok t) = (answer : A) × Passes (Ok answer) × (t ≡ told_of answer)
-Tells Passes told_of (Err fault) = Passes (Err fault)
 
 -- the route is missing exactly where no route has the name; else what is asked of the route
 abbrev pub OnRoute : {A : Type 0} → State → Name → (Alignment → Result A AskFault → Type 0) → Result A AskFault → Type 0

@@ -16,10 +16,7 @@ use Rattle.lrs_report_lists.specs.Absence.{has_asset, has_class, has_edit, has_r
 use Rattle.lrs_report_lists.specs.Length.Lengths.{AreLengths}
 use Rattle.lrs_report_lists.specs.declared.length_lists.table.ValueLength.{ValueLength}
 use Rattle.lrs_report_answers.specs.declared.fault.AskFault.{AskFault}
-use Rattle.lrs_report_answers.specs.declared.told.Told.{Told}
-use Rattle.lrs_report_answers.specs.declared.told.Told.TheVariants as told
-use Rattle.lrs_report_answers.specs.Answers.{Tells, UnlessMemory, UnlessMissing}
-use Rattle.lrs_report_answers.specs.Stretches.{OnStretch}
+use Rattle.lrs_report_answers.specs.Answers.{UnlessMemory, UnlessMissing}
 
 abbrev pub has_key : Image → Name → Bool
 has_key i key = is_some (place_of_key key (state_of i).done)
@@ -53,12 +50,6 @@ IsListing i l = UnlessMissing (missing_of i l) (IsInventory i)
 -- the rows that are asked for, where the ends of the stretch are found
 abbrev pub wanted_of : RowsAsked → Option ℕ → Option ℕ → RowsWanted
 wanted_of asked from to = record { route = asked.route; from = from; to = to; class = asked.class; asset = asked.asset; form = asked.form }
-
--- The answer is the rows of the inventory between the ends that are asked for; or what is missing, or the fault of an end.
-abbrev pub AreRows : Image → RowsAsked → Result Told AskFault → Type 0
-AreRows i asked =
-    UnlessMissing (missing_row i (wanted_of asked None None))
-    (OnStretch i asked.route asked.from asked.to (λ first last. Tells (IsInventory i) (told.Rows (wanted_of asked first last))))
 
 -- The answer is the lengths of values on the route of a name, or on all; or the route is missing.
 abbrev pub AreLengthsOf : Image → Option Name → Result (List ValueLength) AskFault → Type 0

@@ -1,5 +1,5 @@
 -- What is told to a question that is asked of an inventory.
-use Rattle.std.specs.Prelude.{◌≡◌, ℕ, List, length, Some, Result, Ok, Err, MatchOption}
+use Rattle.std.specs.Prelude.{◌≡◌, ℕ, List, length, Some, None, Result, Ok, Err, MatchOption}
 use Rattle.std.specs.List.{find}
 use Rattle.std.specs.Option.{option_map_or}
 use Rattle.lrs_measure.specs.Fraction.{Fraction}
@@ -13,18 +13,20 @@ use Rattle.lrs_machine.specs.declared.image.Image.{Image}
 use Rattle.lrs_machine.specs.declared.question.Destination.TheVariants as destination
 use Rattle.lrs_machine.specs.declared.question.Question.{Question}
 use Rattle.lrs_machine.specs.declared.question.Question.TheVariants as question
+use Rattle.lrs_machine.specs.declared.question.RowsAsked.{RowsAsked}
 use Rattle.lrs_machine.specs.declared.total.Total.{Total}
 use Rattle.lrs_machine.specs.Image.{state_of}
 use Rattle.lrs_machine.specs.Register.{get}
 use Rattle.lrs_machine.specs.State.{State}
 use Rattle.lrs_image.specs.Change.{is_named}
+use Rattle.lrs_report_lists.specs.Absence.{missing_row}
 use Rattle.lrs_report_answers.specs.declared.fault.AskFault.{AskFault}
 use Rattle.lrs_report_answers.specs.declared.told.Told.{Told}
 use Rattle.lrs_report_answers.specs.declared.told.Told.TheVariants as told
-use Rattle.lrs_report_answers.specs.Answers.{AsksRoute, IsAt, Tells, UnlessMemory, route_missing}
+use Rattle.lrs_report_answers.specs.Answers.{AsksRoute, IsAt, UnlessMemory, UnlessMissing, route_missing}
 use Rattle.lrs_report_answers.specs.DrawnRows.{IsDrawn}
 use Rattle.lrs_report_answers.specs.AssetStretches.{IsFound}
-use Rattle.lrs_report_answers.specs.Listings.{AreLengthsOf, AreRows, IsListing}
+use Rattle.lrs_report_answers.specs.Listings.{AreLengthsOf, IsInventory, IsListing, wanted_of}
 use Rattle.lrs_report_answers.specs.Stretches.{OnStretch}
 use Rattle.lrs_report_answers.specs.Place.Answers.{IsWhereabouts}
 use Rattle.lrs_report_answers.specs.RouteSegments.{IsSegmented}
@@ -49,6 +51,17 @@ IsNamedRoute i name result = MatchOption (find (is_named name) i.routes) (result
 -- how long the route of a name is, in millimetres
 abbrev pub length_on : State → Name → ℕ
 length_on s route = option_map_or (λ a. length a.course) (get s.routes route) 0
+
+-- An answer that passes is told as this says; a fault that passes is told as it is.
+abbrev pub Tells : {A : Type 0} → (Result A AskFault → Type 0) → (A → Told) → Result Told AskFault → Type 0
+Tells {A} Passes told_of (Ok t) = (answer : A) × Passes (Ok answer) × (t ≡ told_of answer)
+Tells Passes told_of (Err fault) = Passes (Err fault)
+
+-- The answer is the rows of the inventory between the ends that are asked for; or what is missing, or the fault of an end.
+abbrev pub AreRows : Image → RowsAsked → Result Told AskFault → Type 0
+AreRows i asked =
+    UnlessMissing (missing_row i (wanted_of asked None None))
+    (OnStretch i asked.route asked.from asked.to (λ first last. Tells (IsInventory i) (told.Rows (wanted_of asked first last))))
 
 -- What an inventory tells to each question.
 abbrev pub IsTold : Image → Question → Result Told AskFault → Type 0

@@ -8,15 +8,15 @@ ghost use Rattle.lrs_machine.specs.declared.absence.Missing.TheVariants as missi
 ghost use Rattle.lrs_report_answers.specs.Stretches.{OnStretch};
 ghost use Rattle.lrs_report_lists.specs.Absence.{has_asset};
 ghost use Rattle.lrs_report_answers.specs.declared.told.Told.TheVariants as told;
-ghost use Rattle.lrs_report_answers.specs.Answers.{IsAt, Tells};
+ghost use Rattle.lrs_report_answers.specs.Answers.{IsAt};
 ghost use Rattle.lrs_report_answers.specs.AssetStretches.{IsFound};
 ghost use Rattle.lrs_report_answers.specs.DrawnRows.{IsDrawn};
-ghost use Rattle.lrs_report_answers.specs.Listings.{AreLengthsOf, AreRows, IsInventory, IsListing, has_key};
+ghost use Rattle.lrs_report_answers.specs.Listings.{AreLengthsOf, IsInventory, IsListing, has_key};
 ghost use Rattle.lrs_report_answers.specs.Listings as spec;
 ghost use Rattle.lrs_report_answers.specs.Place.Answers.{IsWhereabouts};
 ghost use Rattle.lrs_report_answers.specs.RouteSegments.{IsSegmented};
 ghost use Rattle.lrs_report_answers.specs.Tally.RunningCounts.{IsCounted};
-ghost use Rattle.lrs_report_answers.specs.ToldAnswers.{AreTotals, IsNamedRoute, IsOnLink, IsTold, IsTranslated, length_on};
+ghost use Rattle.lrs_report_answers.specs.ToldAnswers.{AreRows, AreTotals, IsNamedRoute, IsOnLink, IsTold, IsTranslated, Tells, length_on};
 
 use crate::tallies::Counts;
 use crate::{
