@@ -8,7 +8,9 @@ use Rattle.std.proofs.lemmas.Fmt.{decimal_by_steps_wide}
 use Rattle.std.proofs.lemmas.List.Folds.{list_all-append}
 use Rattle.lrs_measure.specs.Alphabets.{is_capital, is_word_byte}
 use Rattle.lrs_position.specs.Names.{is_route_byte}
-use Rattle.lrs_report_lists.specs.Laws.{IsPlain, MeasuresArePlain, NamesArePlain, NumbersArePlain, is_plain_byte}
+use Rattle.lrs_machine.specs.Keys.{is_key_byte}
+use Rattle.lrs_machine.specs.declared.command.Command.TheVariants as verb
+use Rattle.lrs_report_lists.specs.Laws.{IsPlain, KeysArePlain, MeasuresArePlain, NamesArePlain, NumbersArePlain, VerbsArePlain, is_plain_byte}
 
 -- ---- names and values
 
@@ -42,6 +44,26 @@ names_are_plain text = (
   λ h. all_plain is_capital refl refl refl refl text (both _ _ h).1,
   λ h. all_plain is_word_byte refl refl refl refl text (both _ _ (both _ _ h).0).1,
 )
+
+pub keys_are_plain : KeysArePlain
+keys_are_plain text h = all_plain is_key_byte refl refl refl refl text (both _ _ (both _ _ h).0).1
+
+pub verbs_are_plain : VerbsArePlain
+verbs_are_plain (verb.Link l) = refl
+verbs_are_plain (verb.Class c) = refl
+verbs_are_plain (verb.Route name pieces marks) = refl
+verbs_are_plain (verb.Ref name route at) = refl
+verbs_are_plain (verb.Unref name) = refl
+verbs_are_plain (verb.Enter e) = refl
+verbs_are_plain (verb.Retire asset route location) = refl
+verbs_are_plain (verb.Split route at name) = refl
+verbs_are_plain (verb.Join first second) = refl
+verbs_are_plain (verb.Renumber route name) = refl
+verbs_are_plain (verb.Recalibrate route marks) = refl
+verbs_are_plain (verb.Realign route first end pieces marks) = refl
+verbs_are_plain (verb.Close route) = refl
+verbs_are_plain (verb.Supersede e) = refl
+verbs_are_plain (verb.Turn route) = refl
 
 -- ---- numbers
 

@@ -6,7 +6,10 @@ use Rattle.lrs_measure.specs.FractionTexts.{fraction_text}
 use Rattle.lrs_position.specs.Names.{is_referent_name, is_route_name}
 use Rattle.lrs_events.specs.declared.span.Span.{Span}
 use Rattle.lrs_events.specs.Names.{is_class_name, is_value}
-use Rattle.lrs_machine.specs.Lines.{Text}
+use Rattle.lrs_machine.specs.Keys.{is_key}
+use Rattle.lrs_machine.specs.Lines.{Text, line_of}
+use Rattle.lrs_machine.specs.declared.command.Command.{Command}
+use Rattle.lrs_report_lists.specs.Lines.{verb_in}
 use Rattle.lrs_report_lists.specs.WantedRows.{has_between}
 
 -- the chainage is at or behind the start of the stretch that is asked for
@@ -42,6 +45,13 @@ abbrev pub NamesArePlain : Type 0
 NamesArePlain = (text : Text)
     → (IsTrue (is_route_name text) → IsPlain text) × (IsTrue (is_referent_name text) → IsPlain text) × (IsTrue (is_class_name text) → IsPlain text) × (IsTrue (is_value text) → IsPlain text)
 
+-- no key has, and no verb of a command
+abbrev pub KeysArePlain : Type 0
+KeysArePlain = (text : Text) → IsTrue (is_key text) → IsPlain text
+
+abbrev pub VerbsArePlain : Type 0
+VerbsArePlain = (c : Command) → IsPlain (verb_in (line_of c))
+
 -- no number of 64 bits has
 abbrev pub NumbersArePlain : Type 0
 NumbersArePlain = (n : ℕ) → n < 2 ^ 64 → IsPlain (decimal n)
@@ -53,5 +63,7 @@ MeasuresArePlain = (n d : ℕ) → n < 10 ^ 64 → d < 10 ^ 64 → IsPlain (frac
 -- No field has to be quoted.
 pub record NoFieldNeedsQuotes : Type 0 where
   pub names : NamesArePlain
+  pub keys : KeysArePlain
+  pub verbs : VerbsArePlain
   pub numbers : NumbersArePlain
   pub measures : MeasuresArePlain

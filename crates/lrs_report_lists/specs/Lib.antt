@@ -1,4 +1,6 @@
 pub mod Measures
+pub mod CoursePieces
+pub mod PlacedPieces
 pub mod Lines
 pub mod WantedRows
 pub mod Lists

@@ -7,7 +7,7 @@ pub fn rows_have_a_millimetre()
     ensures { RowsHaveAMillimetre }
 {}
 
-/// No name, value, number or measure has a comma, a quotation mark or an end of a line.
+/// No name, value, key, verb, number or measure has a comma, a quotation mark or an end of a line.
 pub fn no_field_needs_quotes()
     ensures { NoFieldNeedsQuotes }
 {}

@@ -37,9 +37,9 @@ fn write_measures<W: Write>(writer: &mut W, route: &Route, row: &Span) -> io::Re
     ensures { OnOk result (Appends (W.contents writer.old) (W.contents writer.new)
         (measures_part route.now row.now)) }
 {
-    write_measure(writer, route, row.from)?;
+    write_measure(writer, route, row.from, true)?;
     writer.write_all(b",")?;
-    write_measure(writer, route, row.to)
+    write_measure(writer, route, row.to, true)
 }
 
 fn write_holder<W: Write>(writer: &mut W, row: &Span) -> io::Result<()>
