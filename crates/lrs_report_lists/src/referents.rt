@@ -24,7 +24,7 @@ fn write_ref<W: Write>(writer: &mut W, route: &Route, referent: &Referent) -> io
     write!(writer, "{name},")?;
     writer.write_all(route.name.bytes())?;
     write!(writer, ",{at},")?;
-    write_measure(writer, route, at)?;
+    write_measure(writer, route, at, true)?;
     writer.write_all(b"\n")
 }
 

@@ -10,8 +10,8 @@ use Rattle.lrs_element.specs.Course.{IsFewest, continues, course_of, expand, pie
 use Rattle.lrs_element.specs.Pieces.{Continues, IsFilled, ground_of}
 use Rattle.lrs_element.proofs.Counting.{IsFewest-nil, breaks, piece_count-append}
 use Rattle.lrs_element.proofs.Expanding.{joined_false, joined_true, length-expand}
-use Rattle.lrs_sheet_log.proofs.Pieces.{fewest-same, in-first}
-use Rattle.lrs_sheet_log.specs.RouteSheets.{led_by, lengthened, piece_at, pieces_of}
+use Rattle.lrs_report_lists.proofs.FewestPieces.{fewest-same, in-first}
+use Rattle.lrs_report_lists.specs.CoursePieces.{led_by, lengthened, piece_at, pieces_of}
 
 -- the millimetre m of a link
 abbrev at_mm : ℕ → ℕ → Bool → Ground

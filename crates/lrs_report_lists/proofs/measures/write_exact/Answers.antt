@@ -5,7 +5,7 @@ use Rattle.lrs_measure.specs.Fraction.{Fraction}
 use Rattle.lrs_measure.specs.FractionTexts.{fraction_text}
 use Rattle.lrs_report_lists.specs.Measures.{measure_text}
 use Rattle.lrs_report_lists.proofs.Writing.{as_text, appends_none}
-use Rattle.lrs_report_lists.proofs.measures.write_measure.Goals as goal
+use Rattle.lrs_report_lists.proofs.measures.write_exact.Goals as goal
 
 pub returns-in-Some : goal.returns-in-Some
 returns-in-Some g c = as_text c.write.result _ _ _ (measure_text c.args.route.now.marks c.args.chainage) c.write.ensures.bytes (ap (λ (o : Option Fraction). option_map_or fraction_text o []) c.in-Some.ensures.measure)
