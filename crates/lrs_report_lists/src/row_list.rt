@@ -120,13 +120,7 @@ fn write_row<W: Write>(
     ensures { OnOk result (Appends (W.contents writer.old) (W.contents writer.new)
         (row_text form assets.now.rows route.now row.now)) }
 {
-    write_in_form(
-        writer,
-        form,
-        asset_numbered(assets, row.asset),
-        route,
-        row,
-    )
+    write_in_form(writer, form, asset_numbered(assets, row.asset), route, row)
 }
 
 /// Writes a row where it is asked for.
