@@ -26,14 +26,14 @@ loop-piece-init g c =
 pub write_on_piece-requires : goal.write_on_piece-requires
 write_on_piece-requires g c = (filled_next c.loop-piece.piece-index c.args.pieces.now no_piece c.loop-piece-test.true c.loop-piece.invariant.filled).0
 
-pub len-requires : goal.len-requires
-len-requires g c = (filled_next c.loop-piece.piece-index c.args.pieces.now no_piece c.loop-piece-test.true c.loop-piece.invariant.filled).0
+pub len-start-requires : goal.len-start-requires
+len-start-requires g c = (filled_next c.loop-piece.piece-index c.args.pieces.now no_piece c.loop-piece-test.true c.loop-piece.invariant.filled).0
 
 pub overflow_add-start : goal.overflow_add-start
 overflow_add-start g c =
     let low = c.loop-piece.invariant.low in
     let few = c.requires.few in
-    let small = c.len.ensures.small in
+    let small = c.len-start.ensures.small in
     omega arith
 
 pub loop-piece-preserved : goal.loop-piece-preserved
@@ -44,10 +44,10 @@ loop-piece-preserved g c =
     let at = c.loop-piece.start in
     let p = get_or ps i no_piece in
     let low = c.loop-piece.invariant.low in
-    let small = c.len.ensures.small in
-    let end : at + piece_len p ≡ at + c.len.result = ap (λ (n : ℕ). at + n) (sym c.len.ensures.len) in
+    let small = c.len-start.ensures.small in
+    let end : at + piece_len p ≡ at + c.len-start.result = ap (λ (n : ℕ). at + n) (sym c.len-start.ensures.len) in
     record {
-      written = leads_next (g.W.Write.contents c.args.writer.now) (g.W.Write.contents c.loop-piece.writer) (g.W.Write.contents c.write_on_piece.new.writer) (line (at, p)) (text_from line ps (at + c.len.result) (i + 1)) (text_from line ps at i)
+      written = leads_next (g.W.Write.contents c.args.writer.now) (g.W.Write.contents c.loop-piece.writer) (g.W.Write.contents c.write_on_piece.new.writer) (line (at, p)) (text_from line ps (at + c.len-start.result) (i + 1)) (text_from line ps at i)
           (flat_map line (placed_from 0 ps)) c.loop-piece.invariant.written (text_next line ps i at no_piece c.loop-piece-test.true ∙ ap (λ (n : ℕ). line (at, p) ++ text_from line ps n (i + 1)) end) c.in_ok-write_on_piece.ensures;
       low = omega arith;
       filled = (filled_next i ps no_piece c.loop-piece-test.true c.loop-piece.invariant.filled).1;
