@@ -7,3 +7,4 @@ pub mod Length
 pub mod FewestPieces
 pub mod CoursePieces
 pub mod Placed
+pub mod LinkLines

@@ -1,5 +1,5 @@
 -- No name, value, number or measure has a byte that means something in CSV.
-use Rattle.std.proofs.Common.{◌≡◌, ℕ, ◌+◌, ◌%◌, ◌<◌, ◌^◌, ◌∙◌, Bool, true, false, List, [], ◌∷◌, ◌++◌, refl, ap, cond, arith}
+use Rattle.std.proofs.Common.{◌≡◌, ℕ, ◌+◌, ◌/◌, ◌%◌, ◌<◌, ◌^◌, ◌∙◌, Bool, true, false, List, [], ◌∷◌, ◌++◌, refl, ap, cond, arith}
 use Rattle.std.specs.Prelude.{◌&&◌, ◌==◌, nat_eq}
 use Rattle.std.specs.List.{list_all}
 use Rattle.std.specs.Fmt.{decimal}
@@ -10,7 +10,7 @@ use Rattle.lrs_measure.specs.Alphabets.{is_capital, is_word_byte}
 use Rattle.lrs_position.specs.Names.{is_route_byte}
 use Rattle.lrs_machine.specs.Keys.{is_key_byte}
 use Rattle.lrs_machine.specs.declared.command.Command.TheVariants as verb
-use Rattle.lrs_report_lists.specs.Laws.{IsPlain, KeysArePlain, MeasuresArePlain, NamesArePlain, NumbersArePlain, VerbsArePlain, is_plain_byte}
+use Rattle.lrs_report_lists.specs.Laws.{DecimalsArePlain, IsPlain, KeysArePlain, MeasuresArePlain, NamesArePlain, NumbersArePlain, VerbsArePlain, is_plain_byte}
 
 -- ---- names and values
 
@@ -93,3 +93,15 @@ measures_are_plain n d small low = by (d == 1)
     by : (b : Bool) → IsPlain (cond b (decimal n) (decimal n ++ 47 ∷ decimal d))
     by true = wide_plain n small
     by false = list_all-append is_plain_byte (decimal n) (47 ∷ decimal d) ∙ and_from (list_all is_plain_byte (decimal n)) (list_all is_plain_byte (47 ∷ decimal d)) (wide_plain n small) (wide_plain d low)
+
+both_plain : (xs ys : List ℕ) → IsPlain xs → IsPlain ys → IsPlain (xs ++ ys)
+both_plain xs ys x y = list_all-append is_plain_byte xs ys ∙ and_from (list_all is_plain_byte xs) (list_all is_plain_byte ys) x y
+
+pub decimals_are_plain : DecimalsArePlain
+decimals_are_plain n h =
+    let whole : n / 1000 < 10 ^ 64 = omega arith in
+    let tenths : n / 100 % 10 < 10 ^ 64 = omega arith in
+    let hundredths : n / 10 % 10 < 10 ^ 64 = omega arith in
+    let thousandths : n % 10 < 10 ^ 64 = omega arith in
+    both_plain (decimal (n / 1000)) (46 ∷ decimal (n / 100 % 10) ++ decimal (n / 10 % 10) ++ decimal (n % 10)) (wide_plain _ whole)
+    (both_plain (decimal (n / 100 % 10)) (decimal (n / 10 % 10) ++ decimal (n % 10)) (wide_plain _ tenths) (both_plain (decimal (n / 10 % 10)) (decimal (n % 10)) (wide_plain _ hundredths) (wide_plain _ thousandths)))

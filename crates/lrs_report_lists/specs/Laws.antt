@@ -2,7 +2,7 @@
 use Rattle.std.specs.Prelude.{◌≡◌, ◌↔◌, ⊤, ℕ, ◌<◌, ◌≤◌, ◌^◌, Bool, true, not, nat_eq, IsTrue, pos, [], ◌∷◌, Option, Some, None}
 use Rattle.std.specs.List.{list_all, list_any}
 use Rattle.std.specs.Fmt.{decimal}
-use Rattle.lrs_measure.specs.FractionTexts.{fraction_text}
+use Rattle.lrs_measure.specs.FractionTexts.{fraction_text, metres_text}
 use Rattle.lrs_position.specs.Names.{is_referent_name, is_route_name}
 use Rattle.lrs_events.specs.declared.span.Span.{Span}
 use Rattle.lrs_events.specs.Names.{is_class_name, is_value}
@@ -60,6 +60,10 @@ NumbersArePlain = (n : ℕ) → n < 2 ^ 64 → IsPlain (decimal n)
 abbrev pub MeasuresArePlain : Type 0
 MeasuresArePlain = (n d : ℕ) → n < 10 ^ 64 → d < 10 ^ 64 → IsPlain (fraction_text (record { num = pos n; den = d }))
 
+-- no measure that is told as a decimal has
+abbrev pub DecimalsArePlain : Type 0
+DecimalsArePlain = (n : ℕ) → n < 2 ^ 64 → IsPlain (metres_text n)
+
 -- No field has to be quoted.
 pub record NoFieldNeedsQuotes : Type 0 where
   pub names : NamesArePlain
@@ -67,3 +71,4 @@ pub record NoFieldNeedsQuotes : Type 0 where
   pub verbs : VerbsArePlain
   pub numbers : NumbersArePlain
   pub measures : MeasuresArePlain
+  pub decimals : DecimalsArePlain

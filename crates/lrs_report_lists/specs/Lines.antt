@@ -63,15 +63,15 @@ asset_numbered assets n = find (λ a. nat_eq a.number n) assets
 abbrev pub said_of : (Asset → Text) → Option Asset → Text
 said_of text a = option_map_or text a []
 
--- a row of a route: the route, the chainages and measures from and to, the side, and the asset with its class, value, lateral offset and the edit that entered it
-abbrev pub row_line_with : Option Asset → Route → Span → Text
-row_line_with a route r =
+-- a row of a route: the route, the chainages and measures from and to, the side, and the asset with its class, value, lateral offset and the edit that entered it; measures are exact or decimals
+abbrev pub row_line_with : Bool → Option Asset → Route → Span → Text
+row_line_with exact a route r =
     csv_line
     (route.name
     ∷ decimal r.from
     ∷ decimal r.to
-    ∷ measure_text route.marks r.from
-    ∷ measure_text route.marks r.to
+    ∷ measure_field exact route.marks r.from
+    ∷ measure_field exact route.marks r.to
     ∷ side_text r.side
     ∷ decimal r.asset
     ∷ r.class
@@ -79,9 +79,6 @@ row_line_with a route r =
     ∷ said_of (λ x. decimal x.lateral) a
     ∷ said_of (λ x. decimal x.entered_by) a
     ∷ [])
-
-abbrev pub row_line : List Asset → Route → Span → Text
-row_line assets route r = row_line_with (asset_numbered assets r.asset) route r
 
 abbrev pub reason_text : Bool → Text
 reason_text abandoned = if abandoned then codes "abandoned" else codes "retired"

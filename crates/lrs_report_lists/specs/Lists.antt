@@ -7,8 +7,11 @@ use Rattle.lrs_machine.specs.declared.image.Image.{Image}
 use Rattle.lrs_machine.specs.declared.image.RouteRow.{RouteRow}
 use Rattle.lrs_machine.specs.Lines.{Text}
 use Rattle.lrs_machine.specs.declared.question.GoneWanted.{GoneWanted}
+use Rattle.lrs_machine.specs.declared.question.RowForm.{RowForm}
+use Rattle.lrs_machine.specs.declared.question.RowForm.TheVariants.{Decimal, Exact, OnLinks}
 use Rattle.lrs_machine.specs.declared.question.RowsWanted.{RowsWanted}
-use Rattle.lrs_report_lists.specs.Lines.{class_line, csv_line, entered_line, gone_line, left_line, link_line, mark_line, piece_line, ref_line, route_line, row_line}
+use Rattle.lrs_report_lists.specs.Lines.{class_line, csv_line, entered_line, gone_line, left_line, link_line, mark_line, piece_line, ref_line, route_line}
+use Rattle.lrs_report_lists.specs.LinkRows.{link_rows_header, row_text}
 use Rattle.lrs_report_lists.specs.PlacedPieces.{placed_pieces}
 use Rattle.lrs_report_lists.specs.WantedRows.{is_gone_of, is_gone_wanted, is_of_route, is_part_of, is_wanted}
 
@@ -53,9 +56,9 @@ pieces_on e = flat_map (piece_line e.route.name) (placed_pieces e.route.course)
 abbrev pub pieces_text : Option Name → Image → Text
 pieces_text route i = pieces_header ++ flat_map pieces_on (routes_named route i)
 
--- every row that is asked for, of every route that is asked for
-abbrev pub rows_header : Text
-rows_header =
+-- every row that is asked for, of every route that is asked for, in the form that is asked for
+abbrev pub route_rows_header : Text
+route_rows_header =
     csv_line
     (codes "route"
     ∷ codes "from"
@@ -67,14 +70,19 @@ rows_header =
     ∷ codes "class"
     ∷ codes "value"
     ∷ codes "offset"
-    ∷ codes "entered_by"
+    ∷ codes "entry"
     ∷ [])
 
+abbrev pub rows_header : RowForm → Text
+rows_header Decimal = route_rows_header
+rows_header Exact = route_rows_header
+rows_header OnLinks = link_rows_header
+
 abbrev pub rows_of : RowsWanted → List Asset → RouteRow → Text
-rows_of w assets e = flat_map (row_line assets e.route) (filter (is_wanted w) e.spans)
+rows_of w assets e = flat_map (row_text w.form assets e.route) (filter (is_wanted w) e.spans)
 
 abbrev pub rows_text : RowsWanted → Image → Text
-rows_text w i = rows_header ++ flat_map (rows_of w i.assets) (filter (is_of_route w.route) i.routes)
+rows_text w i = rows_header w.form ++ flat_map (rows_of w i.assets) (filter (is_of_route w.route) i.routes)
 
 -- every part that is gone and is asked for
 abbrev pub gone_header : Text

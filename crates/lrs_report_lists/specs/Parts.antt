@@ -1,5 +1,5 @@
 -- Parts of lines, as they are written one behind the other.
-use Rattle.std.specs.Prelude.{ℕ, ◌&&◌, if◌then◌else◌, List, [], ◌∷◌, ◌++◌, Option}
+use Rattle.std.specs.Prelude.{ℕ, Bool, ◌&&◌, if◌then◌else◌, List, [], ◌∷◌, ◌++◌, Option}
 use Rattle.std.specs.Fmt.{decimal}
 use Rattle.lrs_measure.specs.Texts.{Name}
 use Rattle.lrs_position.specs.declared.route.Route.{Route}
@@ -13,8 +13,9 @@ use Rattle.lrs_machine.specs.declared.image.Edit.{Edit}
 use Rattle.lrs_machine.specs.declared.image.Image.{Image}
 use Rattle.lrs_machine.specs.declared.question.GoneWanted.{GoneWanted}
 use Rattle.lrs_machine.specs.declared.question.RowsWanted.{RowsWanted}
-use Rattle.lrs_report_lists.specs.Lines.{asset_numbered, edit_numbered, entered_line, gone_line_with, key_text, left_line, link_side_text, reason_text, row_line, said_of, verb_text}
-use Rattle.lrs_report_lists.specs.Measures.{measure_text}
+use Rattle.lrs_report_lists.specs.Lines.{asset_numbered, edit_numbered, entered_line, gone_line_with, key_text, left_line, link_side_text, reason_text, said_of, verb_text}
+use Rattle.lrs_report_lists.specs.LinkRows.{row_text}
+use Rattle.lrs_report_lists.specs.Measures.{measure_field}
 use Rattle.lrs_report_lists.specs.WantedRows.{is_asset_of, is_edit_wanted, is_gone_of, is_part_of, is_wanted}
 
 -- of a row: route, from and to
@@ -22,8 +23,8 @@ abbrev pub place_part : Name → Span → Text
 place_part route r = route ++ 44 ∷ (decimal r.from ++ 44 ∷ (decimal r.to ++ 44 ∷ []))
 
 -- the measures from and to
-abbrev pub measures_part : Route → Span → Text
-measures_part route r = measure_text route.marks r.from ++ 44 ∷ measure_text route.marks r.to
+abbrev pub measures_part : Bool → Route → Span → Text
+measures_part exact route r = measure_field exact route.marks r.from ++ 44 ∷ measure_field exact route.marks r.to
 
 -- side, asset and class
 abbrev pub holder_part : Span → Text
@@ -33,9 +34,9 @@ holder_part r = 44 ∷ (side_text r.side ++ 44 ∷ (decimal r.asset ++ 44 ∷ (r
 abbrev pub asset_part : Option Asset → Text
 asset_part a = said_of (λ x. x.value) a ++ 44 ∷ (said_of (λ x. decimal x.lateral) a ++ 44 ∷ (said_of (λ x. decimal x.entered_by) a ++ 10 ∷ []))
 
--- the line of a row where it is asked for
-abbrev pub wanted_line : RowsWanted → List Asset → Route → Span → Text
-wanted_line w assets route r = if is_wanted w r then row_line assets route r else []
+-- a row where it is asked for
+abbrev pub wanted_text : RowsWanted → List Asset → Route → Span → Text
+wanted_text w assets route r = if is_wanted w r then row_text w.form assets route r else []
 
 -- of an edit: its key and verb, and its number before them
 abbrev pub named_part : Option Edit → Text
