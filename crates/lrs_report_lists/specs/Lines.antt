@@ -1,6 +1,6 @@
 -- The lines of lists: fields with a comma between them, and the end of the line.
-use Rattle.std.specs.Prelude.{ℕ, zero, suc, ◌+◌, ◌==◌, Bool, nat_eq, if◌then◌else◌, List, [], ◌∷◌, ◌++◌, length, take, codes, Option, None, slice_get, unwrap_or}
-use Rattle.std.specs.List.{find, position}
+use Rattle.std.specs.Prelude.{ℕ, zero, suc, ◌+◌, ◌==◌, Bool, nat_eq, if◌then◌else◌, List, [], ◌∷◌, ◌++◌, length, codes, Option, None, slice_get}
+use Rattle.std.specs.List.{before_first, find}
 use Rattle.std.specs.Option.{option_map_or}
 use Rattle.std.specs.Fmt.{decimal}
 use Rattle.lrs_measure.specs.Texts.{Name}
@@ -94,7 +94,7 @@ edit_numbered edits (suc passed) = slice_get edits passed
 
 -- the verb of a canonical line: what stands before its first comma
 abbrev pub verb_in : Text → Text
-verb_in line = take (unwrap_or (position (λ byte. byte == 44) line) (length line)) line
+verb_in line = before_first (λ byte. byte == 44) line
 
 -- the key of an edit, and its verb; they are empty where there is none
 abbrev pub key_text : Option Edit → Text

@@ -2,6 +2,7 @@
 use Rattle.std.specs.Prelude.{ℕ, Bool, ◌&&◌, if◌then◌else◌, List, [], ◌∷◌, ◌++◌, Option}
 use Rattle.std.specs.Fmt.{decimal}
 use Rattle.lrs_measure.specs.Texts.{Name}
+use Rattle.lrs_element.specs.declared.link.Piece.{Piece}
 use Rattle.lrs_position.specs.declared.route.Route.{Route}
 use Rattle.lrs_events.specs.declared.class.Asset.{Asset}
 use Rattle.lrs_events.specs.declared.part.Gone.{Gone}
@@ -13,7 +14,7 @@ use Rattle.lrs_machine.specs.declared.image.Edit.{Edit}
 use Rattle.lrs_machine.specs.declared.image.Image.{Image}
 use Rattle.lrs_machine.specs.declared.question.GoneWanted.{GoneWanted}
 use Rattle.lrs_machine.specs.declared.question.RowsWanted.{RowsWanted}
-use Rattle.lrs_report_lists.specs.Lines.{asset_numbered, edit_numbered, entered_line, gone_line_with, key_text, left_line, link_side_text, reason_text, said_of, verb_text}
+use Rattle.lrs_report_lists.specs.Lines.{asset_numbered, direction_text, edit_numbered, entered_line, gone_line_with, key_text, left_line, link_side_text, reason_text, said_of, verb_text}
 use Rattle.lrs_report_lists.specs.LinkRows.{row_text}
 use Rattle.lrs_report_lists.specs.Measures.{measure_field}
 use Rattle.lrs_report_lists.specs.WantedRows.{is_asset_of, is_edit_wanted, is_gone_of, is_part_of, is_wanted}
@@ -37,6 +38,13 @@ asset_part a = said_of (λ x. x.value) a ++ 44 ∷ (said_of (λ x. decimal x.lat
 -- a row where it is asked for
 abbrev pub wanted_text : RowsWanted → List Asset → Route → Span → Text
 wanted_text w assets route r = if is_wanted w r then row_text w.form assets route r else []
+
+-- of a piece: the route, from and to, and then the link, its millimetres, the direction, and the end of the line
+abbrev pub chainages_part : Name → ℕ → ℕ → Text
+chainages_part route at end = route ++ 44 ∷ (decimal at ++ 44 ∷ (decimal end ++ 44 ∷ []))
+
+abbrev pub stretch_part : Piece → Text
+stretch_part p = decimal p.link ++ 44 ∷ (decimal p.from ++ 44 ∷ (decimal p.to ++ 44 ∷ (direction_text p.forward ++ 10 ∷ [])))
 
 -- of an edit: its key and verb, and its number before them
 abbrev pub named_part : Option Edit → Text

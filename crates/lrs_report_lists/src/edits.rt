@@ -15,7 +15,7 @@ use std::io::Write;
 pub fn edit_numbered(edits: &[Edit], number: u64) -> Option<&Edit>
     ensures { option_map (λ e. e.now) result ≡ edit_numbered edits.now number }
 {
-    if number == 0 || edits.len() as u64 < number {
+    if number == 0 || number > edits.len() as u64 {
         return None;
     }
     Some(&edits[number as usize - 1])

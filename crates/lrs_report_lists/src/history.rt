@@ -25,12 +25,7 @@ pub fn is_part_of(asset: u64, part: &Part) -> bool
 }
 
 /// Writes the line of an event: what became of a part by its edit.
-fn write_event<W: Write>(
-    writer: &mut W,
-    edits: &[Edit],
-    event: &str,
-    part: &Part,
-) -> io::Result<()>
+fn write_event<W: Write>(writer: &mut W, edits: &[Edit], event: &str, part: &Part) -> io::Result<()>
     ensures { OnOk result (Appends (W.contents writer.old) (W.contents writer.new)
         (event_line edits.now event.now part.now)) }
 {
@@ -56,12 +51,7 @@ fn write_entered<W: Write>(
 }
 
 /// Writes the line of a part that is gone if it is of the asset.
-fn write_left<W: Write>(
-    writer: &mut W,
-    asset: u64,
-    edits: &[Edit],
-    gone: &Gone,
-) -> io::Result<()>
+fn write_left<W: Write>(writer: &mut W, asset: u64, edits: &[Edit], gone: &Gone) -> io::Result<()>
     ensures { OnOk result (Appends (W.contents writer.old) (W.contents writer.new)
         (left_line_of asset edits.now gone.now)) }
 {

@@ -36,6 +36,7 @@ fn write_marks_on<W: Write>(writer: &mut W, route: &Route, marks: &[Mark]) -> io
     Ok(())
 }
 
+#[derive(Drop)]
 struct MarkLines;
 
 impl RouteLines for MarkLines {

@@ -8,6 +8,7 @@ ghost use Rattle.lrs_element.specs.Pieces.{IsFilled, piece_len};
 ghost use Rattle.lrs_image.specs.OpenLists.{image_of};
 ghost use Rattle.lrs_report_lists.specs.Lines.{direction_text, piece_line};
 ghost use Rattle.lrs_report_lists.specs.Lists.{pieces_text};
+ghost use Rattle.lrs_report_lists.specs.Parts.{chainages_part, stretch_part};
 ghost use Rattle.lrs_report_lists.specs.PlacedPieces.{placed_from, placed_pieces};
 
 use crate::route_lines::{RouteLines, write_route_lines};
@@ -25,6 +26,23 @@ pub fn direction_text(forward: bool) -> &'static str
     if forward { "+" } else { "-" }
 }
 
+fn write_chainages<W: Write>(writer: &mut W, route: &RouteName, at: u64, end: u64) -> io::Result<()>
+    ensures { OnOk result (Appends (W.contents writer.old) (W.contents writer.new)
+        (chainages_part route.now at end)) }
+{
+    writer.write_all(route.bytes())?;
+    write!(writer, ",{at},{end},")
+}
+
+fn write_stretch<W: Write>(writer: &mut W, piece: &Piece) -> io::Result<()>
+    ensures { OnOk result (Appends (W.contents writer.old) (W.contents writer.new)
+        (stretch_part piece.now)) }
+{
+    let Piece { link, from, to, .. } = *piece;
+    let direction = direction_text(piece.forward);
+    writeln!(writer, "{link},{from},{to},{direction}")
+}
+
 /// Writes the line of a piece that lies between two chainages.
 fn write_piece<W: Write>(
     writer: &mut W,
@@ -37,18 +55,12 @@ fn write_piece<W: Write>(
     ensures { OnOk result (Appends (W.contents writer.old) (W.contents writer.new)
         (piece_line route.now (at, piece.now))) }
 {
-    let Piece { link, from, to, .. } = *piece;
-    let direction = direction_text(piece.forward);
-    writer.write_all(route.bytes())?;
-    writeln!(writer, ",{at},{end},{link},{from},{to},{direction}")
+    write_chainages(writer, route, at, end)?;
+    write_stretch(writer, piece)
 }
 
 /// Writes the lines of pieces that lie one behind the other from the start of a route.
-fn write_pieces_in<W: Write>(
-    writer: &mut W,
-    route: &RouteName,
-    pieces: &[Piece],
-) -> io::Result<()>
+fn write_pieces_in<W: Write>(writer: &mut W, route: &RouteName, pieces: &[Piece]) -> io::Result<()>
     requires few { length pieces.now ≤ 1_000 }
     requires filled { AllByRecursion IsFilled pieces.now }
     ensures { OnOk result (Appends (W.contents writer.old) (W.contents writer.new)
@@ -63,17 +75,14 @@ fn write_pieces_in<W: Write>(
     Ok(())
 }
 
-fn write_pieces_on<W: Write>(
-    writer: &mut W,
-    route: &RouteName,
-    course: &Course,
-) -> io::Result<()>
+fn write_pieces_on<W: Write>(writer: &mut W, route: &RouteName, course: &Course) -> io::Result<()>
     ensures { OnOk result (Appends (W.contents writer.old) (W.contents writer.new)
         (flat_map (piece_line route.now) (placed_pieces course.now))) }
 {
     write_pieces_in(writer, route, course.pieces())
 }
 
+#[derive(Drop)]
 struct PieceLines;
 
 impl RouteLines for PieceLines {

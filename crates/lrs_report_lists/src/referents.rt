@@ -49,6 +49,7 @@ fn write_refs_on<W: Write>(
     Ok(())
 }
 
+#[derive(Drop)]
 struct RefLines {
     exact: bool,
 }

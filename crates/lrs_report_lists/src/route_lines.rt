@@ -43,7 +43,7 @@ fn write_if_named<W: Write, L: RouteLines>(
 ) -> io::Result<()>
     ensures { OnOk result (Appends (W.contents writer.old) (W.contents writer.new)
         (if is_of_route (option_map (λ n. n.now) route.entry) route_row.now
-            then L.lines list.now route_row.now else [])) }
+        then L.lines list.now route_row.now else [])) }
 {
     if is_of_route(route, route_row) {
         return list.write(writer, route_row);

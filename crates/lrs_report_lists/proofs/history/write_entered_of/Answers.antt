@@ -15,4 +15,4 @@ returns g c =
     let i = image_of c.args.kept.now in
     let asset = c.args.asset in
     as_text c.write_each_entered.result _ _ _ (entered_of asset i) c.write_each_entered.ensures
-    (ap (λ (es : List Edit). flat_map (entered_line_of asset es) c.as_slice-2.result.now) c.as_slice.ensures.value ∙ ap (flat_map (entered_line_of asset i.edits)) c.as_slice-2.ensures.value ∙ texts_of_chosen (is_part_of asset) (entered_line i.edits) i.entered)
+    (ap (λ (es : List Edit). flat_map (entered_line_of asset es) c.as_slice.result.now) c.as_slice-edits.ensures.value ∙ ap (flat_map (entered_line_of asset i.edits)) c.as_slice.ensures.value ∙ texts_of_chosen (is_part_of asset) (entered_line i.edits) i.entered)

@@ -15,4 +15,4 @@ returns g c =
     let i = image_of c.args.kept.now in
     let asset = c.args.asset in
     as_text c.write_each_left.result _ _ _ (gone_of asset i) c.write_each_left.ensures
-    (ap (λ (es : List Edit). flat_map (left_line_of asset es) c.as_slice-2.result.now) c.as_slice.ensures.value ∙ ap (flat_map (left_line_of asset i.edits)) c.as_slice-2.ensures.value ∙ texts_of_chosen (is_gone_of asset) (left_line i.edits) i.gone)
+    (ap (λ (es : List Edit). flat_map (left_line_of asset es) c.as_slice.result.now) c.as_slice-edits.ensures.value ∙ ap (flat_map (left_line_of asset i.edits)) c.as_slice.ensures.value ∙ texts_of_chosen (is_gone_of asset) (left_line i.edits) i.gone)

@@ -1,4 +1,4 @@
-use Rattle.std.proofs.Common.{◌≡◌, ◌≤◌, ◌*◌, ◌^◌, drop}
+use Rattle.std.proofs.Common.{◌≤◌, ◌*◌, ◌^◌, drop}
 use Rattle.std.specs.List.{AllByRecursion, flat_map}
 use Rattle.lrs_element.specs.Pieces.{IsFilled}
 use Rattle.lrs_report_lists.specs.Lines.{piece_line}
