@@ -103,5 +103,8 @@ decimals_are_plain n h =
     let tenths : n / 100 % 10 < 10 ^ 64 = omega arith in
     let hundredths : n / 10 % 10 < 10 ^ 64 = omega arith in
     let thousandths : n % 10 < 10 ^ 64 = omega arith in
-    both_plain (decimal (n / 1000)) (46 ∷ decimal (n / 100 % 10) ++ decimal (n / 10 % 10) ++ decimal (n % 10)) (wide_plain _ whole)
-    (both_plain (decimal (n / 100 % 10)) (decimal (n / 10 % 10) ++ decimal (n % 10)) (wide_plain _ tenths) (both_plain (decimal (n / 10 % 10)) (decimal (n % 10)) (wide_plain _ hundredths) (wide_plain _ thousandths)))
+    let a = decimal (n / 100 % 10) in
+    let b = decimal (n / 10 % 10) in
+    let c = decimal (n % 10) in
+    both_plain (decimal (n / 1000) ++ 46 ∷ a ++ b) c
+    (both_plain (decimal (n / 1000) ++ 46 ∷ a) b (both_plain (decimal (n / 1000)) (46 ∷ a) (wide_plain _ whole) (wide_plain _ tenths)) (wide_plain _ hundredths)) (wide_plain _ thousandths)
