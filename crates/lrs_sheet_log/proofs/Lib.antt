@@ -11,3 +11,4 @@ pub mod CoursePieces
 pub mod RouteTexts
 pub mod SetReferents
 pub mod RouteRecords
+pub mod Parts
