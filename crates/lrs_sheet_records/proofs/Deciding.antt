@@ -326,7 +326,7 @@ place_in text = if is_position text then Position (expression_in (method_from te
 place-from : (text : Text) → is_place text ≡ true → SaysPlace text (place_in text)
 place-from text h = elim (is_position text)
     as (λ t. is_position text ≡ t → (if t then states (method_from text) (drop 4 text) else is_number 0 longest_route text) ≡ true
-        → SaysPlace text (if t then Position (expression_in (method_from text) (drop 4 text)) else Chainage (digits_value 10 text))) [
+    → SaysPlace text (if t then Position (expression_in (method_from text) (drop 4 text)) else Chainage (digits_value 10 text))) [
       | true ↦ λ e passes. (method_from text, drop 4 text, position-text text e, stated-from (method_from text) (drop 4 text) passes)
       | false ↦ λ e passes. let said = number-from 0 longest_route text passes in record { digits = said.digits; limit = said.most; value = refl }
     ] refl h

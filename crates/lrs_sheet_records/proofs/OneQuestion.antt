@@ -98,9 +98,11 @@ read-where row name is = by (is_link_word (text_at row 2)) refl
         let mm = digits_value 10 (text_at row 4) in
         (question.Where (OnLink number mm), is, λ i. Word (link i) ∷ (if e i then Number number else PlaceOf (place_in (text_at row 3))) ∷ (if e i then Number mm else Nothing) ∷ [])
     by false e =
-        let place = place_in (text_at row 3) in
-        (question.Where (OnRoute (text_at row 2) place), is,
-        λ i. Word (text_at row 2) ∷ (if e i then Number (digits_value 10 (text_at row 3)) else PlaceOf place) ∷ (if e i then Number (digits_value 10 (text_at row 4)) else Nothing) ∷ [])
+        let place = place_in (text_at row 3) in (
+          question.Where (OnRoute (text_at row 2) place),
+          is,
+          λ i. Word (text_at row 2) ∷ (if e i then Number (digits_value 10 (text_at row 3)) else PlaceOf place) ∷ (if e i then Number (digits_value 10 (text_at row 4)) else Nothing) ∷ [],
+        )
 
 -- each name has a question of what its fields say
 read-question : (row : List Text) (name : Text) → Contains all_questions name → IsRead row name

@@ -1,5 +1,4 @@
-use Rattle.std.proofs.Common.{◌≡◌, ◌∙◌, ap, true, rules}
-use Rattle.std.specs.Prelude.{◌||◌}
+use Rattle.std.proofs.Common.{◌≡◌, true, rules}
 use Rattle.lrs_position.specs.Names.{is_route_name}
 use Rattle.lrs_sheet_records.specs.Kinds.{edit_fields}
 use Rattle.lrs_sheet_records.specs.Records.{place_of, text_at}
