@@ -17,7 +17,7 @@ mod route_list;
 mod row_list;
 mod wanted;
 
-pub use absence::{lacks_edit, lacks_route, missing_row};
+pub use absence::{lacks_asset, lacks_class, lacks_edit, lacks_route, missing_row};
 pub use assets::asset_numbered;
 pub use classes::write_classes;
 pub use ledger::{link_side_text, reason_text, write_gone};
