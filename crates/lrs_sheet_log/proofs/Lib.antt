@@ -9,3 +9,4 @@ pub mod Tables
 pub mod RouteTexts
 pub mod SetReferents
 pub mod RouteRecords
+pub mod Parts
