@@ -39,7 +39,8 @@ fn wanted(word: BadWord, method: Option<&str>) -> &'static str {
         BadWord::Key => "no key; 1 to 40 of A-Z a-z 0-9 . : _ -, not - alone",
         BadWord::FromBesideKey => "a second question beside --key; either FROM or --key KEY",
         BadWord::UntilBesideKey => "a second question beside --key; either --until N or --key KEY",
-        BadWord::UntilBesideSum => "a second question beside --sum; log DB N --sum sums up to edit N",
+        BadWord::UntilBesideSum =>
+            "a second question beside --sum; log DB N --sum sums up to edit N",
         BadWord::SumBesideKey => "a second question beside --sum; either --sum or --key KEY",
         BadWord::NotLink => "not link; either ROUTE PLACE, or link LINK MM",
         BadWord::Link => "no link number; a whole number from 1 to 999999, as 101",

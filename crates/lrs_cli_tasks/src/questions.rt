@@ -52,8 +52,7 @@ fn stop_of(fault: AskFault) -> ProgramFault
         AskFault::MustReopen => ProgramFault::MustReopen,
         AskFault::Missing(_)
         | AskFault::Place(_)
-        | AskFault::From(_)
-        | AskFault::To(_)
+        | AskFault::End(..)
         | AskFault::Seg(_)
         | AskFault::Memory => ProgramFault::Memory,
     }

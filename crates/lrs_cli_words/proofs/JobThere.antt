@@ -210,9 +210,27 @@ has_flags job.List = record {
   short = short_help (rules_at job.List) help_fills;
 }
 has_flags job.Rows = record {
-  long = long_among (rules_at job.Rows) row_options
-      (route_fills, route_fills, (from_fills, from_fills, (to_fills, to_fills, (class_fills, class_fills, (asset_fills, asset_fills,
-      (exact_fills, exact_fills, (on_links_fills, on_links_fills, (text_fills, text_fills, tt)))))))) help_fills;
+  long = long_among (rules_at job.Rows) row_options (
+    route_fills,
+    route_fills,
+    (
+      from_fills,
+      from_fills,
+      (
+        to_fills,
+        to_fills,
+        (
+          class_fills,
+          class_fills,
+          (
+            asset_fills,
+            asset_fills,
+            (exact_fills, exact_fills, (on_links_fills, on_links_fills, (text_fills, text_fills, tt))),
+          ),
+        ),
+      ),
+    ),
+  ) help_fills;
   short = short_help (rules_at job.Rows) help_fills;
 }
 has_flags job.Gone = record {

@@ -23,11 +23,7 @@ fn refuse_exact(exact: bool) -> Result<(), QuestionFault>
 }
 
 /// A list that is not of one route, and has no measures.
-fn whole_list(
-    listing: Listing,
-    route: Option<&str>,
-    exact: bool,
-) -> Result<Listing, QuestionFault>
+fn whole_list(listing: Listing, route: Option<&str>, exact: bool) -> Result<Listing, QuestionFault>
     ensures read { IfOk result (λ l. (l ≡ listing) × (route.entry ≡ None) × (exact ≡ false)) }
     ensures unread { IfErr result (λ e. IsMisplacedRoute (option_map (λ t. t.now) route.entry) e
         ⊎ IsMisplacedExact exact e) }

@@ -435,7 +435,10 @@ pub fn question_of(alloc: Global, job: &Job<'_>) -> Result<Option<Question>, Que
             ..
         } => at_of(route, method, position)?,
         Job::Where {
-            route, place, mm, ..
+            route,
+            place,
+            mm,
+            ..
         } => Question::Where(place_of(route, place, *mm)?),
         Job::Translate {
             route,
@@ -466,7 +469,10 @@ pub fn question_of(alloc: Global, job: &Job<'_>) -> Result<Option<Question>, Que
             route: route_of(route)?,
         },
         Job::List {
-            what, route, exact, ..
+            what,
+            route,
+            exact,
+            ..
         } => Question::List(list_of(what, *route, *exact)?),
         Job::Rows {
             route,
