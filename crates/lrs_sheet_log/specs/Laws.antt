@@ -21,8 +21,9 @@ use Rattle.lrs_sheet_records.specs.CanonicalRecords.{IsInLowestTerms}
 use Rattle.lrs_sheet_records.specs.Kinds.{edit_header}
 use Rattle.lrs_sheet_records.specs.Records.{SaysCommand}
 use Rattle.lrs_sheet_records.specs.Verbs.{arguments_of}
+use Rattle.lrs_report_lists.specs.CoursePieces.{pieces_of}
 use Rattle.lrs_sheet_log.specs.Log.{edits_between, edits_text, log_record}
-use Rattle.lrs_sheet_log.specs.RouteSheets.{at_chainage, chainage_marks, makes_route, pieces_of, route_sheet}
+use Rattle.lrs_sheet_log.specs.RouteSheets.{at_chainage, chainage_marks, makes_route, route_sheet}
 
 -- A well formed command under a key; a proportion in it is in lowest terms, as fractions are kept.
 pub record IsPrintable (r : Record) : Type 0 where
