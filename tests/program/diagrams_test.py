@@ -211,7 +211,7 @@ def test_ends_by_positions():
             by_positions, by_chainages = ["--from", first, "--to", last], ["--from", str(start), "--to", str(end)]
             assert diagram(db, "A1", *by_positions) == diagram(db, "A1", *by_chainages), by_positions
             told = [run("rows", str(db), "--route", "A1", *words) for words in (by_positions, by_chainages)]
-            assert told[0] == told[1] and told[0].status == 0, told
+            assert told[0].stdout == told[1].stdout and told[0].status == told[1].status == 0, told
         for words, cause in [(["--from", "abs:9001"], "OffRoute:from"), (["--to", "rel:NONE+5"], "NoRef:to"), (["--from", "rel:NONE+5", "--to", "abs:9001"], "NoRef:from")]:
             refuses(run("diagram", str(db), "A1", *words), cause)
             refuses(run("rows", str(db), "--route", "A1", *words), cause)
