@@ -1,5 +1,5 @@
 -- What a text says where a place of a route is asked for.
-use Rattle.std.specs.Prelude.{◌≡◌, ⊥, ℕ, ◌≤◌, ◌∷◌, ◌++◌}
+use Rattle.std.specs.Prelude.{◌≡◌, ℕ, ◌≤◌, ◌∷◌, ◌++◌}
 use Rattle.std.specs.Str.Parse.{IsNumeral, digits_value}
 use Rattle.lrs_measure.specs.Limits.{longest_route}
 use Rattle.lrs_position.specs.declared.expression.Method.{Method}

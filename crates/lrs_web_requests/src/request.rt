@@ -62,9 +62,11 @@ fn verb_for(resource: Resource) -> RequestMethod
         | Resource::Classes
         | Resource::Refs
         | Resource::Marks
+        | Resource::Pieces
         | Resource::Rows
         | Resource::Lengths
         | Resource::Gone
+        | Resource::History
         | Resource::Where => RequestMethod::Get,
         Resource::Edits | Resource::Surveys | Resource::Questions => RequestMethod::Post,
     }
@@ -112,9 +114,11 @@ fn argument(resource: Resource, target: &str) -> &[u8]
         | Resource::Classes
         | Resource::Refs
         | Resource::Marks
+        | Resource::Pieces
         | Resource::Rows
         | Resource::Lengths
         | Resource::Gone
+        | Resource::History
         | Resource::Where
         | Resource::Edits
         | Resource::Surveys
