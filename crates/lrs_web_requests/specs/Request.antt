@@ -7,7 +7,7 @@ use Rattle.httparse.specs.Spans.{name_and_value}
 use Rattle.lrs_web_requests.specs.HeadReadings.{IsTooLarge, IsUnreadable}
 use Rattle.lrs_web_requests.specs.Body.{body_at}
 use Rattle.lrs_web_requests.specs.BodyLengths.{Field, body_length}
-use Rattle.lrs_web_requests.specs.Query.{parameter}
+use Rattle.lrs_web_requests.specs.Query.{switched}
 use Rattle.lrs_web_requests.specs.Sites.{is_own}
 use Rattle.lrs_web_requests.specs.declared.response.RequestMethod.{RequestMethod}
 use Rattle.lrs_web_requests.specs.declared.response.RequestMethod.TheVariants.{Get, Post}
@@ -80,13 +80,9 @@ verb_of Edits = Post
 verb_of Surveys = Post
 verb_of Questions = Post
 
--- whether a sheet goes on behind its last record that is an edit: where `resume` is 1, not where there is no `resume`; any other value is refused
-abbrev pub resumes_for : Option (List ℕ) → Option Bool
-resumes_for None = Some false
-resumes_for (Some value) = if bytes_eq value (codes "1") then Some true else None
-
+-- whether a sheet goes on behind its last record that is an edit
 abbrev pub resumes : List ℕ → Option Bool
-resumes target = resumes_for (parameter (codes "resume") (query_of target))
+resumes target = switched (codes "resume") (query_of target)
 
 abbrev pub with_body : Resource → Option Bool → Option (List ℕ) → Asked
 with_body resource None body = refused 400
