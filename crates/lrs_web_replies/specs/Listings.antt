@@ -36,7 +36,7 @@ use Rattle.lrs_report_lists.specs.Measures.{decimal_measure_text, measure_text}
 use Rattle.lrs_report_lists.specs.PlacedPieces.{placed_pieces}
 use Rattle.lrs_report_lists.specs.WantedRows.{is_gone_of, is_gone_wanted, is_part_of, is_wanted}
 use Rattle.lrs_report_lists.specs.declared.link_rows.LinkStretch.{LinkStretch}
-use Rattle.lrs_sheet_log.specs.Log.{edits_from, edits_under, log_text}
+use Rattle.lrs_sheet_log.specs.Log.{edits_text, edits_under, log_text}
 use Rattle.lrs_web_requests.specs.Text.{Answer}
 use Rattle.lrs_web_requests.specs.declared.paths.Format.{Format}
 use Rattle.lrs_web_requests.specs.declared.paths.Format.TheVariants.{Json, Csv}
@@ -219,7 +219,7 @@ listing_text i (listing.Pieces route) = pieces_text route i
 listing_text i (listing.Gone wanted) = gone_text wanted i
 listing_text i (listing.History asset) = history_text asset i
 listing_text i (listing.Log from until) = log_text from until i
-listing_text i (listing.LogOfKey key) = log_text (edits_under key (state_of i).done)
+listing_text i (listing.LogOfKey key) = edits_text (edits_under key (state_of i).done)
 
 -- the reply in a format: with this, as JSON, or with these lines
 abbrev pub in_format : Format → Data → Text → Answer
@@ -241,4 +241,4 @@ listing_answer format i (listing.Log from until) = csv_answer (log_text from unt
 -- the rows that are asked for, in a format
 abbrev pub rows_answer : Format → Image → RowsWanted → Answer
 rows_answer format i w = in_format format (rows_data w i) (rows_text w i)
-listing_answer format i (listing.LogOfKey key) = csv_answer (log_text (edits_under key (state_of i).done))
+listing_answer format i (listing.LogOfKey key) = csv_answer (edits_text (edits_under key (state_of i).done))
