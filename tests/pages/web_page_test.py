@@ -456,7 +456,7 @@ def test_the_rows_are_sorted_filtered_and_saved(page):
     saved = text.splitlines()
     told = run("rows", str(page.folder.parent / "roads.db"), "--route", "A1").stdout.decode().splitlines()
     # the column of the edit has the name that it has over HTTP
-    assert saved[0] == told[0].replace("entered_by", "entry")
+    assert saved[0] == told[0]
     assert sorted(saved[1:]) == sorted(told[1:]) and text.endswith("\n")
 
 
