@@ -16,9 +16,7 @@ use crate::list_text::{add_item, begin, end};
 use lrs_events::{Asset, Gone, Part};
 use lrs_image::ImageLists;
 use lrs_machine::{Edit, GoneWanted};
-use lrs_report_lists::{
-    asset_numbered, edit_numbered, is_gone_wanted, is_part_of, reason_text,
-};
+use lrs_report_lists::{asset_numbered, edit_numbered, is_gone_wanted, is_part_of, reason_text};
 use std::alloc::{AllocError, Global};
 
 // ---- what is gone
@@ -158,7 +156,14 @@ fn add_left(
         ≡ bytes.old.items ++ left_part asset edits.now gone.now) }
 {
     if is_part_of(asset, &gone.part) {
-        return add_event(alloc, most, bytes, edits, reason_text(gone.abandoned), &gone.part);
+        return add_event(
+            alloc,
+            most,
+            bytes,
+            edits,
+            reason_text(gone.abandoned),
+            &gone.part,
+        );
     }
     Ok(())
 }

@@ -169,12 +169,7 @@ trait Listed {
     ghost items: { Route → List Data };
 
     /// Adds what is listed of a route.
-    fn add(
-        alloc: Global,
-        most: usize,
-        bytes: &mut Vec<u8>,
-        route: &Route,
-    ) -> Result<(), AllocError>
+    fn add(alloc: Global, most: usize, bytes: &mut Vec<u8>, route: &Route) -> Result<(), AllocError>
         ensures { OnOk result (bytes.new.items
             ≡ bytes.old.items ++ flat_map item_text (items route.now)) };
 }
