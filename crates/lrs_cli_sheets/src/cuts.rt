@@ -1,7 +1,8 @@
 //! Where an edit sheet that is tried cuts routes, by `split` and `realign`: what a terminal is told of the chainages there.
 
-use crate::chainage_notes::{hint_at_measures, name_of};
-use crate::chainages::{Chainages, UnderstoodChainages, chainages_of};
+use crate::likely_measures::{MeasuredChainages, likely_measures};
+use crate::place_notes::name_of;
+use crate::places::{Places, UnderstoodPlaces, places_of, understood};
 use crate::progress::ProgressDisplay;
 use crate::trial::copy_desk;
 use csv::{ByteRecord, Reader};
@@ -38,7 +39,7 @@ fn command_in(alloc: Global, row: &ByteRecord) -> Option<(Key, Command)> {
 // Whether a record says where a route is cut.
 fn is_cut(alloc: Global, row: &ByteRecord) -> bool {
     match command_in(alloc, row) {
-        Some((_, command)) => chainages_of(&command).is_some(),
+        Some((_, command)) => places_of(&command).is_some(),
         None => false,
     }
 }
@@ -77,17 +78,30 @@ fn count_cuts(alloc: Global, text: &[u8]) -> u64 {
 }
 
 // Says under a key where a route is cut.
-fn say_cut<R: Runtime<A = Global>>(rt: &R, route: &Route, key: &Key, chainages: Chainages) {
-    let name = name_of(&route.name);
-    let understood = UnderstoodChainages { route, chainages };
-    let _ = match chainages {
-        Chainages::Between(from, to) => {
-            let length = Metres::new(to.saturating_sub(from));
-            eprintln!(rt; "key {key}: replaces {length} m of {name}: {understood}")
+fn say_cut<R: Runtime<A = Global>>(rt: &R, name: &str, key: &Key, cut: UnderstoodPlaces) {
+    let _ = match cut {
+        UnderstoodPlaces::Between(from, to) => {
+            let length = Metres::new(to.chainage.saturating_sub(from.chainage));
+            eprintln!(rt; "key {key}: replaces {length} m of {name}: {cut}")
         }
-        _ => eprintln!(rt; "key {key}: splits {name} {understood}"),
+        _ => eprintln!(rt; "key {key}: splits {name} {cut}"),
     };
-    hint_at_measures(rt, route, chainages);
+}
+
+// Says which measures were meant most likely where a route is cut.
+fn hint_at_measures<R: Runtime<A = Global>>(rt: &R, route: &Route, places: &Places) {
+    if let Some(likely) = likely_measures(route, places) {
+        let instead = MeasuredChainages { likely };
+        let _ = eprintln!(rt; "hint: {likely}; {instead}");
+    }
+}
+
+// Says the same of a cut that a command names.
+fn tell_places<R: Runtime<A = Global>>(rt: &R, route: &Route, key: &Key, places: &Places) {
+    if let Some(cut) = understood(route, places) {
+        say_cut(rt, name_of(&route.name), key, cut);
+        hint_at_measures(rt, route, places);
+    }
 }
 
 // Says where a command cuts a route of an inventory, and whether it is one that cuts a route.
@@ -97,11 +111,11 @@ fn tell_cut<R: Runtime<A = Global>>(
     key: &Key,
     command: &Command,
 ) -> bool {
-    let Some((name, chainages)) = chainages_of(command) else {
+    let Some((name, places)) = places_of(command) else {
         return false;
     };
     if let Some(row) = inventory.route(&name) {
-        say_cut(rt, &row.route, key, chainages);
+        tell_places(rt, &row.route, key, &places);
     }
     true
 }

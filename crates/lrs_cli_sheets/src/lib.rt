@@ -4,13 +4,14 @@
 
 mod advice;
 mod audit;
-mod chainage_notes;
-mod chainages;
 mod cuts;
 mod difference;
 mod likely_measures;
+mod place_notes;
+mod places;
 mod progress;
 mod question_sheets;
+mod remains;
 mod report;
 mod sheets;
 mod streams;
@@ -19,7 +20,7 @@ mod trial;
 mod world;
 
 pub use audit::do_audit;
-pub use chainage_notes::tell_chainages;
+pub use place_notes::tell_of_question;
 pub use progress::{Extent, ProgressDisplay};
 pub use question_sheets::{QuestionPace, answer_sheet, do_questions};
 pub use sheets::Pace;
