@@ -7,6 +7,8 @@ mod audit;
 mod cuts;
 mod difference;
 mod likely_measures;
+mod nearby;
+mod nearest;
 mod place_notes;
 mod places;
 mod progress;
@@ -17,6 +19,7 @@ mod sheets;
 mod streams;
 mod tidy_sheet;
 mod trial;
+mod trial_notes;
 mod world;
 
 pub use audit::do_audit;

@@ -23,7 +23,11 @@ impl fmt::Display for LastPart {
     fn fmt<W: fmt::Write>(&self, f: &mut fmt::Formatter<W>) -> fmt::Result {
         let (asset, edit) = (self.gone.part.asset, self.gone.part.edit);
         let key = &self.key;
-        let verb = if self.gone.abandoned { "abandoned" } else { "retired" };
+        let verb = if self.gone.abandoned {
+            "abandoned"
+        } else {
+            "retired"
+        };
         write!(f, "asset {asset}: the last of it was {verb}")?;
         write!(f, " by edit {edit} (key {key})")
     }
