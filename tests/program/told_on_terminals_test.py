@@ -1,6 +1,7 @@
 """On a terminal it is said how places are understood: in metres, with the measures there. Where measures were meant most likely,
 a hint says how they are written, or in a sheet at which chainages they are. Of an asset of which nothing is left it is said what
-took the last of it. Elsewhere nothing is said of it, and the answer is the same everywhere."""
+took the last of it, and of a record that is refused what is near to what it names. Elsewhere nothing is said of it, and the answer
+is the same everywhere."""
 
 import pytest
 from program import FIRST, HEADER, TOP, on_terminal, record, run, sheet_of
@@ -144,6 +145,8 @@ def test_a_check_hints_at_measures_that_were_meant(county):
     assert said("check", county, "stdin", given=sheet) == [
         "key x1: splits A38 at 16.200 m (measure 12016.168)",
         "hint: 16200 is a chainage in millimetres; measure 16200 is at chainage 4200000",
+        "key x1: A38 has marks at 0 and 1002000, and none between",
+        "key x3: the nearest route is A38",
     ]
 
 
@@ -178,6 +181,29 @@ def test_a_check_tells_nothing_of_cuts_where_there_are_none(county):
     assert all(line.startswith("explain: ") for line in of_no_header), of_no_header
     survey = b"key,asset,class,route,side,method,from,to,value,offset\nv1,900,SPEED,A38,B,abs,12000,13000,50,0\n"
     assert said("check", county, "stdin", "--survey", given=survey) == []
+
+
+NEARBY = [
+    ("enter,99900,SPED,A38,B,abs,12000,13000,50,0", "the nearest class is SPEED"),
+    ("enter,99900,SPEED,A83,B,abs,12000,13000,50,0", "the nearest route is A38"),
+    ("enter,99900,SPEED,A38,B,abs,12000,98000,50,0", "A38 has measures 12000 to 19800, and is 7800.000 m long"),
+    ("ref,P9,A38,rel,KM130+0", "the nearest referent is KM13"),
+    ("recalibrate,A38,0:0 7000000:7000", "A38 has measures 12000 to 19800, and is 7800.000 m long"),
+    ("unref,KM130", "the nearest referent is KM13"),
+    ("close,ZZZZ", None),
+    ("join,A38,B410", "the nearest route is B4100"),
+    ("split,A38,4000000,A439", "A38 has marks at 3001000 and 4200000, and none between"),
+]
+
+
+def test_a_check_tells_what_is_near_to_what_is_refused(county):
+    sheet = sheet_of(*(f"x{n},{text}" for n, (text, _) in enumerate(NEARBY)))
+    told = said("check", county, "stdin", given=sheet)
+    assert [line for line in told if "splits" not in line] == [f"key x{n}: {near}" for n, (_, near) in enumerate(NEARBY) if near]
+    survey = b"key,asset,class,route,side,method,from,to,value,offset\nv1,99900,SPEED,B410,B,abs,0,100,50,0\n"
+    assert said("check", county, "stdin", "--survey", given=survey) == ["key v1: the nearest route is B4100"]
+    many = sheet_of(*(f"x{n},close,A39" for n in range(30)))
+    assert said("check", county, "stdin", given=many) == [f"key x{n}: the nearest route is A38" for n in range(20)]
 
 
 LIMIT = "e1,enter,10,SPEED,A1,B,abs,3000,9000,60,0"

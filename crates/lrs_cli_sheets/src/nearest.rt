@@ -9,14 +9,14 @@ use lrs_position::{RefName, Referent, RouteName};
 // Names that differ in more bytes, between what they have in common at their starts and at their ends, are not near.
 const MOST_APART: usize = 2;
 
-// How many bytes two names have in common at their starts, in upper or lower case.
+// How many bytes two names have in common at their starts.
 fn common_start(one: &[u8], other: &[u8]) -> usize
     ensures in_one { result ≤ length one.now }
     ensures in_other { result ≤ length other.now }
 {
     let shorter = one.len().min(other.len());
     for at in 0..shorter {
-        if !one[at].eq_ignore_ascii_case(&other[at]) {
+        if one[at] != other[at] {
             return at;
         }
     }
@@ -31,7 +31,7 @@ fn common_end(one: &[u8], other: &[u8]) -> usize
     let shorter = one.len().min(other.len());
     for back in 0..shorter {
         let (last, other_last) = (one.len() - 1 - back, other.len() - 1 - back);
-        if !one[last].eq_ignore_ascii_case(&other[other_last]) {
+        if one[last] != other[other_last] {
             return back;
         }
     }
