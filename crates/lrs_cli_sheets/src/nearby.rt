@@ -203,7 +203,7 @@ fn near_marks<'a>(inventory: &'a Inventory, command: &Command) -> Option<Nearby<
 }
 
 /// What an inventory has near to what a command names that it refuses for this cause, if there is something to say.
-pub(crate) fn nearby<'a>(
+pub(crate) fn near_to<'a>(
     inventory: &'a Inventory,
     command: &Command,
     cause: Cause,

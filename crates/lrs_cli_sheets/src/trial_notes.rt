@@ -2,7 +2,7 @@
 //! routes, and what the inventory has near to what a refused one names.
 
 use crate::cuts::tell_cut;
-use crate::nearby::nearby;
+use crate::nearby::near_to;
 use crate::places::places_of;
 use crate::progress::ProgressDisplay;
 use crate::trial::copy_desk;
@@ -116,7 +116,7 @@ fn tell_refusal<R: Runtime<A = Global>>(
     if untold.refusals == 0 {
         return untold;
     }
-    match nearby(inventory, command, cause) {
+    match near_to(inventory, command, cause) {
         Some(near) => {
             let _ = eprintln!(rt; "key {key}: {near}");
             Untold {
