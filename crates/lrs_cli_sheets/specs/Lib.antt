@@ -5,3 +5,4 @@ pub mod Audits
 pub mod Reports
 pub mod Tidyings
 pub mod Places
+pub mod Remains

@@ -43,7 +43,7 @@ fn tell_places<R: Runtime<A = Global>>(rt: &R, inventory: &Inventory, question: 
 
 fn tell_last_part<R: Runtime<A = Global>>(rt: &R, inventory: &Inventory, question: &Question) {
     if let Question::Find { asset } = question {
-        if let Some(last) = last_part(rt.alloc(), inventory, *asset) {
+        if let Some(last) = last_part(inventory, *asset) {
             let _ = eprintln!(rt; "{last}");
         }
     }

@@ -1,14 +1,11 @@
 //! What is left of an asset, and how the last of it was taken away.
 
-ghost use Rattle.std.specs.Prelude.{◌≡◌, ℕ, IfSome, IsTrue, [], Contains};
-ghost use Rattle.lrs_machine.specs.Image.{state_of};
-ghost use Rattle.lrs_report_answers.specs.AssetStretches.{all_rows_of};
+ghost use Rattle.std.specs.Prelude.{◌≡◌, IfSome, Contains};
+ghost use Rattle.lrs_cli_sheets.specs.Remains as spec;
 
-use lrs_events::Gone;
+use lrs_events::{Asset, Gone};
 use lrs_inventory::Inventory;
-use lrs_machine::Key;
-use lrs_report_answers::find;
-use std::alloc::Global;
+use lrs_machine::{Key, RouteRow};
 use std::fmt;
 
 /// The last part of an asset that was taken away, and the edit that did so: `asset 7: the last of it was retired by edit 9
@@ -33,14 +30,25 @@ impl fmt::Display for LastPart {
     }
 }
 
-// Whether a known asset holds nothing any more.
-fn is_gone(alloc: Global, inventory: &Inventory, asset: u64) -> bool
-    ensures { IsTrue result → all_rows_of (state_of inventory.now) asset ≡ [] }
+// Whether an asset has no row on a route.
+fn is_off(route_row: &RouteRow, asset: &Asset) -> bool
+    ensures { result ≡ spec.is_off asset.now route_row.now }
 {
-    match find(alloc, inventory, asset) {
-        Ok(found) => found.as_slice().is_empty(),
-        Err(_) => false,
-    }
+    route_row
+        .spans
+        .asset_rows(asset.class, asset.number)
+        .is_empty()
+}
+
+// Whether an asset holds nothing any more.
+fn is_gone(inventory: &Inventory, asset: &Asset) -> bool
+    ensures { result ≡ spec.is_gone asset.now inventory.now.routes }
+{
+    inventory
+        .kept()
+        .routes
+        .iter()
+        .all(|route_row| is_off(route_row, asset))
 }
 
 // The last entry of a ledger, which is in the order of edits, that is of an asset.
@@ -67,12 +75,13 @@ fn key_of(inventory: &Inventory, edit: u64) -> Option<Key> {
     }
 }
 
-/// The last part of an asset that was taken away, where it holds nothing any more.
-pub(crate) fn last_part(alloc: Global, inventory: &Inventory, asset: u64) -> Option<LastPart> {
-    if !is_gone(alloc, inventory, asset) {
+/// The last part of the asset of a number that was taken away, where it holds nothing any more.
+pub(crate) fn last_part(inventory: &Inventory, number: u64) -> Option<LastPart> {
+    let asset = inventory.asset(number)?;
+    if !is_gone(inventory, &asset) {
         return None;
     }
-    let gone = last_of(inventory.kept().gone.as_slice(), asset)?;
+    let gone = last_of(inventory.kept().gone.as_slice(), number)?;
     let key = key_of(inventory, gone.part.edit)?;
     Some(LastPart { gone, key })
 }
