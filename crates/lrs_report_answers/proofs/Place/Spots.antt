@@ -1,6 +1,6 @@
 -- The place of a spot is a chainage of a route of the image.
 use Rattle.std.proofs.Common.{◌≡◌, ℕ, ◌-◌, ◌/◌, ◌≤◌, min, Bool, true, false, cond, length, Option, Some, None, Result, Ok, Err, refl, sym, ap, subst, ◌∙◌, arith}
-use Rattle.std.specs.Prelude.{nat_eq, nat_lt}
+use Rattle.std.specs.Prelude.{MatchResult, nat_eq, nat_lt}
 use Rattle.std.specs.List.{find}
 use Rattle.std.specs.Option.{option_map, option_map_or, option_and_then, ok_or}
 use Rattle.std.proofs.lemmas.Bool.{ltb-false}
@@ -37,6 +37,15 @@ ok_is p q h = cc
 
 asked_ok : (p q : Spot) → ◌≡◌ {A = Result Spot AskFault} (Ok p) (Ok q) → p ≡ q
 asked_ok p q h = cc
+
+same_fault : (f g : PlaceFault) → ◌≡◌ {A = Result ℕ PlaceFault} (Err f) (Err g) → g ≡ f
+same_fault f g h = cc
+
+-- a position that locates nothing has no spot
+pub refused_spot : (e : RouteRow) (fault : PlaceFault) (r : Result (ℕ × ℕ) PlaceFault)
+    → MatchResult r (λ x. ◌≡◌ {A = Result ℕ PlaceFault} (Err fault) (Ok (cell (length e.route.course) x))) (λ g. ◌≡◌ {A = Result ℕ PlaceFault} (Err fault) (Err g)) → in_cell e r ≡ Err (asked.Place fault)
+refused_spot e fault (Ok x) h = absurd (cc h)
+refused_spot e fault (Err g) h = ap (λ (f : PlaceFault). Err (asked.Place f)) (same_fault fault g h)
 
 below : (k len : ℕ) → min k (len - 1) ≤ len
 below k len = omega arith

@@ -2,6 +2,7 @@
 
 ghost use Rattle.std.specs.Prelude.{◌≡◌, Ok, Err, length, nat_eq, IfOk, IfErr};
 ghost use Rattle.std.specs.List.{find};
+ghost use Rattle.lrs_machine.specs.declared.question.Place.TheVariants.{Position};
 ghost use Rattle.lrs_report_answers.specs.Place.Places.{place_along, place_of, place_on_link, spot_at, spot_on_route};
 
 use crate::fault::AskFault;
@@ -10,7 +11,18 @@ use crate::position::cell_of;
 use lrs_element::Link;
 use lrs_inventory::Inventory;
 use lrs_machine::{AskedPlace, Missing, Place, RouteRow};
-use lrs_position::RouteName;
+use lrs_position::{Expr, RouteName};
+
+/// The millimetre of a route that a position stands in.
+fn millimetre_at(row: &RouteRow, position: Expr) -> Result<u64, AskFault>
+    ensures ok { IfOk result (λ at. spot_at (Position position) row.now ≡ Ok (row.now, at)) }
+    ensures err { IfErr result (λ fault. spot_at (Position position) row.now ≡ Err fault) }
+{
+    match cell_of(row, position) {
+        Ok(at) => Ok(at),
+        Err(fault) => Err(AskFault::Place(fault)),
+    }
+}
 
 /// The chainage of a place of a route.
 fn chainage_at(row: &RouteRow, place: Place) -> Result<u64, AskFault>
@@ -24,10 +36,7 @@ fn chainage_at(row: &RouteRow, place: Place) -> Result<u64, AskFault>
             }
             Ok(chainage)
         }
-        Place::Position(position) => match cell_of(row, position) {
-            Ok(chainage) => Ok(chainage),
-            Err(fault) => Err(AskFault::Place(fault)),
-        },
+        Place::Position(position) => millimetre_at(row, position),
     }
 }
 
