@@ -9,7 +9,7 @@ import { linkToEdit } from "./edits.js";
 import { drawMarks, pointNear, seen, shownDiagram, unitsAt, chainageAt } from "./diagram.js";
 import { go, view } from "./view.js";
 
-const MOST_WAYS = 12;
+const MOST_REFERENTS = 4;
 let asks = 0;
 
 export const markAll = () => drawMarks([...view.asset, ...view.place]);
@@ -70,7 +70,7 @@ function waysOf({ at, link, mm, positions }, { name }) {
   const list = make("ul", "", { className: "ways" }), distance = ({ pos }) => Number(/\d+$/.exec(pos)[0]);
   const [measures, referents, others] = ["abs", "rel", "int"].map(method => positions.filter(position => position.method === method));
   referents.sort((a, b) => distance(a) - distance(b));
-  for (const { method, pos } of [...measures, ...referents.slice(0, MOST_WAYS), placeAt(at), ...others]) {
+  for (const { method, pos } of [...measures, ...referents.slice(0, MOST_REFERENTS), placeAt(at), ...others]) {
     const item = make("li", `${METHODS[method]}: `), canBeAsked = method !== "abs" || !pos.includes("/");
     item.append(canBeAsked ? linkTo(writeAddress({ route: name, place: { method, pos } }), pos) : `${pos} (${short(pos)})`);
     list.append(item);

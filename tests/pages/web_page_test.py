@@ -231,6 +231,12 @@ def test_a_stretch_is_asked_by_measure(page):
     page.chooses("#by", "int")
     page.types_stretch("1/4", "1/2")
     page.draws("A1", 2000, 4000)
+    # each is a step for Back and for Forward
+    by_referent, by_measure = ("#A1/rel:KM2+98..rel:KM2+1998", 100, 2000, "rel"), ("#A1/..abs:3000", 0, 2500, "abs")
+    for step, (fragment, start, end, method) in [("back", by_referent), ("back", by_measure), ("forward", by_referent)]:
+        browser.runs(f"history.{step}()")
+        page.draws("A1", start, end)
+        assert page.fragment() == fragment and page.fields("by") == [method]
     assert browser.complaints() == []
 
 

@@ -7,7 +7,7 @@ pub static PAGE: &str = r##"<!doctype html>
 <meta charset="utf-8">
 <meta name="viewport" content="width=device-width, initial-scale=1">
 <meta name="color-scheme" content="light dark">
-<meta http-equiv="Content-Security-Policy" content="default-src 'none'; style-src 'unsafe-inline'; script-src 'sha256-I8d1daoLDIYsLf8XfZYnVYxUtmg90j66EeiY3Z1xiCw='; img-src data:; connect-src 'self'; form-action 'none'; base-uri 'none'">
+<meta http-equiv="Content-Security-Policy" content="default-src 'none'; style-src 'unsafe-inline'; script-src 'sha256-0VqHJK9lrAOlI7fLGGwLwKpz9xopebsah86sp4g/1+o='; img-src data:; connect-src 'self'; form-action 'none'; base-uri 'none'">
 <title>Road inventory</title>
 <link rel="icon" href="data:,">
 <style>
@@ -24,7 +24,8 @@ input,select,button{font:inherit;padding:.25rem .5rem;border:1px solid var(--fie
 button:hover{background:var(--over);}:focus-visible{outline:3px solid var(--focus);outline-offset:1px;}header :focus-visible,#skip{outline-color:var(--on-head);}#skip{position:absolute;left:-100rem;}
 #skip:focus{left:.5rem;top:.5rem;z-index:2;}ul{list-style:none;margin:0;padding:0;}#results{max-height:15rem;overflow-y:auto;margin-bottom:.5rem;}li{padding:.1rem 0;}.note{font-size:.9rem;overflow-wrap:anywhere;}.note:empty{display:none;}
 .bad{padding:.3rem .5rem;border:2px solid currentColor;background:var(--bad-ground);color:var(--bad);}.short{width:9rem;}[aria-invalid=true]{border:2px solid var(--bad);}
-.table,.long{overflow:auto;max-height:24rem;border:1px solid var(--line);}.table{width:fit-content;max-width:100%;}.table:empty{border:0;}.long{scroll-padding:2.5rem 0 .5rem;}table{border-collapse:collapse;font-size:.95rem;}
+.table,.long{overflow:auto;max-height:24rem;border:1px solid var(--line);}.table{width:fit-content;max-width:100%;}.table:empty{border:0;}
+.pair{display:flex;flex-wrap:wrap;gap:0 2rem;align-items:start;}.pair > *{min-width:0;}#ways h3{margin:0;}.long{scroll-padding:2.5rem 0 .5rem;}table{border-collapse:collapse;font-size:.95rem;}
 th,td{padding:.2rem .6rem;border:1px solid var(--line);text-align:left;font-weight:inherit;}thead th{position:sticky;top:0;z-index:1;background:var(--press);font-weight:bold;}
 .record th{text-transform:capitalize;vertical-align:top;}.record td{overflow-wrap:anywhere;}td.number{text-align:right;font-variant-numeric:tabular-nums;}.long table{width:100%;white-space:nowrap;}.long tbody tr{height:2rem;}
 .long tbody tr:hover{background:var(--press);}#routes tbody tr{cursor:pointer;}.name{width:9rem;}.length{width:8rem;}td.bar{padding:0 .6rem 0 0;width:70%;}.track{position:relative;height:2rem;overflow:hidden;}
@@ -107,8 +108,7 @@ fieldset{max-height:none;overflow:visible;border:0;padding:0;}.swatch,.track svg
 <option value="int">proportion, as 1/3</option><option value="chainage">chainage in metres</option></select></label>
 <label>Position <input id="pos" class="short" autocomplete="off"></label> <button>Ask</button></form>
 <p id="at-said" class="note" role="status"></p>
-<div id="hits" class="table"></div>
-<div id="ways"></div>
+<div class="pair"><div id="hits" class="table"></div><div id="ways"></div></div>
 </section>
 <section id="listed" aria-labelledby="rows-title" hidden><h2 id="rows-title">Rows of this stretch</h2>
 <form id="row-filtering"><label>Words in a row <input id="row-filter" type="search" autocomplete="off"></label> <a id="csv" href="#">Save as CSV</a></form>
@@ -405,7 +405,7 @@ const made = rowOf([row.class, row.value, SIDES[row.side], short(row.from_measur
 for (const at of [3, 4, 5, 6, 7, 9]) made.cells[at].className = "number";return made;}
 function saveRows() {const lines = chosen.map(row => SAVED.map(name => row[`${name}_decimal`] ?? row[name]).join(","));$("csv").download = `${view.route.name}.csv`;offer($("csv"), [[SAVED.join(","), ...lines, ""].join("\n")], "text/csv");}
 whenSwitched.push(() => table && listRows());
-const MOST_WAYS = 12;let asks = 0;const markAll = () => drawMarks([...view.asset, ...view.place]);function clearPlace() {asks++;view.place = [];
+const MOST_REFERENTS = 4;let asks = 0;const markAll = () => drawMarks([...view.asset, ...view.place]);function clearPlace() {asks++;view.place = [];
 leaving(["hits", "ways"], "at-title", () => ($("hits").replaceChildren(), $("ways").replaceChildren()));tellPlace("");}
 function tellPlace(text, isBad = false) {say("at-said", text, isBad);blame($("pos"), isBad, "at-said");}
 async function askPlace(place) {clearPlace();const mine = asks, { route } = view;tellPlace("The position is being asked.");try {const found = await whatLies(route, place);if (mine === asks) showPlace(found, place);} catch (error) {
@@ -421,7 +421,7 @@ function hitRow(hit, found) {const link = linkTo(writeAddress({ ...view.address,
 return rowOf([link, hit.class, hit.value, SIDES[hit.side] || hit.side, hit.offset, linkToEdit(hit.entry), found.link, found.mm]);}
 function waysOf({ at, link, mm, positions }, { name }) {const list = make("ul", "", { className: "ways" }), distance = ({ pos }) => Number(/\d+$/.exec(pos)[0]);
 const [measures, referents, others] = ["abs", "rel", "int"].map(method => positions.filter(position => position.method === method));referents.sort((a, b) => distance(a) - distance(b));
-for (const { method, pos } of [...measures, ...referents.slice(0, MOST_WAYS), placeAt(at), ...others]) {const item = make("li", `${METHODS[method]}: `), canBeAsked = method !== "abs" || !pos.includes("/");
+for (const { method, pos } of [...measures, ...referents.slice(0, MOST_REFERENTS), placeAt(at), ...others]) {const item = make("li", `${METHODS[method]}: `), canBeAsked = method !== "abs" || !pos.includes("/");
 item.append(canBeAsked ? linkTo(writeAddress({ route: name, place: { method, pos } }), pos) : `${pos} (${short(pos)})`);list.append(item);}
 list.append(make("li", `on link ${link}: ${mm} mm`));return list;}
 function askTyped() {const place = said($("pos"), $("method").value);return place ? go({ ...view.address, place }) : tellPlace("Type a position.", true);}
