@@ -41,10 +41,10 @@ export function leaveRoute() {
 
 // What is drawn for an address: of a stretch that cannot be found the whole route, and why. The rows are asked for meanwhile.
 async function drawingOf({ route: name, stretch }) {
-  const route = await known(`v1/route/${name}`);
+  const route = await known(`v1/route/${name}`), picture = pictureFor(route, stretch);
   rowsOf({ route, from: 0, to: route.length }).catch(() => {});
   try {
-    return { route, ...(await pictureFor(route, stretch)) };
+    return { route, ...(await picture) };
   } catch (refusal) {
     if (!refusal.end) throw refusal;
     return { route, ...(await pictureFor(route)), refusal };

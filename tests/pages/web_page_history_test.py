@@ -127,7 +127,7 @@ def test_the_rows_of_a_route_lead_to_histories(later):
     assert record(later, "#entered")["edit"] == "168"
     browser.shows("#past-said", "entered, 0 taken away since.")
     browser.runs("history.back()")
-    browser.shows("#rows-said", "4 of 4 rows")
+    browser.waits_for("the rows", lambda browser: not browser.runs("return document.getElementById('listed').hidden"))
     browser.clicks('#rows a[href="#edit/163"]')
     browser.shows("#record", "STEEL")
     later.goes_to("#A1/chainage:3.000")

@@ -7,7 +7,7 @@ pub static PAGE: &str = r##"<!doctype html>
 <meta charset="utf-8">
 <meta name="viewport" content="width=device-width, initial-scale=1">
 <meta name="color-scheme" content="light dark">
-<meta http-equiv="Content-Security-Policy" content="default-src 'none'; style-src 'unsafe-inline'; script-src 'sha256-0VqHJK9lrAOlI7fLGGwLwKpz9xopebsah86sp4g/1+o='; img-src data:; connect-src 'self'; form-action 'none'; base-uri 'none'">
+<meta http-equiv="Content-Security-Policy" content="default-src 'none'; style-src 'unsafe-inline'; script-src 'sha256-Px5TZw+KMwjP7slUGQAa9MmD/K4JD3NLHhdtCq6lOnA='; img-src data:; connect-src 'self'; form-action 'none'; base-uri 'none'">
 <title>Road inventory</title>
 <link rel="icon" href="data:,">
 <style>
@@ -435,8 +435,8 @@ $("route-title").textContent = document.title = `Route ${address.route}`;say("ro
 const drawing = await drawingOf(address);if (mine === shown) putRoute(address, drawing, isNew);} catch (error) {if (mine !== shown) return;leaving(PARTS, "route-title", leaveRoute);say("route-said", error.message, true);}
 }
 function leaveRoute() {shown++;Object.assign(view, { route: null, address: {}, asset: [] });clearPlace();$("pos").value = "";for (const id of PARTS) $(id).hidden = true;}
-async function drawingOf({ route: name, stretch }) {const route = await known(`v1/route/${name}`);rowsOf({ route, from: 0, to: route.length }).catch(() => {});try {return { route, ...(await pictureFor(route, stretch)) };} catch (refusal) {
-if (!refusal.end) throw refusal;return { route, ...(await pictureFor(route)), refusal };}
+async function drawingOf({ route: name, stretch }) {const route = await known(`v1/route/${name}`), picture = pictureFor(route, stretch);rowsOf({ route, from: 0, to: route.length }).catch(() => {});try {return { route, ...(await picture) };
+} catch (refusal) {if (!refusal.end) throw refusal;return { route, ...(await pictureFor(route)), refusal };}
 }
 async function pictureFor(route, stretch = {}) {const ends = Object.keys(ENDS).filter(end => stretch[end]);try {
 const pairs = ends.map(end => [end, textOfPlace(stretch[end], route, end)]), text = await known("v1/diagram", [["route", route.name], ...pairs], get);const [, from, to] = DRAWN.exec(text) || [];
