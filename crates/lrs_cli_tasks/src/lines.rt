@@ -4,10 +4,11 @@ ghost use Rattle.std.specs.Prelude.{◌≡◌, OnOk};
 ghost use Rattle.std.specs.List.{flat_map};
 ghost use Rattle.std.specs.Io.KnownBytes.{Appends};
 ghost use Rattle.lrs_machine.specs.Lines.{method_text};
+ghost use Rattle.lrs_report_lists.specs.Lists.{rows_text};
 ghost use Rattle.lrs_cli_tasks.specs.Lines.{at_text, expression_line, found_text, hit_text, link_position_text, listing_text, place_text, position_line, row_text, told_text, total_text, totals_text, whereabouts_text};
 
 use lrs_desk::Inventory;
-use lrs_machine::{Hit, Listing, Total};
+use lrs_machine::{Hit, Listing, RowsWanted, Total};
 use lrs_measure::Frac;
 use lrs_position::{Expr, RouteName};
 use lrs_report::{strip_of, write_diagram};
@@ -205,6 +206,18 @@ fn write_listing<W: Write>(
     }
 }
 
+/// Writes the rows of an inventory that are wanted, as CSV.
+fn write_wanted<W: Write>(
+    writer: &mut W,
+    inventory: &Inventory,
+    wanted: &RowsWanted,
+) -> io::Result<()>
+    ensures { OnOk result (Appends (W.contents writer.old) (W.contents writer.new)
+        (rows_text wanted.now inventory.now)) }
+{
+    write_rows(writer, inventory.kept(), wanted)
+}
+
 /// Writes what is told to a question, in lines; lists as CSV, a route as an edit sheet, and a diagram as an SVG picture. It
 /// takes no memory beyond the writer's, and does not flush the writer.
 ///
@@ -231,7 +244,7 @@ pub(crate) fn write_told<W: Write>(writer: &mut W, told: Told<'_>) -> io::Result
         Told::Found(rows) => write_found(writer, rows.as_slice()),
         Told::Where(found) => write_whereabouts(writer, &found),
         Told::Lengths(rows) => write_lengths(writer, rows.as_slice()),
-        Told::Rows { wanted, inventory } => write_rows(writer, inventory.kept(), &wanted),
+        Told::Rows { wanted, inventory } => write_wanted(writer, inventory, &wanted),
         Told::Listing { listing, inventory } => write_listing(writer, inventory, &listing),
         Told::Health(edits) => write_health(writer, edits),
     }

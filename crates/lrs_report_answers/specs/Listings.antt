@@ -29,13 +29,17 @@ missing_route i route = if lacks (has_route i) route then Some missing.Route els
 abbrev pub missing_gone : Image → GoneWanted → Option Missing
 missing_gone i wanted = if lacks (has_edit i) wanted.edit then Some missing.Edit else if lacks (has_class i) wanted.class then Some missing.Class else None
 
+-- the asset, where it is not there
+abbrev pub missing_asset : Image → ℕ → Option Missing
+missing_asset i asset = if has_asset i asset then None else Some missing.Asset
+
 -- the first of the things that a listing names, and the inventory does not have
 abbrev pub missing_of : Image → Listing → Option Missing
 missing_of i (listing.Refs route exact) = missing_route i route
 missing_of i (listing.Marks route) = missing_route i route
 missing_of i (listing.Pieces route) = missing_route i route
 missing_of i (listing.Gone wanted) = missing_gone i wanted
-missing_of i (listing.History asset) = if has_asset i asset then None else Some missing.Asset
+missing_of i (listing.History asset) = missing_asset i asset
 missing_of i (listing.LogOfKey key) = if has_key i key then None else Some missing.Key
 missing_of i _ = None
 

@@ -55,9 +55,7 @@ impl fmt::Display for AskCause {
             AskCause::NoRef => f.write_str("NoRef"),
             AskCause::TooFine => f.write_str("TooFine"),
             AskCause::OffRoute => f.write_str("OffRoute"),
-            AskCause::End(end, fault) => {
-                write!(f, "{}:{}", place_text(fault), end_text(end))
-            }
+            AskCause::End(end, fault) => { write!(f, "{}:{}", place_text(fault), end_text(end)) }
             AskCause::NoClass(class) => write!(f, "NoClass:{class}"),
             AskCause::NotExclusive(class) => write!(f, "NotExclusive:{class}"),
             AskCause::SideB => f.write_str("SideB"),

@@ -4,9 +4,7 @@ ghost use Rattle.std.specs.Prelude.{◌≡◌, Err, None, Some};
 ghost use Rattle.lrs_image.specs.OpenLists.{image_of};
 ghost use Rattle.lrs_machine.specs.Image.{state_of};
 ghost use Rattle.lrs_machine.specs.Sound.{IsSound};
-ghost use Rattle.lrs_machine.specs.declared.absence.Missing.TheVariants as missing;
 ghost use Rattle.lrs_report_answers.specs.Stretches.{OnStretch};
-ghost use Rattle.lrs_report_lists.specs.Absence.{has_asset};
 ghost use Rattle.lrs_report_answers.specs.declared.told.Told.TheVariants as told;
 ghost use Rattle.lrs_report_answers.specs.Answers.{IsAt};
 ghost use Rattle.lrs_report_answers.specs.AssetStretches.{IsFound};
@@ -20,12 +18,12 @@ ghost use Rattle.lrs_report_answers.specs.ToldAnswers.{AreRows, AreTotals, IsNam
 
 use crate::tallies::Counts;
 use crate::{
-    AskFault, End, Told, at, diagram, end_of, find, length_of, named_route, segments, to_link, translate,
-    whereabouts,
+    AskFault, End, Told, at, diagram, end_of, find, length_of, named_route, segments, to_link,
+    translate, whereabouts,
 };
 use lrs_events::{ClassName, Side};
-use lrs_inventory::Inventory;
 use lrs_image::ImageLists;
+use lrs_inventory::Inventory;
 use lrs_machine::{
     AskedPlace, Destination, GoneWanted, Key, Listing, Missing, Place, Question, RowsAsked,
     RowsWanted,
@@ -253,7 +251,7 @@ fn missing_gone(kept: &ImageLists, wanted: &GoneWanted) -> Option<Missing>
 
 fn missing_asset(kept: &ImageLists, asset: u64) -> Option<Missing>
     requires sound { IsSound (image_of kept.now) }
-    ensures { result ≡ (if has_asset (image_of kept.now) asset then None else Some missing.Asset) }
+    ensures { result ≡ spec.missing_asset (image_of kept.now) asset }
 {
     if lacks_asset(kept, Some(asset)) {
         return Some(Missing::Asset);
@@ -313,10 +311,7 @@ fn wanted_of(asked: &RowsAsked, from: Option<u64>, to: Option<u64>) -> RowsWante
     }
 }
 
-fn tell_rows_between<'a>(
-    inventory: &'a Inventory,
-    asked: &RowsAsked,
-) -> Result<Told<'a>, AskFault>
+fn tell_rows_between<'a>(inventory: &'a Inventory, asked: &RowsAsked) -> Result<Told<'a>, AskFault>
     ensures answer { OnStretch inventory.now asked.now.route asked.now.from asked.now.to
         (λ first last. Tells (IsInventory inventory.now)
         (told.Rows (spec.wanted_of asked.now first last))) result }

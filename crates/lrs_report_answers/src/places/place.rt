@@ -24,7 +24,10 @@ fn chainage_at(row: &RouteRow, place: Place) -> Result<u64, AskFault>
             }
             Ok(chainage)
         }
-        Place::Position(position) => Ok(cell_of(row, position)?),
+        Place::Position(position) => match cell_of(row, position) {
+            Ok(chainage) => Ok(chainage),
+            Err(fault) => Err(AskFault::Place(fault)),
+        },
     }
 }
 

@@ -1,5 +1,7 @@
-"""On a terminal it is said how chainages are understood: in metres, with the measures there. Where measures were meant most likely,
-a hint says at which chainages these are. Elsewhere nothing is said of it, and the answer is the same everywhere."""
+"""On a terminal it is said how places are understood: in metres, with the measures there. Where measures were meant most likely,
+a hint says how they are written, or in a sheet at which chainages they are. Of an asset of which nothing is left it is said what
+took the last of it, and of a record that is refused what is near to what it names. Elsewhere nothing is said of it, and the answer
+is the same everywhere."""
 
 import pytest
 from program import FIRST, HEADER, TOP, on_terminal, record, run, sheet_of
@@ -41,33 +43,45 @@ QUESTIONS = [
     (
         "rows DB --route A38 --from 14000 --to 16000",
         "A38 from 14.000 m (measure 12013.972) to 16.000 m (measure 12015.968)",
-        "hint: 14000 and 16000 are chainages in millimetres; measures 14000 and 16000 are at chainages 2000000 and 4000167",
+        "hint: 14000 and 16000 are chainages in millimetres; for measures write abs:14000 and abs:16000",
     ),
     (
         "diagram DB A38 --from 14000 --to 16000",
         "A38 from 14.000 m (measure 12013.972) to 16.000 m (measure 12015.968)",
-        "hint: 14000 and 16000 are chainages in millimetres; measures 14000 and 16000 are at chainages 2000000 and 4000167",
+        "hint: 14000 and 16000 are chainages in millimetres; for measures write abs:14000 and abs:16000",
     ),
     (
         "where DB A38 14000",
         "A38 at 14.000 m (measure 12013.972)",
-        "hint: 14000 is a chainage in millimetres; measure 14000 is at chainage 2000000",
+        "hint: 14000 is a chainage in millimetres; for a measure write abs:14000",
     ),
     (
         "where DB A38 19800",
         "A38 at 19.800 m (measure 12019.760)",
-        "hint: 19800 is a chainage in millimetres; measure 19800 is at chainage 7800000",
+        "hint: 19800 is a chainage in millimetres; for a measure write abs:19800",
     ),
     (
         "rows DB --route B4100 --to 2000",
         "B4100 to 2.000 m (measure 1.998)",
-        "hint: 2000 is a chainage in millimetres; measure 2000 is at chainage 2000000",
+        "hint: 2000 is a chainage in millimetres; for a measure write abs:2000",
     ),
     # what lies where no measure has its number, and a stretch that is as long as that between measures
     ("where DB A38 2000000", "A38 at 2000.000 m (measure 14000)"),
     ("rows DB --route A38 --from 4200000", "A38 from 4200.000 m (measure 16200)"),
     ("diagram DB A38 --to 1002000", "A38 to 1002.000 m (measure 13000)"),
     ("rows DB --route A38 --from 13000 --to 2000000", "A38 from 13.000 m (measure 12012.974) to 2000.000 m (measure 14000)"),
+    # a position is where it is: an end at the nearest millimetre, and a place in the one in which it stands
+    ("rows DB --route A38 --from abs:14000 --to abs:16000", "A38 from 2000.000 m (measure 14000) to 4000.167 m (measure 16000)"),
+    ("diagram DB A38 --to rel:KM16+0", "A38 to 4000.166 m (measure 15999.999)"),
+    ("where DB A38 abs:16000", "A38 at 4000.166 m (measure 16000)"),
+    ("where DB A38 int:1/2", "A38 at 3900.000 m (measure 15899.750)"),
+    ("rows DB --route A38 --from abs:24001/2", "A38 from 0.501 m (measure 12000.500)"),
+    # a hint is of the chainage alone
+    (
+        "rows DB --route A38 --from abs:14000 --to 16000",
+        "A38 from 2000.000 m (measure 14000) to 16.000 m (measure 12015.968)",
+        "hint: 16000 is a chainage in millimetres; for a measure write abs:16000",
+    ),
     # behind the end of the route there is no measure
     ("rows DB --route A38 --from 7800000 --to 9000000", "A38 from 7800.000 m (measure 19800) to 9000.000 m"),
     ("where DB A38 7800001", "A38 at 7800.001 m"),
@@ -75,7 +89,7 @@ QUESTIONS = [
 
 
 @pytest.mark.parametrize("words, lines", [(words, lines) for words, *lines in QUESTIONS])
-def test_a_terminal_is_told_what_the_chainages_of_a_question_name(county, words, lines):
+def test_a_terminal_is_told_what_the_places_of_a_question_name(county, words, lines):
     assert said(*words.replace("DB", str(county)).split()) == lines
 
 
@@ -85,18 +99,23 @@ def test_a_terminal_is_told_what_the_chainages_of_a_question_name(county, words,
         "rows DB --route A38",
         "rows DB --from 14000 --to 16000",
         "rows DB --route NONE --from 1",
+        "rows DB --route NONE --from abs:14000",
+        "rows DB --from abs:14000",
+        "rows DB --route A38 --from abs:14000 --to abs:20000",
+        "diagram DB A38 --from rel:NONE+5",
+        "where DB A38 int:3/2",
         "diagram DB A38",
         "where DB link 1 14000",
         "at DB A38 abs 14000",
         "totals DB",
     ],
 )
-def test_nothing_is_told_where_no_chainage_of_a_route_is_named(county, words):
+def test_nothing_is_told_where_no_place_of_a_route_is_named(county, words):
     assert said(*words.replace("DB", str(county)).split()) == []
 
 
 def test_a_half_of_a_thousandth_goes_up(small):
-    hint = "hint: 1 is a chainage in millimetres; measure 1 is at chainage 2000"
+    hint = "hint: 1 is a chainage in millimetres; for a measure write abs:1"
     assert said("where", small, "H1", "1") == ["H1 at 0.001 m (measure 0.001)", hint]
     assert said("where", small, "H1", "3") == ["H1 at 0.003 m (measure 0.002)"]
     assert said("where", small, "H1", "2000") == ["H1 at 2.000 m (measure 1)"]
@@ -126,6 +145,8 @@ def test_a_check_hints_at_measures_that_were_meant(county):
     assert said("check", county, "stdin", given=sheet) == [
         "key x1: splits A38 at 16.200 m (measure 12016.168)",
         "hint: 16200 is a chainage in millimetres; measure 16200 is at chainage 4200000",
+        "key x1: A38 has marks at 0 and 1002000, and none between",
+        "key x3: the nearest route is A38",
     ]
 
 
@@ -160,3 +181,47 @@ def test_a_check_tells_nothing_of_cuts_where_there_are_none(county):
     assert all(line.startswith("explain: ") for line in of_no_header), of_no_header
     survey = b"key,asset,class,route,side,method,from,to,value,offset\nv1,900,SPEED,A38,B,abs,12000,13000,50,0\n"
     assert said("check", county, "stdin", "--survey", given=survey) == []
+
+
+NEARBY = [
+    ("enter,99900,SPED,A38,B,abs,12000,13000,50,0", "the nearest class is SPEED"),
+    ("enter,99900,SPEED,A83,B,abs,12000,13000,50,0", "the nearest route is A38"),
+    ("enter,99900,SPEED,A38,B,abs,12000,98000,50,0", "A38 has measures 12000 to 19800, and is 7800.000 m long"),
+    ("ref,P9,A38,rel,KM130+0", "the nearest referent is KM13"),
+    ("recalibrate,A38,0:0 7000000:7000", "A38 has measures 12000 to 19800, and is 7800.000 m long"),
+    ("unref,KM130", "the nearest referent is KM13"),
+    ("close,ZZZZ", None),
+    ("join,A38,B410", "the nearest route is B4100"),
+    ("split,A38,4000000,A439", "A38 has marks at 3001000 and 4200000, and none between"),
+]
+
+
+def test_a_check_tells_what_is_near_to_what_is_refused(county):
+    sheet = sheet_of(*(f"x{n},{text}" for n, (text, _) in enumerate(NEARBY)))
+    told = said("check", county, "stdin", given=sheet)
+    assert [line for line in told if "splits" not in line] == [f"key x{n}: {near}" for n, (_, near) in enumerate(NEARBY) if near]
+    survey = b"key,asset,class,route,side,method,from,to,value,offset\nv1,99900,SPEED,B410,B,abs,0,100,50,0\n"
+    assert said("check", county, "stdin", "--survey", given=survey) == ["key v1: the nearest route is B4100"]
+    many = sheet_of(*(f"x{n},close,A39" for n in range(30)))
+    assert said("check", county, "stdin", given=many) == [f"key x{n}: the nearest route is A38" for n in range(20)]
+
+
+LIMIT = "e1,enter,10,SPEED,A1,B,abs,3000,9000,60,0"
+
+LAST = {
+    "retired": ([LIMIT, "e2,retire,10,A1,abs,0,9000"], "asset 10: the last of it was retired by edit 9 (key e2)"),
+    "abandoned": ([LIMIT, "c1,close,A1"], "asset 10: the last of it was abandoned by edit 9 (key c1)"),
+    "by_parts": ([LIMIT, "e2,retire,10,A1,abs,5000,9000", "e3,retire,10,A1,abs,0,5000"], "asset 10: the last of it was retired by edit 10 (key e3)"),
+    "a_part_of_it": ([LIMIT, "e2,retire,10,A1,abs,5000,9000"], None),
+    "none_of_it": ([LIMIT], None),
+    "of_none": ([], None),
+}
+
+
+@pytest.mark.parametrize("name", LAST)
+def test_find_tells_what_took_the_last_of_an_asset(tmp_path, name):
+    texts, told = LAST[name]
+    db = tmp_path / "roads.db"
+    ended = run("edit", db, "stdin", given=FIRST + b"".join(map(record, texts)))
+    assert ended.status == 0, ended
+    assert said("find", db, "10") == ([told] if told else [])
