@@ -34,18 +34,14 @@ pub fn unknown_in<'q>(
             unknown_name(alloc, argument, &known)
         }
         Resource::Refs => unknown_name(alloc, argument, &["route", "exact"]),
-        Resource::Marks | Resource::Pieces | Resource::Lengths => unknown_name(
-            alloc,
-            argument,
-            &["route"],
-        ),
+        Resource::Marks | Resource::Pieces | Resource::Lengths => {
+            unknown_name(alloc, argument, &["route"])
+        }
         Resource::Gone => unknown_name(alloc, argument, &["edit", "since", "until", "class"]),
         Resource::Log => unknown_name(alloc, argument, &["from", "until"]),
-        Resource::Routes | Resource::Links | Resource::Classes => unknown_name(
-            alloc,
-            argument,
-            &[],
-        ),
+        Resource::Routes | Resource::Links | Resource::Classes => {
+            unknown_name(alloc, argument, &[])
+        }
         Resource::At
         | Resource::Route
         | Resource::Segments
