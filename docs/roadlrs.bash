@@ -23,6 +23,7 @@ declare -gA _roadlrs_words=(
     [list]="db listed"
     [rows]="db"
     [gone]="db"
+    [history]="db none"
     [log]="db none"
     [audit]="db"
 )
@@ -42,10 +43,11 @@ declare -gA _roadlrs_options=(
     [check]="--survey"
     [tidy]="--survey"
     [lengths]="--route= --text"
-    [list]="--text"
-    [rows]="--route= --from= --to= --class= --asset= --text"
-    [gone]="--edit= --text"
-    [log]="--key= --text --sum"
+    [list]="--route= --exact --text"
+    [rows]="--route= --from= --to= --class= --asset= --exact --on-links --text"
+    [gone]="--edit= --class= --since= --until= --text"
+    [history]="--text"
+    [log]="--until= --key= --text --sum"
 )
 
 _roadlrs_reply() { mapfile -t COMPREPLY < <(compgen "$@"); }
@@ -73,7 +75,7 @@ _roadlrs_word() {
             [[ rel: != "$cur"* || -z $cur ]] || compopt -o nospace 2>/dev/null
             _roadlrs_reply -W 'abs int rel: link' -- "$cur" ;;
         side) _roadlrs_reply -W 'L R' -- "$cur" ;;
-        listed) _roadlrs_reply -W 'routes links classes refs marks' -- "$cur" ;;
+        listed) _roadlrs_reply -W 'routes links classes refs marks pieces' -- "$cur" ;;
         place) _roadlrs_reply -W 'link' -- "$cur" ;;
         command) _roadlrs_reply -W "${!_roadlrs_words[*]}" -- "$cur" ;;
         topic) _roadlrs_reply -W "${!_roadlrs_words[*]} $_roadlrs_verbs" -- "$cur" ;;

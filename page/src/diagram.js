@@ -4,7 +4,7 @@ import { $, drawn } from "./parts.js";
 import { pictureOf } from "./picture.js";
 import { shadeOf } from "./shades.js";
 
-const NEAR = 60, MOST_UNDER = 12, MOST_SINGLE = 1000, WIDE_COUNT = 250;
+const NEAR = 60, MOST_UNDER = 12, MOST_SINGLE = 1000, WIDE_COUNT = 250, LEAST_PARTED = 60;
 // A row, and what tells its line, as the program writes them.
 const ROW = /^<path d='(M(\d+) -?\d+(?:h(\d+)|v\d+))'><title>(\d+): ([\w.-]+)<\/title><\/path>$/;
 const CLASS = /^<g data-class='(?<class>\w+)' data-kind='(?<kind>\w+)'>$/, SIDE = /^<text x='40' y='\d+'>\w+ (?<side>[LR])<\/text>$/;
@@ -45,11 +45,18 @@ function shaded(text) {
 
 // The shapes of a line of rows. Many are drawn as one for each shade, since a browser is slow with many.
 function shapesOf(run, isMany) {
-  const isPoints = run[0]?.kind === "point", joined = new Map();
+  const isPoints = run[0]?.kind === "point", joined = new Map(), besides = isPoints ? countsOf(run) : cutsOf(run);
   const looks = run.map(({ class: name, value, side }) => (isPoints ? `data-side='${side}'` : `class='${shadeOf(name, value)}'`));
-  if (!isMany) return run.map(({ d, asset, value }, at) => `<path ${looks[at]} d='${d}'><title>${asset}: ${value}<\/title><\/path>`).concat(isPoints ? countsOf(run) : []);
+  if (!isMany) return run.map(({ d, asset, value }, at) => `<path ${looks[at]} d='${d}'><title>${asset}: ${value}<\/title><\/path>`).concat(besides);
   run.forEach(({ d }, at) => (joined.get(looks[at]) || joined.set(looks[at], new Set()).get(looks[at])).add(d));
-  return [...joined].map(([look, parts]) => `<path ${look} d='${[...parts].join("")}'/>`).concat(isPoints ? countsOf(run) : []);
+  return [...joined].map(([look, parts]) => `<path ${look} d='${[...parts].join("")}'/>`).concat(besides);
+}
+
+// A line parts neighbours of different values, where there is room for it: their shades may be much the same.
+function cutsOf(rows) {
+  const isWide = ({ x, end }) => end - x >= LEAST_PARTED;
+  const cuts = rows.filter((row, at) => at && rows[at - 1].end === row.x && rows[at - 1].value !== row.value && isWide(row) && isWide(rows[at - 1]));
+  return cuts.length ? [`<path data-cut='${cuts.length}' d='${cuts.map(({ x }) => `M${x} -65v130`).join("")}'/>`] : [];
 }
 
 // Points on one place of the picture show how many they are, where there is room to say it.

@@ -5,17 +5,17 @@ import { askHealth } from "./health.js";
 import { known } from "./requests.js";
 import { counted, metres, short } from "./numbers.js";
 import { writeAddress } from "./addresses.js";
-import { findEdit, linkToAsset, linkToEdit, recordAt, recordTable, routeNames } from "./edits.js";
+import { linkToAsset, linkToEdit, recordAt, recordTable, routeNames } from "./edits.js";
 import { LongTable, headsOf } from "./sight.js";
 import { aroundAsset } from "./view.js";
 
 const PART = ["Link", "From, mm", "To, mm", "Side of the link"];
 const PLACES = ["Route", "Side", "From measure", "To measure", "From, m", "To, m", "Offset, mm"];
-let taken, lost, turn = 0;
+let taken, past, turn = 0;
 
 const partOf = ({ link, from, to, side }) => [link, from, to, SIDES[side]];
 const takenRow = part => rowOf([part.reason, linkToAsset(part.asset), part.class, part.value, ...partOf(part)]);
-const lostRow = part => rowOf([part.reason, linkToEdit(part.edit), ...partOf(part)]);
+const pastRow = part => rowOf([part.event, linkToEdit(part.edit), part.key, part.verb, ...partOf(part)]);
 
 // Takes away what was shown, and answers what shows the next: unless something else was asked meanwhile.
 function clear(parts, tables) {
@@ -50,14 +50,15 @@ function showRecord(edit, edits, record, names) {
 }
 
 export async function showAsset({ asset }) {
-  lost ||= new LongTable($("lost"), headsOf(["Why", "By edit", ...PART]), lostRow);
-  const shows = clear(["lies", "entered"], [lost]);
+  past ||= new LongTable($("past"), headsOf(["What", "Edit", "Key", "Verb", ...PART]), pastRow);
+  const shows = clear(["lies", "entered"], [past]);
   $("asset-title").textContent = document.title = `Asset ${asset}`;
-  const edits = await askHealth(), rows = known("v1/rows", [["asset", asset]]);
+  await askHealth();
+  const rows = known("v1/rows", [["asset", asset]]), events = known("v1/history", [["asset", asset]]);
   return Promise.all([
     shows("asset", Promise.all([rows, known("v1/routes")]), ([found, { routes }]) => showPlaces(found.rows, new Map(routes.map(route => [route.name, route.length])))),
-    shows("entered", Promise.all([rows.then(found => entryOf(asset, found.rows, edits)), routeNames()]), ([found, names]) => showEntry(found, names)),
-    shows("lost", rows.then(() => known("v1/gone")), ({ gone }) => showLost(asset, gone)),
+    shows("entered", Promise.all([events.then(found => entryOf(found.history)), routeNames()]), ([found, names]) => showEntry(found, names)),
+    shows("past", events, found => showPast(found.history)),
   ]);
 }
 
@@ -74,19 +75,17 @@ function heldRow({ route, from, to, from_measure: start, to_measure: end, side, 
   return row;
 }
 
-// Of an asset that lies nowhere today only the log knows which edit entered it.
-async function entryOf(asset, rows, edits = 0) {
-  if (rows.length) return { edit: rows[0].entry, record: await recordAt(rows[0].entry) };
-  return findEdit(edits, (_, verb, first) => first === asset && /^(enter|supersede)$/.test(verb));
+async function entryOf([first]) {
+  return { edit: first.edit, record: await recordAt(first.edit) };
 }
 
-function showEntry({ edit, record, within }, names) {
-  say("entered-said", edit ? "" : `No edit entered it${within}.`);
-  if (edit) $("entered").replaceChildren(recordTable(record, names, edit));
+function showEntry({ edit, record }, names) {
+  say("entered-said", "");
+  $("entered").replaceChildren(recordTable(record, names, edit));
 }
 
-function showLost(asset, gone) {
-  const parts = gone.filter(part => String(part.asset) === asset);
-  lost.show(parts);
-  say("lost-said", `${counted(parts.length, "part")}. In all ${counted(gone.length, "part is", "parts are")} gone.`);
+function showPast(parts) {
+  const gone = parts.filter(part => part.event !== "entered").length;
+  past.show(parts);
+  say("past-said", `${counted(parts.length - gone, "part")} entered, ${gone} taken away since.`);
 }

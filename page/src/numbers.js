@@ -8,11 +8,17 @@ export function millimetres(text) {
   return parts && Number(parts[1]) * 1000 + Number((parts[2] || "").padEnd(3, "0"));
 }
 
-// The chainage of a proportion of a route, at the nearest whole millimetre, a half going up: as the program does with ends of stretches.
-export function chainageOf(proportion, length) {
-  const [n, d] = proportion.split("/").map(BigInt);
-  return Number((2n * n * BigInt(length) + d) / (2n * d));
+// The chainage at a measure with decimals, or null where no mark is behind it: that of the millimetre in which it stands, or of an
+// end of a stretch the nearest one, a half going up, as the program does.
+export function chainageOf(marks, measure, isEnd) {
+  const [whole, rest] = measure.split("."), n = BigInt(whole + rest), d = 10n ** BigInt(rest.length);
+  const behind = Math.max(marks.findIndex(([, high]) => n <= BigInt(high) * d), 1), [[start, low], [end, high]] = [marks[behind - 1], marks[behind]];
+  const over = (n - BigInt(low) * d) * BigInt(end - start), span = BigInt(high - low) * d;
+  return over < 0n || n > BigInt(high) * d ? null : start + Number(isEnd ? nearest([over, span]) : over / span);
 }
+
+// The whole number nearest to a fraction, a half going up.
+export const nearest = ([n, d]) => (2n * n + d) / (2n * d);
 
 // The measure at a chainage by the marks of a route, numerator and denominator.
 export function measureAt(marks, chainage) {

@@ -37,6 +37,12 @@ export function say(id, text, isBad = false) {
   $(id).classList.toggle("bad", isBad);
 }
 
+// A field says whether what stands in it is wrong, and where it is told why.
+export function blame(field, isWrong, told) {
+  field.setAttribute("aria-invalid", isWrong);
+  isWrong ? field.setAttribute("aria-describedby", told) : field.removeAttribute("aria-describedby");
+}
+
 // Does what may take away the part in which somebody is: then they go on at another.
 export function leaving(ids, next, work) {
   const wasThere = ids.some(id => $(id).contains(document.activeElement));

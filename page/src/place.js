@@ -1,15 +1,15 @@
 // What lies at a place, and the other ways to say it.
 
-import { $, SIDES, attempt, leaving, linkTo, make, rowOf, say, tableOf } from "./parts.js";
+import { $, SIDES, blame, leaving, linkTo, make, rowOf, say, tableOf } from "./parts.js";
 import { known } from "./requests.js";
 import { metres, short } from "./numbers.js";
-import { METHODS, writeAddress } from "./addresses.js";
+import { METHODS, placeAt, writeAddress } from "./addresses.js";
 import { fill, said, whatLies } from "./positions.js";
 import { linkToEdit } from "./edits.js";
 import { drawMarks, pointNear, seen, shownDiagram, unitsAt, chainageAt } from "./diagram.js";
 import { go, view } from "./view.js";
 
-const MOST_WAYS = 12;
+const MOST_REFERENTS = 4;
 let asks = 0;
 
 export const markAll = () => drawMarks([...view.asset, ...view.place]);
@@ -18,27 +18,43 @@ export function clearPlace() {
   asks++;
   view.place = [];
   leaving(["hits", "ways"], "at-title", () => ($("hits").replaceChildren(), $("ways").replaceChildren()));
-  say("at-said", "");
+  tellPlace("");
+}
+
+function tellPlace(text, isBad = false) {
+  say("at-said", text, isBad);
+  blame($("pos"), isBad, "at-said");
 }
 
 // Asks for the place of the address.
-export function askPlace({ method, pos }) {
-  return attempt("at-said", async () => {
-    clearPlace();
-    const mine = asks, { route } = view;
-    say("at-said", "The position is being asked.");
-    const found = await whatLies(route, method, pos);
-    if (mine === asks) showPlace(found, method, pos);
-  });
+export async function askPlace(place) {
+  clearPlace();
+  const mine = asks, { route } = view;
+  tellPlace("The position is being asked.");
+  try {
+    const found = await whatLies(route, place);
+    if (mine === asks) showPlace(found, place);
+  } catch (error) {
+    if (mine !== asks) return;
+    putPlace(place);
+    tellPlace(error.message, true);
+  }
 }
 
-function showPlace(found, method, pos) {
+// The field says the place as it was asked.
+function putPlace({ method, pos }) {
+  $("method").value = method;
+  $("pos").value = pos;
+  delete $("pos").dataset.chainage;
+}
+
+function showPlace(found, place) {
   const { route } = view, way = found.dir === "+" ? "along the link" : "against the link", few = found.hits.length ? "" : " No asset lies there.";
-  say("at-said", `${found.route}, ${method} ${pos}: chainage ${metres(found.at)} m. Link ${found.link}, mm ${found.mm}; the route runs ${way}.${few}`);
+  const measure = short(found.positions.find(position => position.method === "abs").pos);
+  tellPlace(`${found.route}: measure ${measure}, chainage ${metres(found.at)} m. Link ${found.link}, mm ${found.mm}; the route runs ${way}.${few}`);
   if (found.hits.length) $("hits").append(tableOf(["Asset", "Class", "Value", "Side", "Offset, mm", "Edit", "Link", "mm"], found.hits.map(hit => hitRow(hit, found))));
   $("ways").append(make("h3", "The same millimetre begins at"), waysOf(found, route));
-  if (method === "chainage") fill($("pos"), route, $("method").value, found.at);
-  else Object.assign($("method"), { value: method }), ($("pos").value = pos), delete $("pos").dataset.chainage;
+  place.method === "chainage" ? fill($("pos"), route, $("method").value, found.at) : putPlace(place);
   view.place = [{ from: found.at, to: found.at + 1, text: "asked" }];
   markAll();
 }
@@ -49,11 +65,12 @@ function hitRow(hit, found) {
   return rowOf([link, hit.class, hit.value, SIDES[hit.side] || hit.side, hit.offset, linkToEdit(hit.entry), found.link, found.mm]);
 }
 
-// By the nearest referents first.
+// By its measure, by the nearest referents, and by what else there is.
 function waysOf({ at, link, mm, positions }, { name }) {
-  const list = make("ul", "", { className: "ways" }), distance = ({ method, pos }) => (method === "rel" ? Number(/\d+$/.exec(pos)[0]) : -1);
-  const ways = [...positions].sort((a, b) => distance(a) - distance(b)).slice(0, MOST_WAYS);
-  for (const { method, pos } of [{ method: "chainage", pos: metres(at) }, ...ways]) {
+  const list = make("ul", "", { className: "ways" }), distance = ({ pos }) => Number(/\d+$/.exec(pos)[0]);
+  const [measures, referents, others] = ["abs", "rel", "int"].map(method => positions.filter(position => position.method === method));
+  referents.sort((a, b) => distance(a) - distance(b));
+  for (const { method, pos } of [...measures, ...referents.slice(0, MOST_REFERENTS), placeAt(at), ...others]) {
     const item = make("li", `${METHODS[method]}: `), canBeAsked = method !== "abs" || !pos.includes("/");
     item.append(canBeAsked ? linkTo(writeAddress({ route: name, place: { method, pos } }), pos) : `${pos} (${short(pos)})`);
     list.append(item);
@@ -64,10 +81,10 @@ function waysOf({ at, link, mm, positions }, { name }) {
 
 export function askTyped() {
   const place = said($("pos"), $("method").value);
-  return place.pos ? go({ ...view.address, place }) : say("at-said", "Type a position.", true);
+  return place ? go({ ...view.address, place }) : tellPlace("Type a position.", true);
 }
 
-export const askChainage = mm => go({ ...view.address, place: { method: "chainage", pos: metres(mm) } });
+export const askChainage = mm => go({ ...view.address, place: placeAt(mm) });
 
 export async function askClick(event) {
   const x = shownDiagram() ? unitsAt(event) : 0;

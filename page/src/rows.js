@@ -86,7 +86,7 @@ function assetRow(row) {
 }
 
 export function saveRows() {
-  const lines = chosen.map(row => SAVED.map(name => row[name]).join(","));
+  const lines = chosen.map(row => SAVED.map(name => row[`${name}_decimal`] ?? row[name]).join(","));
   $("csv").download = `${view.route.name}.csv`;
   offer($("csv"), [[SAVED.join(","), ...lines, ""].join("\n")], "text/csv");
 }

@@ -1,6 +1,7 @@
 // Where the page is: its address says it, and Back goes to what was shown before.
 
-import { readAddress, writeAddress, chainages } from "./addresses.js";
+import { readAddress, writeAddress, stretchAt } from "./addresses.js";
+import { stretchBetween } from "./positions.js";
 
 const ONE_GESTURE = 1500, LEAST_SPAN = 10;
 
@@ -37,11 +38,11 @@ export function within(from, to, length) {
 
 export function showRange(from, to, isGesture) {
   const { length } = view.route, [start, end] = within(from, to, length), { route, place, asset } = view.address;
-  return go({ route, stretch: end - start === length ? undefined : chainages(start, end), place, asset }, isGesture);
+  return go({ route, stretch: end - start === length ? undefined : stretchBetween(view.route, start, end), place, asset }, isGesture);
 }
 
 // The address of a stretch of an asset, with some road around it.
 export function aroundAsset(route, from, to, asset, length = Infinity) {
   const around = Math.max(Math.round((to - from) / 4), 5000), start = Math.max(from - around, 0), end = Math.min(to + around, length);
-  return { route, stretch: start === 0 && end === length ? undefined : chainages(start, end), asset };
+  return { route, stretch: start === 0 && end === length ? undefined : stretchAt(start, end), asset };
 }

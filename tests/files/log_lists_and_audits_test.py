@@ -109,11 +109,13 @@ def test_links_and_classes(db):
 
 
 
-def measure_at(marks, chainage):
-    """The measure at a chainage, exactly."""
+def measure_at(marks, chainage, exact=False):
+    """The measure at a chainage: exactly, or as a decimal of three places, a half going up."""
     for (c, m), (d, n) in zip(marks, marks[1:]):
         if c <= chainage <= d:
-            return str(m + fractions.Fraction((n - m) * (chainage - c), d - c))
+            measure = m + fractions.Fraction((n - m) * (chainage - c), d - c)
+            thousandths = (measure * 1000 + fractions.Fraction(1, 2)) // 1
+            return str(measure) if exact else f"{thousandths // 1000}.{thousandths % 1000:03}"
     raise AssertionError(chainage)
 
 
@@ -124,11 +126,12 @@ def marks_of(path):
     return marks
 
 
-def test_referents(db):
-    header, found = table(run("list", db, "refs"))
+@pytest.mark.parametrize("exact", [False, True])
+def test_referents(db, exact):
+    header, found = table(run("list", db, "refs", *["--exact"] * exact))
     assert header == ["ref", "route", "chainage", "measure"]
     marks = marks_of(db)
-    wanted = [[name, route, str(at), measure_at(marks[route], at)] for name, route, at in rows_of(db)["ref"]]
+    wanted = [[name, route, str(at), measure_at(marks[route], at, exact)] for name, route, at in rows_of(db)["ref"]]
     assert sorted(found) == sorted(wanted) and found
 
 
@@ -138,7 +141,37 @@ def test_marks(db):
     assert found == texts([route, *mark] for route, marks in sorted(marks_of(db).items()) for mark in marks) and found
 
 
-def wanted_rows(path, route=None, start=None, end=None, class_=None, asset=None):
+def test_pieces(db):
+    header, found = table(run("list", db, "pieces"))
+    assert header == ["route", "from", "to", "link", "link_from", "link_to", "direction"]
+    assert found == pieces_of(db) == [["A1", "0", "5000", "1", "0", "5000", "+"], ["A2", "0", "3000", "2", "0", "3000", "-"]]
+
+
+def pieces_of(path):
+    placed, ends = [], {}
+    for route, link, a, b, against in look(path, "SELECT route, link, a, b, dir FROM piece ORDER BY route, n")[0]:
+        start = ends.get(route, 0)
+        ends[route] = start + b - a
+        placed.append(texts([[route, start, ends[route], link, a, b, "+-"[against]]])[0])
+    return placed
+
+
+@pytest.mark.parametrize("what", ["refs", "marks", "pieces"])
+def test_lists_of_one_route(db, what):
+    at = 1 if what == "refs" else 0
+    found = table(run("list", db, what))[1]
+    for route in ["A1", "A2"]:
+        assert table(run("list", db, what, "--route", route))[1] == [row for row in found if row[at] == route]
+    ends(run("list", db, what, "--route", "B9"), b"", 1, b"roadlrs: NoRoute\n")
+
+
+@pytest.mark.parametrize("words", [["routes", "--route", "A1"], ["links", "--route", "A1"], ["classes", "--exact"], ["marks", "--exact"]])
+def test_options_that_a_list_has_not(db, words):
+    ended = run("list", db, *words)
+    assert (ended.stdout, ended.status) == (b"", 2) and ended.stderr, ended
+
+
+def wanted_rows(path, route=None, start=None, end=None, class_=None, asset=None, exact=False):
     marks = marks_of(path)
     sides = "LRB"
     found = look(
@@ -147,7 +180,7 @@ def wanted_rows(path, route=None, start=None, end=None, class_=None, asset=None)
         " JOIN origin o ON o.asset = s.asset ORDER BY s.route, a.class, s.asset, s.lo, s.side",
     )[0]
     return [
-        [r, str(lo), str(hi), measure_at(marks[r], lo), measure_at(marks[r], hi), sides[side], str(number), kind, value, str(offset), str(edit)]
+        [r, str(lo), str(hi), measure_at(marks[r], lo, exact), measure_at(marks[r], hi, exact), sides[side], str(number), kind, value, str(offset), str(edit)]
         for r, lo, hi, side, number, kind, value, offset, edit in found
         if (route is None or r == route)
         and (start is None or hi > start)
@@ -157,7 +190,7 @@ def wanted_rows(path, route=None, start=None, end=None, class_=None, asset=None)
     ]
 
 
-ROW_HEADER = ["route", "from", "to", "from_measure", "to_measure", "side", "asset", "class", "value", "offset", "entered_by"]
+ROW_HEADER = ["route", "from", "to", "from_measure", "to_measure", "side", "asset", "class", "value", "offset", "entry"]
 
 
 @pytest.mark.parametrize(
@@ -172,6 +205,8 @@ ROW_HEADER = ["route", "from", "to", "from_measure", "to_measure", "side", "asse
         (["--to", "1000"], {"end": 1000}),
         (["--to", "0"], {"end": 0}),
         (["--asset", "12", "--class", "RAIL"], {"asset": 12, "class_": "RAIL"}),
+        (["--exact"], {"exact": True}),
+        (["--exact", "--route", "A1"], {"exact": True, "route": "A1"}),
     ],
 )
 def test_rows(db, words, wanted):
@@ -186,6 +221,33 @@ def test_rows_of_inventories_of_chance(top):
         path = top / f"{seed}.db"
         edit(path, sheet_of(*(random_record(drawn, n) for n in range(1, 80))))
         assert table(run("rows", path))[1] == wanted_rows(path), seed
+        assert table(run("rows", path, "--exact"))[1] == wanted_rows(path, exact=True), seed
+        assert table(run("list", path, "pieces"))[1] == pieces_of(path), seed
+        assert table(run("rows", path, "--on-links"))[1] == on_links(path), seed
+
+
+def on_links(path):
+    """Each row on each piece that it has a millimetre of: its part of the link, the side seen along the link."""
+    placed = pieces_of(path)
+    lines = []
+    for route, low, high, _, _, side, asset, kind, value, offset, _ in wanted_rows(path):
+        for name, start, end, link, a, b, direction in placed:
+            first, last = max(int(low), int(start)), min(int(high), int(end))
+            if name == route and first < last:
+                along = direction == "+"
+                place = int(a) + first - int(start) if along else int(b) - (last - int(start))
+                seen = side if along else {"L": "R", "R": "L", "B": "B"}[side]
+                lines.append(texts([[asset, kind, value, offset, link, place, place + last - first, seen, route]])[0])
+    return lines
+
+
+def test_rows_on_links(db):
+    header, found = table(run("rows", db, "--on-links"))
+    assert header == ["asset", "class", "value", "offset", "link", "from", "to", "side", "route"]
+    assert found == on_links(db) and ["12", "SIGN", "STOP", "0", "2", "0", "1", "L", "A2"] in found
+    assert table(run("rows", db, "--on-links", "--asset", "10"))[1] == [row for row in found if row[0] == "10"]
+    ended = run("rows", db, "--on-links", "--exact")
+    assert (ended.stdout, ended.status) == (b"", 2) and ended.stderr, ended
 
 
 @pytest.mark.parametrize(
@@ -198,8 +260,8 @@ def test_rows_of_what_is_not_there(db, words, name):
 
 def test_what_is_gone(db):
     header, found = table(run("gone", db))
-    assert header == ["edit", "reason", "asset", "class", "value", "link", "from", "to", "side"]
-    assert found == [["12", "retired", "11", "RAIL", "steel", "1", "833", "1667", "L"]]
+    assert header == ["edit", "key", "verb", "reason", "asset", "class", "value", "link", "from", "to", "side"]
+    assert found == [["12", "e5", "retire", "retired", "11", "RAIL", "steel", "1", "833", "1667", "L"]]
     assert table(run("gone", db, "--edit", "12"))[1] == found
     assert table(run("gone", db, "--edit", "11"))[1] == []
     ends(run("gone", db, "--edit", "14"), b"", 1, b"roadlrs: NoEdit\n")
@@ -209,13 +271,74 @@ def test_what_a_closed_route_abandons(db):
     ends(edit(db, sheet_of("f1,close,A2")), b"f1,done,14\n", 0)
     found = table(run("gone", db, "--edit", "14"))[1]
     held = look(db, "SELECT COUNT(*) FROM gone WHERE edit = 14")[0][0][0]
-    assert len(found) == held and {row[1] for row in found} == {"abandoned"}
+    assert len(found) == held and {row[3] for row in found} == {"abandoned"} and {(row[1], row[2]) for row in found} == {("f1", "close")}
+
+
+def ledger_of(path, name):
+    """The rows of a ledger, each with its edit's key and verb."""
+    cause = "x.cause" if name == "gone" else "-1"
+    found = look(
+        path,
+        f"SELECT x.edit, e.token, e.line, {cause}, x.asset, a.class, a.value, x.link, x.lo, x.hi, x.side FROM {name} x JOIN edit e ON e.number = x.edit"
+        f" JOIN asset a ON a.number = x.asset ORDER BY x.edit, {cause}, x.asset, x.link, x.lo, x.side",
+    )[0]
+    return [[edit, key, line.split(",")[0], ["retired", "abandoned", "entered"][why], *others, "LR"[side]] for edit, key, line, why, *others, side in found]
+
+
+def test_what_is_gone_by_edits_and_class(top):
+    drawn = random.Random(19)
+    told = 0
+    for seed in range(15):
+        path = top / f"{seed}.db"
+        edit(path, sheet_of(*(random_record(drawn, n) for n in range(1, 80))))
+        rows = ledger_of(path, "gone")
+        edits = look(path, "SELECT COUNT(*) FROM edit")[0][0][0]
+        assert table(run("gone", path))[1] == texts(rows)
+        told += len(rows)
+        for _ in range(4):
+            first, last = sorted(drawn.sample(range(1, edits + 3), 2))
+            for words, keeps in [
+                (["--since", first], lambda row: row[0] >= first),
+                (["--until", last], lambda row: row[0] <= last),
+                (["--since", first, "--until", last], lambda row: first <= row[0] <= last),
+                (["--class", "RAIL"], lambda row: row[5] == "RAIL"),
+                (["--class", "SIGN", "--until", last], lambda row: row[5] == "SIGN" and row[0] <= last),
+            ]:
+                ended = run("gone", path, *map(str, words))
+                if ended.stdout or ended.status == 0:
+                    assert table(ended)[1] == texts(row for row in rows if keeps(row)), (seed, words)
+                else:
+                    ends(ended, b"", 1, b"roadlrs: NoClass\n")
+    assert told
+
+
+def test_the_history_of_assets(top):
+    drawn = random.Random(23)
+    for seed in range(15):
+        path = top / f"{seed}.db"
+        edit(path, sheet_of(*(random_record(drawn, n) for n in range(1, 80))))
+        for asset in look(path, "SELECT number FROM asset")[0]:
+            header, found = table(run("history", path, str(asset[0])))
+            assert header == ["edit", "key", "verb", "event", "link", "from", "to", "side"]
+            wanted = [row for name in ["entered", "gone"] for row in ledger_of(path, name) if row[4] == asset[0]]
+            assert found == texts([*row[:4], *row[7:]] for row in wanted) and found
+    ends(run("history", top / "0.db", "999"), b"", 1, b"roadlrs: NoAsset\n")
+
+
+def test_the_log_up_to_an_edit(db):
+    lines = log_of(db).splitlines(keepends=True)
+    for last in range(1, 16):
+        assert log_of(db, "--until", str(last)) == b"".join(lines[: last + 1])
+        assert log_of(db, "5", "--until", str(last)) == b"".join([HEADER, *lines[5 : last + 1]])
+    for words in [["--until", "0"], ["--until", "x"], ["--until", "5", "--key", "e5"], ["--until", "5", "--sum"]]:
+        ended = run("log", db, *words)
+        assert (ended.stdout, ended.status) == (b"", 2) and ended.stderr, words
 
 
 @pytest.mark.parametrize("what", ["", "route", "ROUTES", "assets"])
 def test_a_list_of_nothing_known(db, what):
     ended = run("list", db, what)
-    assert (ended.stdout, ended.status) == (b"", 2) and b"WHAT is none of routes, links, classes, refs and marks" in ended.stderr, ended
+    assert (ended.stdout, ended.status) == (b"", 2) and b"WHAT is none of routes, links, classes, refs, marks and pieces" in ended.stderr, ended
 
 
 @pytest.mark.parametrize("words", [["list", "DB", "routes"], ["rows", "DB"], ["gone", "DB"], ["log", "DB"], ["audit", "DB"]])

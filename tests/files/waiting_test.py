@@ -353,7 +353,7 @@ def test_nothing_but_what_sqlite_has_committed_is_answered(mode, pages):
 
 
 def test_nothing_is_answered_of_a_file_into_which_sqlite_copies_its_log_meanwhile():
-    drawn, disturbed = random.Random(5), 0
+    drawn = random.Random(5)
     with folder() as path:
         assets(path)
         for n in range(20):
@@ -363,12 +363,7 @@ def test_nothing_is_answered_of_a_file_into_which_sqlite_copies_its_log_meanwhil
                 db.execute("UPDATE asset SET value = ?", ("BCA"[n % 3] * 2,))
                 db.execute("PRAGMA wal_checkpoint").fetchall()
             told = values_in(ended(asking))
-            # who was disturbed opens the file as for an edit, and does not wait for sqlite once more
-            if told == b"roadlrs: fault Open\n":
-                disturbed += 1
-                continue
             assert told in (frozenset(["ABC"[n % 3].encode() * 2]), frozenset(["BCA"[n % 3].encode() * 2])), (n, told)
-        assert disturbed <= 10
         is_whole(path)
 
 

@@ -13,9 +13,9 @@ from serving import AT_3000, by_curl, by_http_client, by_socket, answer, error, 
 from stores import MORE, edit, is_whole, make, rows_of
 
 # the fields that are numbers as JSON, of whichever list; all others are texts, but for the measure of a mark, which is whole
-NUMBERS = {"length", "left", "right", "link", "chainage", "asset", "from", "to", "offset", "entered_by", "edit"}
-# members that have another name than their column
-NAMES = {"entered_by": "entry"}
+NUMBERS = {"length", "left", "right", "link", "link_from", "link_to", "chainage", "asset", "from", "to", "offset", "entry", "edit"}
+# the fields that are told exact and as decimals as JSON, and in one of these ways as CSV
+MEASURES = {"refs": ["measure"], "rows": ["from_measure", "to_measure"]}
 
 # what is asked for over HTTP, and the words for it on the command line
 ASKED = {
@@ -23,8 +23,19 @@ ASKED = {
     "/v1/links": ("list", "links"),
     "/v1/classes": ("list", "classes"),
     "/v1/refs": ("list", "refs"),
+    "/v1/refs?exact=1": ("list", "refs", "--exact"),
+    "/v1/refs?route=A1": ("list", "refs", "--route", "A1"),
+    "/v1/refs?exact=1&route=A2": ("list", "refs", "--route", "A2", "--exact"),
     "/v1/marks": ("list", "marks"),
+    "/v1/marks?route=A2": ("list", "marks", "--route", "A2"),
+    "/v1/pieces": ("list", "pieces"),
+    "/v1/pieces?route=A2": ("list", "pieces", "--route", "A2"),
     "/v1/rows": ("rows",),
+    "/v1/rows?exact=1": ("rows", "--exact"),
+    "/v1/rows?on_links=1": ("rows", "--on-links"),
+    "/v1/rows?on_links=1&route=A2&class=SIGN": ("rows", "--route", "A2", "--class", "SIGN", "--on-links"),
+    "/v1/rows?route=A1&from=abs:1001&to=int:1/2": ("rows", "--route", "A1", "--from", "abs:1001", "--to", "int:1/2"),
+    "/v1/rows?route=A1&from=rel:KM2%2B1&to=rel:KM2%2B834&exact=1": ("rows", "--route", "A1", "--from", "rel:KM2+1", "--to", "rel:KM2+834", "--exact"),
     "/v1/rows?route=A1": ("rows", "--route", "A1"),
     "/v1/rows?route=A2&from=500&to=1000": ("rows", "--route", "A2", "--from", "500", "--to", "1000"),
     "/v1/rows?class=RAIL": ("rows", "--class", "RAIL"),
@@ -39,6 +50,12 @@ ASKED = {
     "/v1/gone": ("gone",),
     "/v1/gone?edit=12": ("gone", "--edit", "12"),
     "/v1/gone?edit=11": ("gone", "--edit", "11"),
+    "/v1/gone?since=12&until=12&class=RAIL": ("gone", "--since", "12", "--until", "12", "--class", "RAIL"),
+    "/v1/gone?since=13": ("gone", "--since", "13"),
+    "/v1/gone?until=11": ("gone", "--until", "11"),
+    "/v1/gone?class=SPEED": ("gone", "--class", "SPEED"),
+    "/v1/history?asset=10": ("history", "10"),
+    "/v1/history?asset=11": ("history", "11"),
 }
 
 
@@ -58,19 +75,36 @@ def number(text):
     return int(text.replace(".", ""))
 
 
-def as_json(target, ended):
-    """The reply with what a run printed: compact, the members of each entry in the order of their names."""
-    assert (ended.stderr, ended.status) == (b"", 0), ended
-    rows = csv.DictReader(io.StringIO(ended.stdout.decode()))
-    numbers = NUMBERS | {"measure"} if name_of(target) == "marks" else NUMBERS
-    if name_of(target) == "routes":
-        rows = [{"length": row["length"], "name": row["route"]} for row in rows]
-    shown = [{NAMES.get(field, field): number(text) if field in numbers else text for field, text in row.items()} for row in rows]
-    return reply(200, json.dumps({name_of(target): shown}, separators=(",", ":"), sort_keys=True).encode())
-
-
 def printed(path, words):
     return run(words[0], str(path), *words[1:])
+
+
+def entries(path, words):
+    """The entries of what a run prints, each field by its name."""
+    ended = printed(path, words)
+    assert (ended.stderr, ended.status) == (b"", 0), ended
+    return list(csv.DictReader(io.StringIO(ended.stdout.decode())))
+
+
+def with_measures(path, words, name):
+    """The entries of a list, with measures exact and, under a name of their own, as decimals."""
+    if name not in MEASURES or "--on-links" in words:
+        return entries(path, words)
+    plain = tuple(word for word in words if word != "--exact")
+    exact, decimal = entries(path, (*plain, "--exact")), entries(path, plain)
+    assert len(exact) == len(decimal)
+    return [row | {field + "_decimal": shown[field] for field in MEASURES[name]} for row, shown in zip(exact, decimal)]
+
+
+def as_json(target, path, words):
+    """The reply with what the program prints: compact, the members of each entry in the order of their names."""
+    name = name_of(target)
+    rows = with_measures(path, words, name)
+    numbers = NUMBERS | {"measure"} if name == "marks" else NUMBERS
+    if name == "routes":
+        rows = [{"length": row["length"], "name": row["route"]} for row in rows]
+    shown = [{field: number(text) if field in numbers else text for field, text in row.items()} for row in rows]
+    return reply(200, json.dumps({name: shown}, separators=(",", ":"), sort_keys=True).encode())
 
 
 def gets(server, target, expected):
@@ -82,7 +116,7 @@ def desk(tmp_path_factory):
     """A server of a file, and the replies that are due by what the program prints of it."""
     path = tmp_path_factory.mktemp("lists") / "roads.db"
     make(path, *MORE)
-    due = {target: as_json(target, printed(path, words)) for target, words in ASKED.items()}
+    due = {target: as_json(target, path, words) for target, words in ASKED.items()}
     due |= {as_csv(target): reply(200, printed(path, words).stdout, "text/csv") for target, words in ASKED.items()}
     kept = rows_of(path)
     with started(db=path) as server:
@@ -137,6 +171,7 @@ def test_measures_may_be_fractions(desk):
     shown = json.loads(desk[1]["/v1/rows"].partition(b"\r\n\r\n")[2])["rows"]
     assert any("/" in row["from_measure"] + row["to_measure"] for row in shown), shown
     assert all(isinstance(row["from_measure"], str) and isinstance(row["from"], int) for row in shown)
+    assert not any("/" in row["from_measure_decimal"] + row["to_measure_decimal"] for row in shown)
 
 
 def test_an_empty_inventory():
@@ -153,7 +188,7 @@ def test_inventories_of_chance(tmp_path):
         path = tmp_path / f"{seed}.db"
         edit(path, sheet_of(*(random_record(drawn, n) for n in range(1, 80))))
         ended = {target: printed(path, ASKED[target]) for target in LISTS}
-        due = {target: as_json(target, ended[target]) for target in LISTS} | {as_csv(target): reply(200, ended[target].stdout, "text/csv") for target in LISTS}
+        due = {target: as_json(target, path, ASKED[target]) for target in LISTS} | {as_csv(target): reply(200, ended[target].stdout, "text/csv") for target in LISTS}
         with serving(len(due), path) as server:
             for target, expected in due.items():
                 gets(server, target, expected)
@@ -167,7 +202,7 @@ def test_many_rows(tmp_path):
     edit(path, sheet_of(*texts, *(f"v{n},enter,{n},V,L1,B,abs,{n},{n + 1},x,0" for n in range(1, count + 1))))
     target = "/v1/rows?route=L1"
     ended = printed(path, ("rows", "--route", "L1"))
-    expected = as_json(target, ended)
+    expected = as_json(target, path, ("rows", "--route", "L1"))
     assert expected.count(b'"asset"') == count
     with serving(2, path) as server:
         gets(server, target, expected)
@@ -204,6 +239,37 @@ REFUSED = {
     "/v1/rows?asset=x&class=x&to=x&from=x": (400, "Malformed:from"),
     "/v1/rows?asset=x&class=x&to=x": (400, "Malformed:to"),
     "/v1/rows?asset=x&class=x": (400, "Malformed:class"),
+    "/v1/rows?exact=1&on_links=1": (400, "Malformed:on_links"),
+    "/v1/rows?exact=1&on_links=0": (400, "Malformed:on_links"),
+    "/v1/rows?exact=x&on_links=x": (400, "Malformed:exact"),
+    "/v1/rows?asset=x&exact=x": (400, "Malformed:asset"),
+    "/v1/rows?exact=": (400, "Malformed:exact"),
+    "/v1/rows?on_links=true": (400, "Malformed:on_links"),
+    "/v1/rows?route=A1&from=abs": (400, "Malformed:from"),
+    "/v1/rows?route=A1&to=rel:KM2+1": (400, "Malformed:to"),
+    "/v1/rows?from=abs:0": (404, "NoRoute"),
+    "/v1/rows?to=int:1/2": (404, "NoRoute"),
+    "/v1/rows?route=A1&from=abs:6001": (422, "OffRoute:from"),
+    "/v1/rows?route=A1&to=rel:KM9%2B1": (422, "NoRef:to"),
+    "/v1/rows?route=A1&from=abs:6001&to=abs:6002": (422, "OffRoute:from"),
+    "/v1/rows?class=NONE&route=A1&from=abs:6001": (422, "NoClass"),
+    "/v1/refs?route=B9": (404, "NoRoute"),
+    "/v1/refs?route=a&exact=x": (400, "Malformed:route"),
+    "/v1/refs?route=B9&exact=2": (400, "Malformed:exact"),
+    "/v1/marks?route=B9": (404, "NoRoute"),
+    "/v1/marks?route=": (400, "Malformed:route"),
+    "/v1/pieces?route=B9": (404, "NoRoute"),
+    "/v1/pieces?route=a1": (400, "Malformed:route"),
+    "/v1/history": (400, "Malformed:asset"),
+    "/v1/history?asset=0": (400, "Malformed:asset"),
+    "/v1/history?asset=99": (422, "NoAsset"),
+    "/v1/gone?class=NONE": (422, "NoClass"),
+    "/v1/gone?edit=14&class=NONE": (422, "NoEdit"),
+    "/v1/gone?since=0": (400, "Malformed:since"),
+    "/v1/gone?until=10000001": (400, "Malformed:until"),
+    "/v1/gone?class=x&until=x&since=x": (400, "Malformed:since"),
+    "/v1/gone?class=x&until=x": (400, "Malformed:until"),
+    "/v1/gone?class=x": (400, "Malformed:class"),
     "/v1/gone?edit=0": (400, "Malformed:edit"),
     "/v1/gone?edit=x": (400, "Malformed:edit"),
     "/v1/gone?edit=10000001": (400, "Malformed:edit"),
@@ -215,7 +281,7 @@ def test_what_is_refused(desk, target):
     gets(desk[0], target, error(*REFUSED[target]))
 
 
-@pytest.mark.parametrize("target", [target for target in REFUSED if target.partition("?")[0] in LISTS])
+@pytest.mark.parametrize("target", REFUSED)
 def test_as_csv_it_is_refused_alike(desk, target):
     gets(desk[0], as_csv(target), error(*REFUSED[target]))
 
@@ -231,14 +297,20 @@ UNKNOWN = {
     "/v1/rows?rout%65s=A1": "routes",
     "/v1/links?link=x": "link",
     "/v1/classes?class=x": "class",
-    "/v1/refs?route=x": "route",
-    "/v1/marks?route=A1": "route",
+    "/v1/refs?name=x": "name",
+    "/v1/refs?route=x&on_links=1": "on_links",
+    "/v1/marks?exact=1": "exact",
+    "/v1/pieces?link=1": "link",
+    "/v1/history?edit=1": "edit",
+    "/v1/history?asset=10&since=x": "since",
     "/v1/routes?name=A1": "name",
     "/v1/lengths?route=A1&class=SPEED": "class",
     "/v1/gone?asset=10": "asset",
+    "/v1/gone?from=1": "from",
     "/v1/find?assets=10": "assets",
     "/v1/log?form=2": "form",
     "/v1/log?from=x&upto=3": "upto",
+    "/v1/log?since=1": "since",
     "/v1/diagram?rout=A1": "rout",
     "/v1/diagram?route=A1&side=L": "side",
     "/v1/where?link=1&mm=0&pos=3": "pos",
@@ -279,7 +351,7 @@ def test_another_method(desk, path):
         desk[0].answers(request(f"{method} {path}"), reply(405, allow="GET"))
 
 
-@pytest.mark.parametrize("path", ["/v1/links/", "/v1/link", "/v1/mark", "/v1/marks/A1", "/v1/length", "/v1/where/A1", "/v1/row", "/v1/Rows", "/v1/rows/A1", "/v1/health", "/health/", "/healthz", "/", "/v1/gone/12", "/v1/at.csv", "/v1/log.csv", "/v1/totals.csv", "/health.csv", "/v1/rows.CSV", "/v1/rows.csv/", "/v1/rows.csv.csv", "/v1/rows.json", "/v1/.csv"])
+@pytest.mark.parametrize("path", ["/v1/links/", "/v1/link", "/v1/mark", "/v1/marks/A1", "/v1/length", "/v1/where/A1", "/v1/row", "/v1/Rows", "/v1/rows/A1", "/v1/health", "/health/", "/healthz", "/", "/v1/gone/12", "/v1/history/10", "/v1/piece", "/v1/pieces/A1", "/v1/at.csv", "/v1/log.csv", "/v1/totals.csv", "/health.csv", "/v1/rows.CSV", "/v1/rows.csv/", "/v1/rows.csv.csv", "/v1/rows.json", "/v1/.csv"])
 def test_another_path(desk, path):
     gets(desk[0], path, reply(404))
 
@@ -296,6 +368,9 @@ PLACES = {
     "route=A1&chainage=2500": ("A1", "2500"),
     "route=A1&chainage=5000": ("A1", "5000"),
     "chainage=700&route=A2": ("A2", "700"),
+    "route=A1&chainage=abs:1001": ("A1", "abs:1001"),
+    "route=A1&chainage=rel:KM2%2B834": ("A1", "rel:KM2+834"),
+    "route=A2&chainage=int:1/3": ("A2", "int:1/3"),
     "link=1&mm=0": ("link", "1", "0"),
     "link=1&mm=4999": ("link", "1", "4999"),
     "link=1&mm=5000": ("link", "1", "5000"),
@@ -346,6 +421,13 @@ NOWHERE = {
     "route=B9&chainage=0": (404, "NoRoute"),
     "route=A1&chainage=5001": (422, "OffRoute"),
     "route=A1&chainage=10000000000": (422, "OffRoute"),
+    "route=A1&chainage=abs:6001": (422, "OffRoute"),
+    "route=A1&chainage=rel:KM9-1": (422, "NoRef"),
+    "route=B9&chainage=abs:0": (404, "NoRoute"),
+    "chainage=abs:0": (400, "Malformed:route"),
+    "route=A1&chainage=abs:": (400, "Malformed:chainage"),
+    "route=A1&chainage=rel:KM2+1": (400, "Malformed:chainage"),
+    "route=A1&chainage=int:3/2": (400, "Malformed:chainage"),
     "link=9&mm=0": (422, "NoLink"),
     "link=1&mm=5001": (422, "OffRoute"),
     "": (400, "Malformed:route"),

@@ -66,6 +66,20 @@ def test_the_log_from_each_edit(desk, number):
     gets(desk, f"/v1/log?from={number}", log_from(number))
 
 
+@pytest.mark.parametrize("first, last", [(1, 1), (1, 10), (3, 7), (9, 9), (7, 3), (10, 10_000_000)])
+def test_the_log_between_two_edits(desk, first, last):
+    gets(desk, f"/v1/log?from={first}&until={last}", sheet_reply(sheet_of(*ACCEPTED[first - 1 : last])))
+
+
+def test_the_log_up_to_an_edit(desk):
+    gets(desk, "/v1/log?until=4", sheet_reply(sheet_of(*ACCEPTED[:4])))
+
+
+@pytest.mark.parametrize("query, cause", [("until=0", "until"), ("until=x", "until"), ("until=", "until"), ("until=10000001", "until"), ("until=x&from=x", "from")])
+def test_an_end_that_cannot_be_read(desk, query, cause):
+    gets(desk, f"/v1/log?{query}", error(400, f"Malformed:{cause}"))
+
+
 @pytest.mark.parametrize("number", [11, 12, 9_999_999, 10_000_000])
 def test_behind_the_last_edit_is_the_header_alone(desk, number):
     gets(desk, f"/v1/log?from={number}", sheet_reply(HEADER))

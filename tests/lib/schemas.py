@@ -6,7 +6,7 @@ import re
 from program import TOP
 
 API = json.loads((TOP / "docs" / "openapi.json").read_text())
-WORDS = {"type", "pattern", "enum", "minimum", "maximum", "items", "minItems", "required", "properties", "$ref", "example"}
+WORDS = {"type", "pattern", "enum", "minimum", "maximum", "items", "minItems", "required", "properties", "$ref", "anyOf", "example"}
 TYPES = {"string": str, "integer": int, "array": list, "object": dict}
 
 
@@ -21,6 +21,8 @@ def fits(value, schema):
     """Whether a value is as a schema says. An object has all its properties, and no other."""
     schema = named(schema)
     assert set(schema) <= WORDS, schema
+    if "anyOf" in schema:
+        return any(fits(value, one) for one in schema["anyOf"])
     if not isinstance(value, TYPES[schema["type"]]) or isinstance(value, bool):
         return False
     if schema["type"] == "object":
@@ -35,7 +37,7 @@ def fits(value, schema):
 
 
 # texts of all kinds, among which each pattern finds some that fit it and some that do not
-TEXTS = ["", "A", "A1", "a1", "A-1", "-A1", "A 1", "É", "0", "A" * 8, "A" * 9, "A" * 12, "A" * 13, "abs", "Abs", "rel", "int", "link", "rel:KM2", "rel:", "L", "R", "B", "l", "1", "2"]
+TEXTS = ["", "A", "A1", "a1", "A-1", "-A1", "A 1", "É", "0", "A" * 8, "A" * 9, "A" * 12, "A" * 13, "abs", "Abs", "rel", "int", "link", "rel:KM2", "rel:", "abs:3000", "rel:KM2+5", "rel:KM2 5", "int:1/3", "abs:", "L", "R", "B", "l", "1", "2"]
 
 
 def examples(schema):

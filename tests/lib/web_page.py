@@ -49,7 +49,7 @@ class Page:
 
     def opens_route(self, name):
         self.goes_to(f"#{name}")
-        self.browser.shows("#route-said", "From 0.000 m to ")
+        self.browser.shows("#route-said", "from 0.000 m to ")
 
     def file(self, name, content):
         path = self.folder / name

@@ -30,8 +30,8 @@ def got(port, asked, body=None):
     return head.split()[1].decode(), kind and kind[1].decode(), body
 
 
-# a place is asked for in either way
-WAYS = {"/v1/where": [("route", "chainage"), ("link", "mm")]}
+# what is asked for in either way: a place, which has to be one of them, and rows
+WAYS = {"/v1/where": [("route", "chainage"), ("link", "mm")]} | dict.fromkeys(["/v1/rows", "/v1/rows.csv"], [("exact",), ("on_links",)])
 
 
 def of_another_way(path, name):
@@ -108,7 +108,7 @@ def test_an_answer_is_as_the_file_says(port, path, said):
 @pytest.mark.parametrize("path, said", QUESTIONS, ids=lambda x: x if isinstance(x, str) else "")
 def test_what_is_missing_is_named(port, path, said):
     for parameter in said["parameters"]:
-        if parameter["in"] == "query" and (parameter["required"] or path in WAYS):
+        if parameter["in"] == "query" and (parameter["required"] or path == "/v1/where"):
             if parameter["name"] == "link":
                 continue  # without a link a place is asked for on a route
             left_out = target(path, said["parameters"], parameter["name"], **{parameter["name"]: None})

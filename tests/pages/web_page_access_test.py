@@ -54,14 +54,14 @@ def views(page):
     browser.clicks("#send")
     browser.shows("#sheet-said", "to its end")
     browser.types("#pos", "99999" + ENTER)
-    browser.shows("#at-said", "Error: OffRoute")
+    browser.shows("#at-said", "Error: The position lies off")
     yield "replies"
     page.goes_to("#edit/176")
     browser.shows("#taken", "retired")
     browser.shows("#record", "x1")
     yield "edit"
     page.goes_to("#asset/10")
-    browser.shows("#lost", "retired")
+    browser.shows("#past", "retired")
     browser.shows("#entered", "e1")
     yield "asset"
 
@@ -169,7 +169,7 @@ def test_each_function_is_reached_by_keys(full):
     browser.shows("#routes-said", "70 of 152 routes")
     keys.reaches("#routes a")
     browser.presses(DOWN, DOWN, ENTER)
-    browser.shows("#route-said", "From")
+    browser.shows("#route-said", "Measures")
     assert keys.at("#route-title")
     keys.presses('#route .note a[href="#"]')
     browser.waits_for("the network", lambda browser: keys.at("#network-title"))
@@ -227,7 +227,7 @@ def test_each_function_is_reached_by_keys(full):
     keys.types("3000" + ENTER)
     browser.shows("#at-said", "chainage 2.500 m")
     keys.presses("#ways a")
-    browser.shows("#at-said", "A1, chainage 2.500")
+    browser.shows("#at-said", "A1: measure 3000, chainage 2.500")
     keys.is_somewhere()
     # rows: filtered, sorted, one after the other, saved
     keys.reaches("#row-filter")

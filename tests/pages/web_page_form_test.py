@@ -38,7 +38,7 @@ def test_the_page_is_one_file_and_fits_a_telephone(page):
         page.emulates("clearDeviceMetricsOverride")
 
 
-PARTS = """[...svg.querySelectorAll('*')].filter(e => !e.dataset.count).map(e => e.localName + [...e.attributes]
+PARTS = """[...svg.querySelectorAll('*')].filter(e => !e.dataset.count && !e.dataset.cut).map(e => e.localName + [...e.attributes]
   .filter(a => !/^shade-/.test(a.value) && a.name !== 'data-side').map(a => ' ' + a.name + '=' + a.value) + (e.children.length ? '' : e.textContent.trim()))"""
 
 

@@ -70,7 +70,7 @@ def test_an_address_shows_an_edit_or_an_asset(later):
     for css in ["#edit-said", "#taken-said"]:
         browser.shows(css, "Error: NoEdit: there is no edit of this number.")
     later.goes_to("#asset/99")
-    for css in ["#asset-said", "#entered-said", "#lost-said"]:
+    for css in ["#asset-said", "#entered-said", "#past-said"]:
         browser.shows(css, "Error: NoAsset: there is no asset of this number.")
     for text, address in [("edit/79", {"edit": "79"}), ("asset/1154", {"asset": "1154"})]:
         assert browser.runs("return readAddress(arguments[0])", text) == address and browser.runs("return writeAddress(arguments[0])", address) == text
@@ -78,28 +78,42 @@ def test_an_address_shows_an_edit_or_an_asset(later):
     browser.shows("#address-said", "Error: The address names no route.")
 
 
+def sides_of(parts):
+    """How many millimetres the parts have of each side of each link."""
+    sums = {}
+    for *_, link, start, end, side in parts:
+        for one in ["left", "right"] if side == "both" else [side]:
+            sums[link, one] = sums.get((link, one), 0) + int(end) - int(start)
+    return sums
+
+
 def test_an_asset_has_its_history(later):
     browser = later.browser
     later.opens()
     later.finds("asset", "10")
     browser.clicks('#results a[href="#asset/10"]')
-    browser.shows("#lost-said", "4 parts. In all 6 parts are gone.")
+    browser.shows("#past-said", "entered, 4 taken away since.")
     browser.shows("#asset-said", "SPEED 80. It holds one stretch today.")
     assert later.rows("#lies") == [["A1", "left", "2333", "7000", "2.333", "7.000", "0"]]
     assert {"edit": "162", "key": "e1", "from": "3000"}.items() <= record(later, "#entered").items()
-    assert later.rows("#lost") == [
-        ["retired", "167", "1", "2500", "3333", "left"],
-        ["retired", "167", "1", "2500", "3333", "right"],
-        ["retired", "168", "1", "3333", "5000", "right"],
-        ["retired", "168", "2", "0", "3000", "left"],
+    parts = later.rows("#past")
+    first = [part for part in parts if part[0] == "entered"]
+    # what was entered, and then what was taken away of it, in the order of edits
+    assert parts[: len(first)] == first and all(part[1:4] == ["162", "e1", "enter"] for part in first)
+    assert sides_of(first) == {("1", "left"): 2500, ("1", "right"): 2500, ("2", "left"): 3000, ("2", "right"): 3000}
+    assert parts[len(first) :] == [
+        ["retired", "167", "x1", "retire", "1", "2500", "3333", "left"],
+        ["retired", "167", "x1", "retire", "1", "2500", "3333", "right"],
+        ["retired", "168", "x2", "supersede", "1", "3333", "5000", "right"],
+        ["retired", "168", "x2", "supersede", "2", "0", "3000", "left"],
     ]
     later.pictured("an_asset")
     # where it lies, back, and on to the edit that took a part away
     browser.clicks("#lies a")
     later.draws("A1", 0, 7000)
     browser.runs("history.back()")
-    browser.shows("#lost", "168")
-    browser.clicks('#lost a[href="#edit/168"]')
+    browser.shows("#past", "168")
+    browser.clicks('#past a[href="#edit/168"]')
     browser.shows("#record", "supersede")
     assert browser.complaints() == []
 
@@ -111,9 +125,9 @@ def test_the_rows_of_a_route_lead_to_histories(later):
     browser.clicks('#rows a[href="#asset/20"]')
     browser.shows("#asset-said", "SPEED 60.")
     assert record(later, "#entered")["edit"] == "168"
-    browser.shows("#lost-said", "0 parts.")
+    browser.shows("#past-said", "entered, 0 taken away since.")
     browser.runs("history.back()")
-    browser.shows("#rows-said", "4 of 4 rows")
+    browser.waits_for("the rows", lambda browser: not browser.runs("return document.getElementById('listed').hidden"))
     browser.clicks('#rows a[href="#edit/163"]')
     browser.shows("#record", "STEEL")
     later.goes_to("#A1/chainage:3.000")
@@ -122,7 +136,7 @@ def test_the_rows_of_a_route_lead_to_histories(later):
     browser.shows("#record", "supersede")
 
 
-def test_an_asset_that_lies_nowhere_is_found_in_the_log(later):
+def test_an_asset_that_lies_nowhere_has_its_history(later):
     browser = later.browser
     later.opens()
     assert later.finds("asset", "14") == "Asset 14 is known, and lies on no route now."
@@ -130,19 +144,21 @@ def test_an_asset_that_lies_nowhere_is_found_in_the_log(later):
     browser.shows("#asset-said", "It lies on no route today.")
     browser.shows("#entered", "YIELD")
     assert {"edit": "166", "key": "e5", "verb": "enter: enters an asset"}.items() <= record(later, "#entered").items()
-    browser.shows("#lost-said", "1 part. In all 6 parts are gone.")
-    assert later.rows("#lost") == [["retired", "170", "5", "4333333", "4333334", "left"]]
+    browser.shows("#past-said", "1 part entered, 1 taken away since.")
+    part = ["5", "4333333", "4333334", "left"]
+    assert later.rows("#past") == [["entered", "166", "e5", "enter", *part], ["retired", "170", "x4", "retire", *part]]
 
 
-def test_what_is_gone_is_asked_once(later):
+def test_a_history_is_asked_once_and_alone(later):
     browser = later.browser
     later.goes_to("#asset/10")
-    browser.shows("#lost-said", "4 parts.")
-    for asset, told in [("11", "1 part."), ("20", "0 parts."), ("10", "4 parts.")]:
+    browser.shows("#past-said", ", 4 taken")
+    for asset, told in [("11", ", 1 taken"), ("20", ", 0 taken"), ("10", ", 4 taken")]:
         browser.runs("location.hash = arguments[0]", f"asset/{asset}")
-        browser.shows("#lost-said", told)
+        browser.shows("#past-said", told)
     names = [name for name in later.requests() if not name.endswith("/health")]
-    assert len([name for name in names if name.endswith("/v1/gone")]) == 1 and len(names) == len(set(names)), names
+    assert len([name for name in names if "/v1/history" in name]) == 3 and len(names) == len(set(names)), names
+    assert not any("/v1/gone" in name for name in names)
 
 
 def test_of_a_long_log_one_record_is_read(browser, tmp_path):

@@ -48,7 +48,7 @@ def drawn(route, start=None):
     """This route is drawn, from there on."""
     data = "document.querySelector('#diagram svg')?.dataset"
     where = f" && {data}.from === '{start}'" if start is not None else ""
-    return f"!document.getElementById('route').hidden && {data}?.route === '{route}'{where} && {told('route-said', 'From')}"
+    return f"!document.getElementById('route').hidden && {data}?.route === '{route}'{where} && {told('route-said', 'Measures')}"
 
 
 def goes(fragment):
@@ -88,7 +88,7 @@ CLICKS = {
     "no filter of rows": (types("row-filter", ""), told("rows-said", ALL)),
     "rows far below": ("document.getElementById('rows').scrollTop = 300000", "[...document.querySelectorAll('#rows tr[aria-rowindex]')].some(r => Number(r.ariaRowIndex) > 9000)"),
     "a position": (goes("WIDE/abs:5000"), told("at-said", "chainage 5000")),
-    "the history of an asset": (goes("asset/10"), f"{told('lost-said', 'gone')} && {told('entered', 'e9')}"),
+    "the history of an asset": (goes("asset/10"), f"{told('past-said', 'entered')} && {told('entered', 'e9')}"),
     "an edit": (goes("edit/100"), f"{told('taken-said', 'nothing')} && {told('record', 'link')}"),
     "the wide route again": (goes("WIDE"), f"{drawn('WIDE', 0)} && {told('rows-said', ALL)}"),
     "an asset that is sought": (finds("asset", "1000"), told("find-said", "one stretch")),

@@ -87,7 +87,7 @@ def test_a_route_is_shown_and_moved_through(page):
     assert page.fragment() == "#A1"
     browser.clicks("#in")
     page.draws("A1", 2000, 6000)
-    assert page.fragment() == "#A1/chainage:2.000..6.000"
+    assert page.fragment() == "#A1/abs:2400..abs:7000"
     browser.clicks("#on")
     page.draws("A1", 4000, 8000)
     browser.clicks("#on")
@@ -126,7 +126,7 @@ def test_the_wheel_zooms_where_it_points_and_is_one_step_back(page):
     browser = page.browser
     page.opens_route("LONG")
     wheel(page, 1_500_000, -400, steps=3)
-    browser.waits_for("less", lambda browser: page.drawn()[2] - page.drawn()[1] < 2_000_000 and browser.text("#route-said").startswith("From"))
+    browser.waits_for("less", lambda browser: page.drawn()[2] - page.drawn()[1] < 2_000_000 and browser.text("#route-said").startswith("Measures"))
     _, start, end = page.drawn()
     # the place under the wheel stays, to a pixel
     assert abs((1_500_000 - start) / (end - start) - 0.25) < 0.01
@@ -191,6 +191,12 @@ def test_one_value_has_one_shade(page):
     assert len(shades) == 8 and len({shade for _, shade in shades}) == 3 and len({tuple(pair) for pair in shades}) == 3, shades
     legend = dict(browser.runs("return [...document.querySelectorAll('#classes .swatch')].map(s => [s.parentNode.textContent.split(':')[0], getComputedStyle(s).backgroundColor])"))
     assert all(legend[value] == shade for value, shade in shades)
+    # neighbours of different values are parted, on each side; those of one value are not
+    cuts = "return [...document.querySelectorAll('[data-cut]')].map(e => [e.closest('[data-class]').dataset.class, e.getAttribute('d')])"
+    assert browser.runs(cuts) == [["LANES", "M2041 -65v130M3083 -65v130M4125 -65v130"]] * 2
+    assert posted(page.port, "edits", sheet_of("w9,supersede,60,LANES,A1,B,abs,2000,3000,3,0"))[0] == 200
+    browser.clicks("#refresh")
+    browser.waits_for("one value", lambda browser: browser.runs(cuts) == [["LANES", "M2041 -65v130"]] * 2)
     # also elsewhere on the route
     browser.clicks("#in")
     page.draws("A1", 2000, 6000)
@@ -207,12 +213,13 @@ def test_a_stretch_is_asked_by_measure(page):
     assert page.fields("by", "from", "to") == ["abs", "0", "9000"]
     page.types_stretch("3000", "6000")
     page.draws("A1", 2500, 5000)
-    browser.shows("#route-said", "From 2.500 m to 5.000 m of 8.000 m: measures 3000 to 6000.")
-    assert page.fragment() == "#A1/abs:3000..6000" and page.fields("by", "from", "to") == ["abs", "3000", "6000"]
+    browser.shows("#route-said", "Measures 3000 to 6000: from 2.500 m to 5.000 m of 8.000 m.")
+    assert page.fragment() == "#A1/abs:3000..abs:6000" and page.fields("by", "from", "to") == ["abs", "3000", "6000"]
     page.pictured("by_measure")
     # an end that is left empty is that of the route
     page.types_stretch("", "3000")
     page.draws("A1", 0, 2500)
+    assert page.fragment() == "#A1/..abs:3000"
     # the other methods say the same stretch
     for method, start, end in [("rel", "KM2-2", "KM2+2498"), ("int", "0/1", "5/16"), ("chainage", "0.000", "2.500"), ("abs", "0", "3000")]:
         page.chooses("#by", method)
@@ -220,10 +227,16 @@ def test_a_stretch_is_asked_by_measure(page):
     page.chooses("#by", "rel")
     page.types_stretch("KM2+98", "KM2+1998")
     page.draws("A1", 100, 2000)
-    assert page.fragment() == "#A1/rel:KM2+98..KM2+1998"
+    assert page.fragment() == "#A1/rel:KM2+98..rel:KM2+1998"
     page.chooses("#by", "int")
     page.types_stretch("1/4", "1/2")
     page.draws("A1", 2000, 4000)
+    # each is a step for Back and for Forward
+    by_referent, by_measure = ("#A1/rel:KM2+98..rel:KM2+1998", 100, 2000, "rel"), ("#A1/..abs:3000", 0, 2500, "abs")
+    for step, (fragment, start, end, method) in [("back", by_referent), ("back", by_measure), ("forward", by_referent)]:
+        browser.runs(f"history.{step}()")
+        page.draws("A1", start, end)
+        assert page.fragment() == fragment and page.fields("by") == [method]
     assert browser.complaints() == []
 
 
@@ -234,29 +247,49 @@ def test_an_end_that_is_no_whole_measure_is_kept(page):
     assert page.fields("from", "to") == ["1201.200", "8000"]
     browser.types("#to", "6000" + ENTER)
     page.draws("A1", 1001, 5000)
+    assert page.fragment() == "#A1/chainage:1.001..abs:6000"
+    # a measure with decimals is at the nearest millimetre
+    page.types_stretch("1201.8", "6000.5")
+    page.draws("A1", 1002, 5001)
+    assert page.fragment() == "#A1/abs:1201.8..abs:6000.5" and page.fields("from", "to") == ["1201.8", "6000.5"]
 
 
 REFUSED = [
-    ("abs", "1", "9001", "Error: To: OffRoute: the position is not on the route. A1 has measures from 0 to 9000, and 8.000 m."),
-    ("abs", "9001", "9002", "Error: From: OffRoute"),
-    ("abs", "x", "9000", "Error: From: Malformed:pos: pos cannot be read"),
-    ("abs", "1", "1.5", "Error: To: Malformed:pos"),
-    ("rel", "KM2+5", "KM9+7", "Error: To: NoRef: the referent is not on this route."),
-    ("abs", "2000", "1000", "Error: From must be before To: they are at 1.667 m and 0.833 m."),
-    ("chainage", "x", "1", "Error: From: A chainage is metres with at most three decimals"),
-    ("chainage", "7", "100", "Error: To: The route ends at 8.000 m."),
+    ("abs", "1", "9001", "to", "To lies off the route, whose measures are 0 to 9000."),
+    ("abs", "9001", "9002", "from", "From lies off the route, whose measures are 0 to 9000."),
+    ("abs", "1", "9000.001", "to", "To lies off the route, whose measures are 0 to 9000."),
+    ("abs", "x", "9000", "from", "From cannot be read. Write a measure, as 3000."),
+    ("abs", "2000", "1000", "to", "From must lie before To."),
+    ("rel", "KM2+5", "KM9+7", "to", "To is said from a referent that is not on the route. It has KM2."),
+    ("rel", "KM2+5", "KM2+8000", "to", "To lies off the route, which is 8.000 m long."),
+    ("int", "1/3", "3/2", "to", "To cannot be read. Write a proportion from 0/1 to 1/1, as 1/3."),
+    ("chainage", "x", "1", "from", "From cannot be read. Write metres with at most three decimals, as 12.5."),
+    ("chainage", "7", "100", "to", "To lies off the route, which is 8.000 m long."),
 ]
+
+
+# The field with the focus, the one that is said to be wrong, and where it is said why.
+BLAMED = """
+const wrong = [...document.querySelectorAll('[aria-invalid=true]')];
+return [document.activeElement.id, wrong[0]?.id, wrong.map(e => e.getAttribute('aria-describedby'))];
+"""
 
 
 def test_an_end_that_is_refused_is_told(page):
     browser = page.browser
     page.opens_route("A1")
-    for method, start, end, told in REFUSED:
+    for method, start, end, wrong, told in REFUSED:
         page.chooses("#by", method)
         page.types_stretch(start, end)
-        browser.shows("#route-said", told)
+        browser.shows("#ends-said", f"Error: {told}")
         assert page.drawn() == ("A1", 0, 8000) and page.fields("from", "to") == [start, end] and page.fragment() == "#A1"
+        # at the field that is wrong, where whoever typed goes on
+        assert browser.runs(BLAMED) == [wrong, wrong, ["ends-said"]], told
     page.pictured("a_refused_end")
+    page.chooses("#by", "abs")
+    page.types_stretch("3000", "6000")
+    page.draws("A1", 2500, 5000)
+    assert browser.text("#ends-said") == "" and browser.runs(BLAMED)[2] == []
 
 
 # ---- four: addresses
@@ -266,7 +299,7 @@ def test_an_address_shows_its_route_stretch_and_place(page):
     browser = page.browser
     page.goes_to("#A1/abs:1200..3600/rel:KM2+998")
     page.draws("A1", 1000, 3000)
-    browser.shows("#at-said", "A1, rel KM2+998: chainage 1.000 m.")
+    browser.shows("#at-said", "A1: measure 1200, chainage 1.000 m.")
     assert page.fields("by", "from", "to", "method", "pos") == ["abs", "1200", "3600", "rel", "KM2+998"]
     browser.runs("location.hash = 'R7'")
     page.draws("R7", 0, 1)
@@ -276,12 +309,17 @@ def test_an_address_shows_its_route_stretch_and_place(page):
     browser.shows("#at-said", "chainage 1.000 m.")
     browser.runs("location.hash = 'A1/int:1/4..1/2/int:1/3'")
     page.draws("A1", 2000, 4000)
-    browser.shows("#at-said", "A1, int 1/3: chainage 2.666 m.")
+    browser.shows("#at-said", "A1: measure ≈ 3199.200, chainage 2.666 m.")
     browser.runs("location.hash = 'B1'")
     browser.shows("#route-said", "Error: NoRoute: there is no route of this name")
     page.pictured("no_route")
     browser.runs("location.hash = 'A1/abs:9..9001'")
-    browser.shows("#route-said", "Error: To: OffRoute: the position is not on the route. A1 has measures from 0 to 9000, and 8.000 m. The whole route is shown.")
+    browser.shows("#route-said", "The whole route is shown. Measures 0 to 9000")
+    assert browser.text("#ends-said") == "Error: To lies off the route, whose measures are 0 to 9000." and page.fields("from", "to") == ["9", "9001"]
+    # two methods
+    browser.runs("location.hash = 'A1/rel:KM2+998..abs:3600'")
+    page.draws("A1", 1000, 3000)
+    assert page.fields("by", "from", "to") == ["rel", "KM2+998", "KM2+2998"] and browser.text("#ends-said") == ""
     # an address of a page before this one
     browser.runs("location.hash = 'route=A1&from=1000&to=3000'")
     page.draws("A1", 1000, 3000)
@@ -289,11 +327,30 @@ def test_an_address_shows_its_route_stretch_and_place(page):
     browser.shows("#address-said", "Error: The address names no route.")
 
 
+def said(method, pos):
+    return {"method": method, "pos": pos}
+
+
 ADDRESSES = [
     ("A38", {"route": "A38"}),
-    ("A38/abs:13000..14000", {"route": "A38", "stretch": {"method": "abs", "from": "13000", "to": "14000"}}),
-    ("A-1/int:1/3..1/2/rel:KM2-5", {"route": "A-1", "stretch": {"method": "int", "from": "1/3", "to": "1/2"}, "place": {"method": "rel", "pos": "KM2-5"}}),
-    ("A1/chainage:1.000..2.000/asset:7", {"route": "A1", "stretch": {"method": "chainage", "from": "1.000", "to": "2.000"}, "asset": "7"}),
+    ("A38/abs:13000", {"route": "A38", "place": said("abs", "13000")}),
+    ("A38/abs:13000..abs:14000", {"route": "A38", "stretch": {"from": said("abs", "13000"), "to": said("abs", "14000")}}),
+    ("A38/abs:13000..rel:KM14-1/asset:7", {"route": "A38", "stretch": {"from": said("abs", "13000"), "to": said("rel", "KM14-1")}, "asset": "7"}),
+    ("A-1/int:1/3..int:1/2/rel:KM2-5", {"route": "A-1", "stretch": {"from": said("int", "1/3"), "to": said("int", "1/2")}, "place": said("rel", "KM2-5")}),
+    ("A1/chainage:1.000..chainage:2.000/asset:7", {"route": "A1", "stretch": {"from": said("chainage", "1.000"), "to": said("chainage", "2.000")}, "asset": "7"}),
+    ("A1/..abs:5", {"route": "A1", "stretch": {"to": said("abs", "5")}}),
+    ("A1/rel:KM2+5../abs:7", {"route": "A1", "stretch": {"from": said("rel", "KM2+5")}, "place": said("abs", "7")}),
+]
+
+
+# Addresses that the page wrote before.
+OLDER = [
+    ("A38/abs:13000..14000", "A38/abs:13000..abs:14000"),
+    ("A38/rel:KM2-5..KM2+5/int:1/3", "A38/rel:KM2-5..rel:KM2+5/int:1/3"),
+    ("A38/abs:..14000", "A38/..abs:14000"),
+    ("A38/abs:13000..", "A38/abs:13000.."),
+    ("route=A38&from=1000&to=5000", "A38/chainage:1.000..chainage:5.000"),
+    ("route=A38&to=5000", "A38/..chainage:5.000"),
 ]
 
 
@@ -303,6 +360,8 @@ def test_addresses_are_read_as_they_are_written(page):
     for text, address in ADDRESSES:
         assert browser.runs("return JSON.parse(JSON.stringify(readAddress(arguments[0])))", text) == address
         assert browser.runs("return writeAddress(arguments[0])", address) == text
+    for older, text in OLDER:
+        assert browser.runs("return writeAddress(readAddress(arguments[0]))", older) == text
     assert browser.runs("return [readAddress(''), readAddress('a b').route ?? null, readAddress('%').route ?? null]") == [None, None, None]
 
 
@@ -312,8 +371,9 @@ def test_numbers_are_exact(page):
     marks = [[0, 0], [5000, 6000], [8000, 9000]]
     for chainage, text in [(0, "0"), (2500, "3000"), (1, "1.200"), (5000, "6000"), (7999, "8999"), (8000, "9000")]:
         assert browser.runs("return decimal(measureAt(arguments[0], arguments[1]))", marks, chainage) == text
-    for proportion, mm in [("0/1", 0), ("1/1", 9_999_999_999), ("1/3", 3_333_333_333), ("1/2", 5_000_000_000)]:
-        assert browser.runs("return chainageOf(arguments[0], 9999999999)", proportion) == mm
+    for measure, at, nearest in [("0.0", 0, 0), ("1.2", 1, 1), ("1.8", 1, 2), ("5999.9", 4999, 5000), ("6000.5", 5000, 5001), ("9000.", 8000, 8000), ("9000.1", None, None)]:
+        assert browser.runs("return [false, true].map(isEnd => chainageOf(arguments[0], arguments[1], isEnd))", marks, measure) == [at, nearest], measure
+    assert browser.runs("return chainageOf([[0, 5], [10, 6]], '4.9', false)") is None
     for text, mm in [("12", 12000), ("12.5", 12500), ("0.001", 1), ("x", None), ("1.2345", None), ("-1", None)]:
         assert browser.runs("return millimetres(arguments[0])", text) == mm
     assert browser.runs("return [metres(9999999999), proportionOf(2500, 8000), short('7/3'), short('3000')]") == ["9999999.999", "5/16", "≈ 2.333", "3000"]
@@ -329,7 +389,7 @@ def test_a_click_asks_for_the_millimetre_under_it(page):
     page.clicks_at(2500.5)
     browser.shows("#at-said", "chainage 2.500 m. Link 1, mm 2500; the route runs along the link.")
     assert page.rows("#hits") == [["10", "SPEED", "80", "both", "0", "162", "1", "2500"], ["11", "RAIL", "STEEL", "left", "300", "163", "1", "2500"]]
-    assert page.fragment() == "#A1/chainage:2.490..2.510/chainage:2.500" and page.fields("method", "pos") == ["abs", "3000"]
+    assert page.fragment() == "#A1/chainage:2.490..chainage:2.510/chainage:2.500" and page.fields("method", "pos") == ["abs", "3000"]
     assert browser.runs("return document.querySelectorAll('[data-mark=asked]').length") == 1
     page.pictured("a_click")
     page.clicks_at(2499.5)
@@ -337,13 +397,13 @@ def test_a_click_asks_for_the_millimetre_under_it(page):
     assert [row[0] for row in page.rows("#hits")] == ["11"]
     # the same place in other words; those that can be asked lead to it
     assert browser.text("#ways li").splitlines() == [
-        "chainage, in metres: 2.499",
         "measure: 14994/5 (≈ 2998.800)",
-        "proportion: 2499/8000",
         "from a referent: KM2+2497",
+        "chainage, in metres: 2.499",
+        "proportion: 2499/8000",
         "on link 1: 2499 mm",
     ]
-    assert browser.runs("return [...document.querySelectorAll('#ways a')].map(a => a.hash)") == ["#A1/chainage:2.499", "#A1/int:2499/8000", "#A1/rel:KM2+2497"]
+    assert browser.runs("return [...document.querySelectorAll('#ways a')].map(a => a.hash)") == ["#A1/rel:KM2+2497", "#A1/chainage:2.499", "#A1/int:2499/8000"]
 
 
 def test_a_click_on_a_point_asks_for_its_millimetre(page):
@@ -361,11 +421,12 @@ TYPED = [
     ("rel", "KM2+500", "chainage 0.502 m. Link 1, mm 502"),
     ("int", "1/1", "chainage 7.999 m. Link 2, mm 0; the route runs against the link"),
     ("chainage", "8", "chainage 7.999 m. Link 2, mm 0"),
-    ("abs", "9001", "Error: OffRoute: the position is not on the route"),
-    ("rel", "KM9+1", "Error: NoRef: the referent is not on this route"),
-    ("int", "2/1", "Error: Malformed:pos: pos cannot be read, or a number in it is too large or too fine."),
-    ("int", "1/1000001", "Error: Malformed:pos: pos cannot be read, or a number in it is too large or too fine."),
-    ("chainage", "8.001", "Error: The route ends at 8.000 m."),
+    ("abs", "3000.9", "chainage 2.500 m. Link 1, mm 2500"),
+    ("abs", "9001", "Error: The position lies off the route, whose measures are 0 to 9000."),
+    ("rel", "KM9+1", "Error: The position is said from a referent that is not on the route. It has KM2."),
+    ("int", "2/1", "Error: The position cannot be read. Write a proportion from 0/1 to 1/1, as 1/3."),
+    ("int", "1/1000001", "Error: The position cannot be read. Write a proportion"),
+    ("chainage", "8.001", "Error: The position lies off the route, which is 8.000 m long."),
     ("abs", "", "Error: Type a position."),
 ]
 
@@ -377,6 +438,7 @@ def test_a_typed_position(page):
         page.chooses("#method", method)
         browser.types("#pos", pos + ENTER)
         browser.shows("#at-said", told)
+        assert browser.runs("return document.getElementById('pos').getAttribute('aria-invalid')") == str(told.startswith("Error")).lower()
     page.chooses("#method", "int")
     browser.types("#pos", "1/2")
     browser.clicks("#asking button")
@@ -455,8 +517,7 @@ def test_the_rows_are_sorted_filtered_and_saved(page):
     page.server.stop()
     saved = text.splitlines()
     told = run("rows", str(page.folder.parent / "roads.db"), "--route", "A1").stdout.decode().splitlines()
-    # the column of the edit has the name that it has over HTTP
-    assert saved[0] == told[0].replace("entered_by", "entry")
+    assert saved[0] == told[0]
     assert sorted(saved[1:]) == sorted(told[1:]) and text.endswith("\n")
 
 
@@ -492,7 +553,7 @@ def test_an_asset_is_found_and_shown(page):
     browser.shows("#results", "LONG: measures 1000000 to 1000001 (1000.000 to 1000.001 m), both")
     browser.clicks("#results a")
     page.draws("LONG", 995_000, 1_005_001)
-    assert page.fragment() == "#LONG/chainage:995.000..1005.001/asset:13"
+    assert page.fragment() == "#LONG/chainage:995.000..chainage:1005.001/asset:13"
     for number, told in [("99", "Error: NoAsset"), ("x", "Error: Malformed:asset"), ("0", "Error: Malformed:asset")]:
         assert page.finds("asset", number).startswith(told)
         assert browser.text("#results") == ""
@@ -521,4 +582,4 @@ def test_a_referent_leads_to_its_place(page):
     page.opens()
     page.finds("ref", "KM2")
     page.browser.clicks("#results a")
-    page.browser.shows("#at-said", "A1, rel KM2+0: chainage 0.002 m.")
+    page.browser.shows("#at-said", "A1: measure ≈ 2.400, chainage 0.002 m.")

@@ -174,7 +174,7 @@ def test_sums_that_are_not_understood(words):
     is_misused(run(*words, given=FIRST))
 
 
-NAMES_OF_JOBS = ["edit", "survey", "check", "tidy", "serve", "at", "where", "translate", "strip", "diagram", "totals", "lengths", "find", "route", "ask", "list", "rows", "gone", "log", "audit", "page"]
+NAMES_OF_JOBS = ["edit", "survey", "check", "tidy", "serve", "at", "where", "translate", "strip", "diagram", "totals", "lengths", "find", "route", "ask", "list", "rows", "gone", "history", "log", "audit", "page"]
 
 
 OPTIONS = {
@@ -182,7 +182,9 @@ OPTIONS = {
     b"--resume": (b"Goes on after the last record of the sheet that was accepted before", ["edit", "survey"]),
     b"--all": (b"Does the sheet only if no record of it is refused", ["edit", "survey"]),
     b"--whole": (b"Does the sheet only if its last line has an end", ["edit", "survey"]),
-    b"--text": (b"Writes each cell as text, for a spreadsheet", ["lengths", "list", "rows", "gone", "log"]),
+    b"--text": (b"Writes each cell as text, for a spreadsheet", ["lengths", "list", "rows", "gone", "history", "log"]),
+    b"--on-links": (b"Stretches of links, with sides seen along the link", ["rows"]),
+    b"--since <N>": (b"By edits from this number on", ["gone"]),
     b"--survey": (b"The sheet is a survey", ["check", "tidy"]),
     b"--log": (b"Writes a line for each request on standard error, and a count at the end", ["serve"]),
     b"--end-on-fault": (b"Ends with status 3 once the inventory was not written", ["serve"]),
@@ -248,17 +250,54 @@ def test_the_ends_of_a_diagram_stand_anywhere(words):
     ends(run("diagram", *words), b"", 1, b"roadlrs: NoRoute\n")
 
 
-NO_CHAINAGES = ["x", "+5", "1.0", " 5", "5 ", "1/3", "10000000001", "9" * 30, "\uff15"]
+NO_PLACES = ["x", "+5", "1.0", " 5", "5 ", "1/3", "10000000001", "9" * 30, "\uff15", "abs:", "abs:1/3", "abs: 5", "rel:KM2", "rel:km2+5", "int:1", "int:3/2", "link:5", "ABS:5", ":5", "int/1/3"]
+
+PLACES = ["abs:5", "abs:100000000000", "rel:KM2+500", "rel:KM2-0", "int:1/3", "int:0/1", "0", "007"]
 
 
 @pytest.mark.parametrize("db", [":memory:", "/dev/null/db"])
-@pytest.mark.parametrize("text", NO_CHAINAGES + ["", "-5"])
-def test_chainages_that_cannot_be_read(text, db):
+@pytest.mark.parametrize("text", NO_PLACES + ["", "-5"])
+def test_places_that_cannot_be_read(text, db):
     for name in ["from", "to"]:
-        said = f"{name.upper()} is no chainage in millimetres"
+        said = f"{name.upper()} is no place: millimetres, or abs:, rel: or int: before a position"
         refuses_word(run("diagram", db, "A1", f"--{name}={text}"), said)
-        if text in NO_CHAINAGES:
+        refuses_word(run("rows", db, "--route", "A1", f"--{name}={text}"), said)
+        if text in NO_PLACES:
             refuses_word(run("diagram", db, "A1", f"--{name}", text, "SPEED"), said)
+
+
+@pytest.mark.parametrize("text", PLACES)
+def test_places_of_a_route_that_is_not_there(text):
+    for words in [["diagram", ":memory:", "A1", "--from", text], ["rows", ":memory:", "--route", "A1", "--to", text], ["where", ":memory:", "A1", text]]:
+        ends(run(*words), b"", 1, b"roadlrs: NoRoute\n")
+
+
+# two options that are two questions, or an option that does not stand beside this list
+NO_PAIRS = [
+    (["rows", "--exact", "--on-links"], "--exact and --on-links are two forms"),
+    (["list", "routes", "--route", "A1"], "--route stands only beside refs, marks and pieces"),
+    (["list", "links", "--route", "A1", "--exact"], "--route stands only beside refs, marks and pieces"),
+    (["list", "classes", "--exact"], "--exact stands only beside refs"),
+    (["list", "marks", "--exact"], "--exact stands only beside refs"),
+    (["list", "pieces", "--exact", "--route", "A1"], "--exact stands only beside refs"),
+    (["list", "roads", "--route", "A1"], "WHAT is none of routes, links, classes, refs, marks and pieces"),
+    (["list", "refs", "--route", "a1"], "ROUTE is no route name"),
+    (["gone", "--edit", "0"], "EDIT is no number of an edit"),
+    (["gone", "--since", "0"], "SINCE is no number of an edit"),
+    (["gone", "--until", "x"], "UNTIL is no number of an edit"),
+    (["gone", "--class", "speed"], "CLASS is no class name"),
+    (["log", "--until", "0"], "UNTIL is no number of an edit"),
+    (["log", "2", "--key", "k1", "--until", "3"], "FROM and --key KEY are two questions"),
+    (["log", "--key", "k1", "--until", "3"], "--until and --key KEY are two questions"),
+    (["log", "--sum", "--key", "k1", "--until", "3"], "--sum and --key KEY are two questions"),
+    (["log", "3", "--sum", "--until", "3"], "--until and --sum are two questions"),
+]
+
+
+@pytest.mark.parametrize("words, said", NO_PAIRS)
+def test_options_that_do_not_stand_beside_each_other(words, said):
+    for db in [":memory:", "/dev/null/db"]:
+        refuses_word(run(words[0], db, *words[1:]), said)
 
 
 @pytest.mark.parametrize(
@@ -266,8 +305,8 @@ def test_chainages_that_cannot_be_read(text, db):
     [
         (["a1", "speed", "--from", "x", "--to", "x"], "ROUTE is no route name"),
         (["A1", "SPEED", "speed", "--from", "x", "--to", "x"], "CLASS is no class name"),
-        (["A1", "SPEED", "--to", "x", "--from", "x"], "FROM is no chainage in millimetres"),
-        (["A1", "SPEED", "--to", "x", "--from", "5"], "TO is no chainage in millimetres"),
+        (["A1", "SPEED", "--to", "x", "--from", "x"], "FROM is no place: millimetres, or abs:, rel: or int: before a position"),
+        (["A1", "SPEED", "--to", "x", "--from", "5"], "TO is no place: millimetres, or abs:, rel: or int: before a position"),
     ],
 )
 def test_the_first_word_of_a_diagram_that_cannot_be_read_is_named(words, said):
@@ -299,8 +338,8 @@ def test_help_on_diagrams():
     for line in [
         b"Draws a straight-line diagram of a route as SVG\n\nUsage: roadlrs diagram <DB> <ROUTE> [CLASS]...\n",
         b"\n  [CLASS]...  The names of classes; all where none is named\n",
-        b"\n      --from <C>  From this chainage, in millimetres; else from the start\n",
-        b"\n      --to <C>    To this chainage, in millimetres; else to the end\n",
+        b"\n      --from <PLACE>  From this place: 3000 (mm), abs:3000, rel:KM2+500 or int:1/3\n",
+        b"\n      --to <PLACE>    To this place; else to the end\n",
         b"\nExample: roadlrs diagram roads.db A1 SPEED > a1.svg\n",
     ]:
         assert line in said, (line, said)
@@ -326,6 +365,13 @@ MISUSED_REPORTS = [
     ["rows", ":memory:", "--asset", "1", "--asset", "2"],
     ["gone", ":memory:", "--edit", "0"],
     ["gone", ":memory:", "1"],
+    ["gone", ":memory:", "--since"],
+    ["gone", ":memory:", "--until", "1", "--until", "2"],
+    ["history", ":memory:"],
+    ["history", ":memory:", "0"],
+    ["history", ":memory:", "1", "2"],
+    ["rows", ":memory:", "--exact", "--exact"],
+    ["list", ":memory:", "refs", "--route"],
     ["log", ":memory:", "0"],
     ["log", ":memory:", "--key", "a key"],
     ["log", ":memory:", "1", "--key", "k1"],

@@ -203,14 +203,29 @@ def test_refusals():
         refuses(run("diagram", db, "A1", "NONE", "--from", "9000"), "NoClass:0")
 
 
+def test_ends_by_positions():
+    """A position at an end is the whole millimetre that is nearest, a half going up."""
+    with tempfile.TemporaryDirectory() as folder:
+        db = inventory(folder)
+        for first, last, start, end in [("abs:3000", "abs:6000", 2500, 5000), ("int:1/3", "int:1/2", 2667, 4000), ("2500", "abs:8999", 2500, 7999), ("int:1/16000", "abs:9000", 1, 8000)]:
+            by_positions, by_chainages = ["--from", first, "--to", last], ["--from", str(start), "--to", str(end)]
+            assert diagram(db, "A1", *by_positions) == diagram(db, "A1", *by_chainages), by_positions
+            told = [run("rows", str(db), "--route", "A1", *words) for words in (by_positions, by_chainages)]
+            assert told[0].stdout == told[1].stdout and told[0].status == told[1].status == 0, told
+        for words, cause in [(["--from", "abs:9001"], "OffRoute:from"), (["--to", "rel:NONE+5"], "NoRef:to"), (["--from", "rel:NONE+5", "--to", "abs:9001"], "NoRef:from")]:
+            refuses(run("diagram", str(db), "A1", *words), cause)
+            refuses(run("rows", str(db), "--route", "A1", *words), cause)
+        refuses(run("rows", str(db), "--from", "abs:3000"), "NoRoute")
+
+
 def test_words_that_cannot_be_read():
     for db in [":memory:", "/dev/null/db"]:
         for words, said in [
             (["a1"], "ROUTE is no route name"),
             (["A1", "speed"], "CLASS is no class name"),
-            (["A1", "--from", "1.5"], "FROM is no chainage in millimetres"),
-            (["A1", "--to", "10000000001"], "TO is no chainage in millimetres"),
-            (["A1", "--from", "x", "--to", "y"], "FROM is no chainage in millimetres"),
+            (["A1", "--from", "1.5"], "FROM is no place: millimetres, or abs:, rel: or int: before a position"),
+            (["A1", "--to", "10000000001"], "TO is no place: millimetres, or abs:, rel: or int: before a position"),
+            (["A1", "--from", "x", "--to", "y"], "FROM is no place: millimetres, or abs:, rel: or int: before a position"),
         ]:
             refuses_word(run("diagram", db, *words), said)
 

@@ -77,6 +77,21 @@ def test_the_end_of_a_link(db):
     assert said("where", db, "link", "8", "1500") == said("where", db, "link", "8", "1499")
 
 
+NO_PLACE = "PLACE is no place: millimetres, or abs:, rel: or int: before a position"
+
+
+@pytest.mark.parametrize("method, position", [("abs", "100"), ("abs", "800"), ("abs", "801"), ("rel", "P1+5"), ("rel", "P2-7"), ("int", "1/3"), ("int", "0/1"), ("int", "1/1")])
+def test_a_position_is_in_its_millimetre(db, method, position):
+    """`where` at a position says what it says at the chainage of the millimetre in which `at` has the position."""
+    chainage = said("at", db, "C1", method, position).split()[1]
+    assert said("where", db, "C1", f"{method}:{position}") == said("where", db, "C1", chainage)
+
+
+@pytest.mark.parametrize("place, name", [("abs:99", "OffRoute"), ("abs:901", "OffRoute"), ("rel:P1+9999", "OffRoute"), ("rel:P9+0", "NoRef")])
+def test_positions_off_the_route(db, place, name):
+    ends(run("where", db, "C1", place), b"", 1, f"roadlrs: {name}\n".encode())
+
+
 @pytest.mark.parametrize(
     "words, name",
     [
@@ -98,8 +113,13 @@ def test_where_nothing_is(db, words, name):
     [
         (["c1", "5"], "ROUTE is no route name"),
         (["link", "5"], "ROUTE is no route name"),
-        (["C1", "5.0"], "CHAINAGE is no chainage in millimetres"),
-        (["C1", "10000000001"], "CHAINAGE is no chainage in millimetres"),
+        (["C1", "5.0"], NO_PLACE),
+        (["C1", "10000000001"], NO_PLACE),
+        (["C1", "abs:x"], NO_PLACE),
+        (["C1", "rel:P1"], NO_PLACE),
+        (["C1", "int:4/3"], NO_PLACE),
+        (["C1", "ABS:100"], NO_PLACE),
+        (["C1", "km:100"], NO_PLACE),
         (["C1", "5", "5"], "MM stands only behind the word link and LINK"),
         (["link", "0", "5"], "LINK is no link number"),
         (["link", "7", "-"], "MM is no millimetre of a link"),

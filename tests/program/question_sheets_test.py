@@ -22,9 +22,15 @@ MORE = sheet_of(
     "a8,retire,14,A1,abs,10",
 )
 
+
+def at_2500(key):
+    held = ["hit,10,SPEED,B,0,80,8", "hit,11,RAIL,L,600,W-beam,9", "hit,12,SIGN,R,1500,STOP,10", "hit,13,SURFACE,L,0,AC14,13"]
+    return [f"{key},{line}" for line in ["place,A1,2500,1,2500,+,4", *held]]
+
+
 # Each question with its reply lines, of an inventory of both sheets.
 ASKED = [
-    ("q1,at,A1,abs,3000,", ["q1,place,A1,2500,1,2500,+,4", "q1,hit,10,SPEED,B,0,80,8", "q1,hit,11,RAIL,L,600,W-beam,9", "q1,hit,12,SIGN,R,1500,STOP,10", "q1,hit,13,SURFACE,L,0,AC14,13"]),
+    ("q1,at,A1,abs,3000,", at_2500("q1")),
     ("q2,at,A1,rel,KM2+5000,", ["q2,place,A1,5002,2,2997,-,1", "q2,hit,10,SPEED,B,0,80,8"]),
     ("q3,at,A1,int,1/1000,", ["q3,place,A1,8,1,8,+,2", "q3,hit,11,RAIL,L,600,W-beam,9", "q3,hit,13,SURFACE,L,0,AC14,13"]),
     ("q4,translate,A1,int,1/3,abs", ["q4,position,A1,abs,3200"]),
@@ -35,6 +41,13 @@ ASKED = [
     ("q9,find,14,,,", ["q9,found,0"]),
     ("q10,segments,A1,L,SPEED SURFACE,", ["q10,segments,A1,L,3", "q10,segment,0,2500,-,AC14", "q10,segment,2500,4000,80,AC14", "q10,segment,4000,8000,80,-"]),
     ("q11,segments,A1,R,SURFACE,", ["q11,segments,A1,R,1", "q11,segment,0,8000,-"]),
+    ("q12,where,A1,2500,,", [*at_2500("q12"), "q12,positions,3", "q12,position,A1,abs,3000", "q12,position,A1,int,5/16", "q12,position,A1,rel,KM2+2498"]),
+    ("q13,where,A1,abs:3000,,", [*at_2500("q13"), "q13,positions,3", "q13,position,A1,abs,3000", "q13,position,A1,int,5/16", "q13,position,A1,rel,KM2+2498"]),
+    # a position stands in its millimetre, whose chainage is told
+    ("q14,where,A1,int:1/3,,", ["q14,place,A1,2666,1,2666,+,3", "q14,hit,10,SPEED,B,0,80,8", "q14,hit,11,RAIL,L,600,W-beam,9", "q14,hit,13,SURFACE,L,0,AC14,13", "q14,positions,3", "q14,position,A1,abs,15996/5", "q14,position,A1,int,1333/4000", "q14,position,A1,rel,KM2+2664"]),
+    ("q15,where,A1,rel:KM2+5000,,", ["q15,place,A1,5002,2,2997,-,1", "q15,hit,10,SPEED,B,0,80,8", "q15,positions,3", "q15,position,A1,abs,6002", "q15,position,A1,int,2501/4000", "q15,position,A1,rel,KM2+5000"]),
+    ("q16,where,link,2,2997,", ["q16,place,A1,5002,2,2997,-,1", "q16,hit,10,SPEED,B,0,80,8", "q16,positions,3", "q16,position,A1,abs,6002", "q16,position,A1,int,2501/4000", "q16,position,A1,rel,KM2+5000"]),
+    ("q17,where,link,01,0,", ["q17,place,A1,0,1,0,+,2", "q17,hit,11,RAIL,L,600,W-beam,9", "q17,hit,13,SURFACE,L,0,AC14,13", "q17,positions,3", "q17,position,A1,abs,0", "q17,position,A1,int,0/1", "q17,position,A1,rel,KM2-2"]),
 ]
 
 REFUSED = [
@@ -46,6 +59,13 @@ REFUSED = [
     ("r6,segments,A1,L,SPEED RAIL,", "r6,refused,NotExclusive:1"),
     ("r7,segments,A1,L,LIGHT SPEED,", "r7,refused,NoClass:0"),
     ("r8,segments,A1,B,SPEED,", "r8,refused,SideB"),
+    ("r9,where,B1,0,,", "r9,refused,NoRoute"),
+    ("s1,where,A1,8001,,", "s1,refused,OffRoute"),
+    ("s2,where,A1,abs:9001,,", "s2,refused,OffRoute"),
+    ("s3,where,A1,rel:KM9+1,,", "s3,refused,NoRef"),
+    ("s4,where,link,4,0,", "s4,refused,NoLink"),
+    ("s5,where,link,1,5001,", "s5,refused,OffRoute"),
+    ("s6,where,link,3,0,", "s6,refused,OffRoute"),
 ]
 
 MALFORMED = [
@@ -75,6 +95,23 @@ MALFORMED = [
     ("o2,segments,A1,L,SPEED ,", "o2,refused,Malformed:c"),
     ("o3,segments,A1,L,speed,", "o3,refused,Malformed:c"),
     ("o4,segments,A1,L,SPEED,x", "o4,refused,Malformed:d"),
+    ("p1,where,a1,5,,", "p1,refused,Malformed:a"),
+    ("p2,where,,5,,", "p2,refused,Malformed:a"),
+    ("p3,where,A1,,,", "p3,refused,Malformed:b"),
+    ("p4,where,A1,km:3,,", "p4,refused,Malformed:b"),
+    ("p5,where,A1,abs:,,", "p5,refused,Malformed:b"),
+    ("p6,where,A1,abs: 3,,", "p6,refused,Malformed:b"),
+    ("p7,where,A1,-1,,", "p7,refused,Malformed:b"),
+    ("p8,where,A1,10000000001,,", "p8,refused,Malformed:b"),
+    ("p9,where,A1,5,5,", "p9,refused,Malformed:c"),
+    ("t1,where,A1,5,,x", "t1,refused,Malformed:d"),
+    ("t2,where,link,0,5,", "t2,refused,Malformed:b"),
+    ("t3,where,link,abs:1,5,", "t3,refused,Malformed:b"),
+    ("t4,where,link,1,,", "t4,refused,Malformed:c"),
+    ("t5,where,link,1,1000000001,", "t5,refused,Malformed:c"),
+    ("t6,where,link,1,5,x", "t6,refused,Malformed:d"),
+    ("t7,where,LINK,1,5,", "t7,refused,Malformed:c"),
+    ("t8,where,Link,1,5,", "t8,refused,Malformed:a"),
     ("o5,segments,A1,L," + " ".join(["SPEED"] * 1001) + ",", "o5,refused,Malformed:c"),
 ]
 
@@ -114,15 +151,17 @@ def test_questions_are_answered_in_their_order(roads, tmp_path):
 
 
 def test_the_answers_are_those_of_the_single_questions(roads):
-    """Each `at`, `translate` and `find` beside the command of its name, whose lines have spaces for commas."""
+    """Each question but `segments` beside the command of its name, whose lines have spaces for commas."""
     for asked, expected in ASKED:
         key, name, *fields = asked.rstrip(",").split(",")
         if name == "segments":
             continue
         said = run(name, str(roads), *fields)
-        told = [line.split(",")[1:] for line in expected]
-        if name == "at":
+        told = [line.split(",")[1:] for line in expected if f"{key},positions," not in line]
+        if name in ("at", "where"):
             told[0] = told[0][:-1]
+        if name == "where":
+            told = [["position", *row[2:]] if row[0] == "position" else row for row in told]
         if name == "find":
             told = told[1:]
         if name == "translate":

@@ -34,6 +34,7 @@ EXAMPLES = {
     "list": ("list roads.db routes", 0, None),
     "rows": ("rows roads.db --route A1 --class SPEED", 1, "NoRoute"),
     "gone": ("gone roads.db --edit 17", 1, "NoEdit"),
+    "history": ("history roads.db 10", 1, "NoAsset"),
     "log": ("log roads.db > log.csv", 0, None),
     "audit": ("audit roads.db", 0, None),
 }
@@ -119,7 +120,8 @@ def test_classes_that_cannot_be_read():
 
 def test_assets_that_cannot_be_read():
     for text in ["", "0", "000", "x", "1.0", "+1", " 1", "1 ", "1000000000001", "9" * 30, "\uff11"]:
-        is_unreadable("find", [text], "ASSET is no asset number")
+        for name in ["find", "history"]:
+            is_unreadable(name, [text], "ASSET is no asset number")
     for text in ["1", "0010", "1000000000000"]:
         refuses(ask("find", text), "NoAsset")
 
@@ -159,6 +161,6 @@ def test_help_names_each_command():
 
 
 def test_the_version_names_the_kit_that_proved_it():
-    kit = re.search(r"the program names `([^`]+)`", (TOP / "README.md").read_text()).group(1)
+    kit = re.search(r"Proved with the kit `([^`]+)`", (TOP / "README.md").read_text()).group(1)
     for word in ["--version", "-V"]:
-        ends(run(word), f"roadlrs 0.8.17, proved by {kit}\n".encode(), 0)
+        ends(run(word), f"roadlrs 0.8.18, proved by {kit}\n".encode(), 0)

@@ -124,7 +124,8 @@ impl<S: Start, T: Start> Files for StoredFiles<S, T> {
                 lock: Some(lock),
             })),
             Err(refusal) => {
-                self.is_refused = !refusal.may_be_taken;
+                // what was read while a program of SQLite's wrote the files says nothing of them
+                self.is_refused = !refusal.may_be_taken && lock.holds_still();
                 match refusal.into_fault() {
                     StoreFault::Memory => Err(OpenFault::Memory),
                     StoreFault::Store => Ok(None),

@@ -24,18 +24,25 @@ fn wanted(word: BadWord, method: Option<&str>) -> &'static str {
         BadWord::Destination => "no way to say a position; abs, int, rel:KM2 or link",
         BadWord::Side => "no side of an answer; L or R, seen along the route",
         BadWord::Class => "no class name; 1 to 8 of A-Z 0-9, as SPEED",
-        BadWord::From | BadWord::To | BadWord::Chainage => {
-            "no chainage; a whole number of millimetres from the route's start, as 3000"
+        BadWord::From | BadWord::To | BadWord::Place => {
+            "no place; as 3000 (mm from the route's start), abs:3000, rel:KM2+500 or int:1/3"
         }
         BadWord::Asset => "no asset number; a whole number from 1, as 1001",
-        BadWord::What => "no list; routes, links, classes, refs or marks",
-        BadWord::Edit | BadWord::Number => {
+        BadWord::What => "no list; routes, links, classes, refs, marks or pieces",
+        BadWord::RouteOfList | BadWord::ExactOfList => {
+            "a list without this option; --route is for refs, marks and pieces, --exact for refs"
+        }
+        BadWord::TwoForms => "a second form of rows; either --exact or --on-links",
+        BadWord::Edit | BadWord::Since | BadWord::Until | BadWord::Number => {
             "no number of an edit; a whole number from 1, as 8 in the reply KEY,done,8"
         }
         BadWord::Key => "no key; 1 to 40 of A-Z a-z 0-9 . : _ -, not - alone",
         BadWord::FromBesideKey => "a second question beside --key; either FROM or --key KEY",
+        BadWord::UntilBesideKey => "a second question beside --key; either --until N or --key KEY",
+        BadWord::UntilBesideSum =>
+            "a second question beside --sum; log DB N --sum sums up to edit N",
         BadWord::SumBesideKey => "a second question beside --sum; either --sum or --key KEY",
-        BadWord::NotLink => "not link; either ROUTE CHAINAGE, or link LINK MM",
+        BadWord::NotLink => "not link; either ROUTE PLACE, or link LINK MM",
         BadWord::Link => "no link number; a whole number from 1 to 999999, as 101",
         BadWord::Millimetre => {
             "no millimetre of a link; a whole number from the link's start, as 3000"

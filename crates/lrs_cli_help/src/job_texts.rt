@@ -12,7 +12,7 @@ fn route_in<'a>(job: &Job<'a>) -> Option<&'a str> {
         | Job::Strip { route, .. }
         | Job::Diagram { route, .. }
         | Job::Route { route, .. } => Some(route),
-        Job::Rows { route, .. } | Job::Lengths { route, .. } => *route,
+        Job::Rows { route, .. } | Job::Lengths { route, .. } | Job::List { route, .. } => *route,
         _ => None,
     }
 }
@@ -49,7 +49,7 @@ fn class_in<'a>(job: &Job<'a>) -> Option<&'a str> {
         Job::Strip { classes, .. } | Job::Diagram { classes, .. } => {
             unreadable_class(classes.as_slice())
         }
-        Job::Rows { class, .. } => *class,
+        Job::Rows { class, .. } | Job::Gone { class, .. } => *class,
         _ => None,
     }
 }
@@ -64,16 +64,16 @@ fn stretch_in<'a>(job: &Job<'a>) -> (Option<&'a str>, Option<&'a str>) {
 
 fn asset_in<'a>(job: &Job<'a>) -> Option<&'a str> {
     match job {
-        Job::Find { asset, .. } => Some(asset),
+        Job::Find { asset, .. } | Job::History { asset, .. } => Some(asset),
         Job::Rows { asset, .. } => *asset,
         _ => None,
     }
 }
 
-// The chainage, or behind the word `link` the link; and the millimetre of the link.
+// The place, or behind the word `link` the link; and the millimetre of the link.
 fn place_in<'a>(job: &Job<'a>) -> (Option<&'a str>, Option<&'a str>) {
     match job {
-        Job::Where { chainage, mm, .. } => (Some(chainage), *mm),
+        Job::Where { place, mm, .. } => (Some(place), *mm),
         _ => (None, None),
     }
 }
@@ -83,8 +83,14 @@ fn other_in<'a>(job: &Job<'a>, word: BadWord) -> Option<&'a str> {
     match (job, word) {
         (Job::Translate { to, .. }, BadWord::Destination) => Some(to),
         (Job::Strip { side, .. }, BadWord::Side) => Some(side),
-        (Job::List { what, .. }, BadWord::What) => Some(what),
+        (Job::List { what, .. }, BadWord::What | BadWord::RouteOfList | BadWord::ExactOfList) => {
+            Some(what)
+        }
+        (Job::Rows { .. }, BadWord::TwoForms) => Some("--on-links"),
         (Job::Gone { edit, .. }, BadWord::Edit) => *edit,
+        (Job::Gone { since, .. }, BadWord::Since) => *since,
+        (Job::Gone { until, .. } | Job::Log { until, .. }, BadWord::Until) => *until,
+        (Job::Log { until, .. }, BadWord::UntilBesideKey | BadWord::UntilBesideSum) => *until,
         (Job::Log { from, .. }, BadWord::Number | BadWord::FromBesideKey) => *from,
         (Job::Log { key, .. }, BadWord::Key | BadWord::SumBesideKey) => *key,
         (Job::Serve { port, .. }, BadWord::Port) => Some(port),
@@ -104,16 +110,23 @@ pub(crate) fn given<'a>(job: &Job<'a>, word: BadWord) -> Option<&'a str> {
         BadWord::From => stretch_in(job).0,
         BadWord::To => stretch_in(job).1,
         BadWord::Asset => asset_in(job),
-        BadWord::Chainage | BadWord::Link => place_in(job).0,
+        BadWord::Place | BadWord::Link => place_in(job).0,
         BadWord::Millimetre => place_in(job).1,
         BadWord::Destination
         | BadWord::Side
         | BadWord::What
+        | BadWord::RouteOfList
+        | BadWord::ExactOfList
+        | BadWord::TwoForms
         | BadWord::Edit
+        | BadWord::Since
+        | BadWord::Until
         | BadWord::Number
         | BadWord::Key
         | BadWord::FromBesideKey
+        | BadWord::UntilBesideKey
         | BadWord::SumBesideKey
+        | BadWord::UntilBesideSum
         | BadWord::Port
         | BadWord::Max
         | BadWord::MostReply => other_in(job, word),
@@ -144,6 +157,7 @@ pub(crate) fn inventory_of<'a>(job: &Job<'a>) -> Option<&'a str> {
         | Job::List { db, .. }
         | Job::Rows { db, .. }
         | Job::Gone { db, .. }
+        | Job::History { db, .. }
         | Job::Log { db, .. }
         | Job::Audit { db }
         | Job::Serve { db, .. } => Some(db),

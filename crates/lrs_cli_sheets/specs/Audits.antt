@@ -7,7 +7,7 @@ use Rattle.lrs_machine.specs.declared.answer.Limits.{Limits}
 use Rattle.lrs_machine.specs.declared.image.Image.{Image}
 use Rattle.lrs_machine.specs.declared.table.Table.{Table}
 use Rattle.lrs_sheet_log.specs.Differences.{IsFirstDifference}
-use Rattle.lrs_sheet_log.specs.Log.{edits_from, log_text}
+use Rattle.lrs_sheet_log.specs.Log.{log_text}
 use Rattle.lrs_sheet.specs.Sheets.{RunsEdits}
 use Rattle.lrs_sheet_records.specs.declared.fault.SheetFault.{SheetFault}
 use Rattle.lrs_sheet.specs.declared.reply.Tally.{Tally}
@@ -18,7 +18,7 @@ use Rattle.lrs_cli_tasks.specs.declared.fault.ProgramFault.TheVariants.{Memory}
 
 -- the whole log of an inventory
 abbrev pub log_of : Image → Text
-log_of i = log_text (edits_from 1 (state_of i).done)
+log_of i = log_text 1 None i
 
 -- An edit sheet, done on the empty inventory, made this image, whatever it was answered.
 pub record IsMadeBy (sheet : Text) (made : Image) : Type 0 where

@@ -4,4 +4,5 @@ pub mod QuestionSheets
 pub mod Audits
 pub mod Reports
 pub mod Tidyings
-pub mod Chainages
+pub mod Places
+pub mod Remains

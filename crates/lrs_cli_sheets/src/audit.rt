@@ -29,7 +29,7 @@ fn log_of(alloc: Global, inventory: &Inventory) -> Result<Vec<u8>, ProgramFault>
     ensures memory { IfErr result (λ e. e ≡ ProgramFault.Memory) }
 {
     let mut text = Vec::new(alloc);
-    match write_log(&mut text, inventory.kept(), 1) {
+    match write_log(&mut text, inventory.kept(), 1, None) {
         Ok(()) => Ok(text),
         Err(_) => Err(ProgramFault::Memory),
     }

@@ -4,22 +4,26 @@
 
 mod advice;
 mod audit;
-mod chainage_notes;
-mod chainages;
 mod cuts;
 mod difference;
 mod likely_measures;
+mod nearby;
+mod nearest;
+mod place_notes;
+mod places;
 mod progress;
 mod question_sheets;
+mod remains;
 mod report;
 mod sheets;
 mod streams;
 mod tidy_sheet;
 mod trial;
+mod trial_notes;
 mod world;
 
 pub use audit::do_audit;
-pub use chainage_notes::tell_chainages;
+pub use place_notes::tell_of_question;
 pub use progress::{Extent, ProgressDisplay};
 pub use question_sheets::{QuestionPace, answer_sheet, do_questions};
 pub use sheets::Pace;

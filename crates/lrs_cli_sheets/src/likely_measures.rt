@@ -1,6 +1,7 @@
-//! Chainages that look as if measures were meant, and where those measures are.
+//! Chainages that look as if measures were meant, where those measures are, and how they are written.
 
-use crate::chainages::{Chainages, chainage_at};
+use crate::places::{Places, chainage_at};
+use lrs_machine::Place;
 use lrs_position::Route;
 use std::fmt;
 
@@ -14,21 +15,56 @@ pub(crate) enum LikelyMeasures {
     Two { numbers: (u64, u64), at: (u64, u64) },
 }
 
+/// Says what the numbers are.
 impl fmt::Display for LikelyMeasures {
     fn fmt<W: fmt::Write>(&self, f: &mut fmt::Formatter<W>) -> fmt::Result {
         match *self {
+            LikelyMeasures::One { number, .. } => {
+                write!(f, "{number} is a chainage in millimetres")
+            }
+            LikelyMeasures::Two { numbers, .. } => {
+                let (from, to) = numbers;
+                write!(f, "{from} and {to} are chainages in millimetres")
+            }
+        }
+    }
+}
+
+/// What to do where chainages alone can be given: at which the measures are.
+#[derive(Clone, Copy)]
+pub(crate) struct MeasuredChainages {
+    pub(crate) likely: LikelyMeasures,
+}
+
+impl fmt::Display for MeasuredChainages {
+    fn fmt<W: fmt::Write>(&self, f: &mut fmt::Formatter<W>) -> fmt::Result {
+        match self.likely {
             LikelyMeasures::One { number, at } => {
-                write!(f, "{number} is a chainage in millimetres; ")?;
                 write!(f, "measure {number} is at chainage {at}")
             }
             LikelyMeasures::Two { numbers, at } => {
                 let (from, to) = numbers;
                 let (first, last) = at;
-                write!(f, "{from} and {to} are chainages in millimetres; ")?;
-                write!(
-                    f,
-                    "measures {from} and {to} are at chainages {first} and {last}"
-                )
+                write!(f, "measures {from} and {to} ")?;
+                write!(f, "are at chainages {first} and {last}")
+            }
+        }
+    }
+}
+
+/// What to do where places can be given: how the measures are written.
+#[derive(Clone, Copy)]
+pub(crate) struct MeasuredPlaces {
+    pub(crate) likely: LikelyMeasures,
+}
+
+impl fmt::Display for MeasuredPlaces {
+    fn fmt<W: fmt::Write>(&self, f: &mut fmt::Formatter<W>) -> fmt::Result {
+        match self.likely {
+            LikelyMeasures::One { number, .. } => { write!(f, "for a measure write abs:{number}") }
+            LikelyMeasures::Two { numbers, .. } => {
+                let (from, to) = numbers;
+                write!(f, "for measures write abs:{from} and abs:{to}")
             }
         }
     }
@@ -75,12 +111,19 @@ fn two_likely(route: &Route, from: u64, to: u64) -> Option<LikelyMeasures> {
     }
 }
 
-/// The measures that were meant most likely where these chainages of a route were given.
-pub(crate) fn likely_measures(route: &Route, chainages: Chainages) -> Option<LikelyMeasures> {
-    match chainages {
-        Chainages::At(number) | Chainages::From(number) | Chainages::To(number) => {
-            one_likely(route, number)
+/// The measures that were meant most likely where these places of a route were given. A position is meant as it is.
+pub(crate) fn likely_measures(route: &Route, places: &Places) -> Option<LikelyMeasures> {
+    match places {
+        Places::At(Place::Chainage(number))
+        | Places::From(Place::Chainage(number))
+        | Places::To(Place::Chainage(number))
+        | Places::Between(Place::Chainage(number), Place::Position(_))
+        | Places::Between(Place::Position(_), Place::Chainage(number)) => {
+            one_likely(route, *number)
         }
-        Chainages::Between(from, to) => two_likely(route, from, to),
+        Places::Between(Place::Chainage(from), Place::Chainage(to)) => {
+            two_likely(route, *from, *to)
+        }
+        _ => None,
     }
 }

@@ -8,13 +8,13 @@ ghost use Rattle.lrs_cli_sheets.specs.Sheets.{DoesNotGoOn, IsUnwritten, ending_o
 ghost use Rattle.lrs_cli_sheets.specs.Trials.{ArePassed, EndsAll, EndsCheck, EndsRecords, EndsTried, HasTried, IsFull, IsTried};
 
 use crate::advice::{Trial, advise};
-use crate::cuts::tell_cuts;
 use crate::progress::{Extent, Measured, ProgressLine};
 use crate::report::LongWork;
 use crate::sheets::{
     Pace, Way, do_bytes, do_sheet, ending_of, is_cut_off, passed_over, print_replies, read_whole,
     unopened, write_replies,
 };
+use crate::trial_notes::tell_of_trial;
 use crate::world::{Sheets, World};
 use lrs_cli_tasks::{Ending, ProgramFault, open_full};
 use lrs_image_plain::Plain;
@@ -154,7 +154,7 @@ fn check_text<R: Runtime<A = Global>, S: Sheets, W: Write + Drop, K: Keeper>(
     }
 }
 
-// Does the same, and then tells a terminal where the sheet cuts routes.
+// Does the same, and then tells a terminal where the sheet cuts routes, and what is near to what is refused.
 fn check_and_tell<R: Runtime<A = Global>, S: Sheets, W: Write + Drop, K: Keeper>(
     world: &World<'_, R, S>,
     desk: &Desk<K>,
@@ -167,12 +167,14 @@ fn check_and_tell<R: Runtime<A = Global>, S: Sheets, W: Write + Drop, K: Keeper>
     ensures failed { IfErr result (λ e. e ≡ ProgramFault.Write) }
 {
     let given = check_text(world, desk, kind, text, to);
-    tell_cuts(world.rt, world.shown, desk, kind, text);
+    let is_refused = matches!(given, Ok((_, Ending::RecordsRefused)));
+    tell_of_trial(world.rt, world.shown, desk, kind, text, is_refused);
     given
 }
 
 /// Writes what a sheet would be answered at a desk, and on standard error what to do about each record that would be
-/// refused; on a terminal, also where it cuts routes. Nothing is done: the sheet is tried at a copy of the inventory.
+/// refused; on a terminal, also where it cuts routes, and what the inventory has near to what a refused record names.
+/// Nothing is done: the sheet is tried at a copy of the inventory.
 ///
 /// # Errors
 /// `Write` where not all replies were written.

@@ -16,8 +16,8 @@ use Rattle.lrs_machine.specs.declared.question.Listing.TheVariants as listing
 use Rattle.lrs_machine.specs.Image.{state_of}
 use Rattle.lrs_machine.specs.Lines.{Text, fields, method_text, words}
 use Rattle.lrs_report_lists.specs.Length.Lines.{lengths_text}
-use Rattle.lrs_report_lists.specs.Lists.{classes_text, gone_text, links_text, marks_text, refs_text, routes_text, rows_text}
-use Rattle.lrs_sheet_log.specs.Log.{edits_from, edits_under, log_text}
+use Rattle.lrs_report_lists.specs.Lists.{classes_text, gone_text, history_text, links_text, marks_text, pieces_text, refs_text, routes_text, rows_text}
+use Rattle.lrs_sheet_log.specs.Log.{edits_text, edits_under, log_text}
 use Rattle.lrs_sheet_log.specs.RouteSheets.{route_sheet}
 use Rattle.lrs_sheet_records.specs.Words.{parts_of}
 use Rattle.lrs_report.specs.Drawings.Strips.{strip_text}
@@ -83,12 +83,13 @@ abbrev pub listing_text : Image → Listing → Text
 listing_text i listing.Routes = routes_text i
 listing_text i listing.Links = links_text i
 listing_text i listing.Classes = classes_text i
-listing_text i listing.Refs = refs_text i
-listing_text i listing.Marks = marks_text i
-listing_text i (listing.Rows wanted) = rows_text wanted i
-listing_text i (listing.Gone edit) = gone_text edit i
-listing_text i (listing.Log from) = log_text (edits_from from (state_of i).done)
-listing_text i (listing.LogOfKey key) = log_text (edits_under key (state_of i).done)
+listing_text i (listing.Refs route exact) = refs_text route exact i
+listing_text i (listing.Marks route) = marks_text route i
+listing_text i (listing.Pieces route) = pieces_text route i
+listing_text i (listing.Gone wanted) = gone_text wanted i
+listing_text i (listing.History asset) = history_text asset i
+listing_text i (listing.Log from until) = log_text from until i
+listing_text i (listing.LogOfKey key) = edits_text (edits_under key (state_of i).done)
 
 -- What is told to a question, in lines; lists as CSV, a route as an edit sheet, and a diagram as a picture.
 abbrev pub told_text : Told → Text
@@ -102,6 +103,7 @@ told_text (told.Totals totals) = totals_text totals
 told_text (told.Found rows) = found_text rows
 told_text (told.Where w) = whereabouts_text w
 told_text (told.Lengths lengths) = lengths_text lengths
+told_text (told.Rows wanted inventory) = rows_text wanted inventory.now
 told_text (told.Listing l inventory) = listing_text inventory.now l
 told_text (told.Health edits) = decimal edits ++ 10 ∷ []
 

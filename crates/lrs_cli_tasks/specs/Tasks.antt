@@ -17,7 +17,7 @@ inventory_of (job.Edit db sheet sums resume all whole) = Some db.now
 inventory_of (job.Survey db sheet sums resume all whole) = Some db.now
 inventory_of (job.Check db sheet survey) = Some db.now
 inventory_of (job.At db route method position) = Some db.now
-inventory_of (job.Where db route chainage mm) = Some db.now
+inventory_of (job.Where db route place mm) = Some db.now
 inventory_of (job.Translate db route method position to) = Some db.now
 inventory_of (job.Strip db route side classes) = Some db.now
 inventory_of (job.Diagram db route classes from to) = Some db.now
@@ -26,10 +26,11 @@ inventory_of (job.Lengths db route text) = Some db.now
 inventory_of (job.Find db asset) = Some db.now
 inventory_of (job.Route db route) = Some db.now
 inventory_of (job.Ask db questions) = Some db.now
-inventory_of (job.List db what text) = Some db.now
-inventory_of (job.Rows db route from to class asset text) = Some db.now
-inventory_of (job.Gone db edit text) = Some db.now
-inventory_of (job.Log db from key text sum) = Some db.now
+inventory_of (job.List db what route exact text) = Some db.now
+inventory_of (job.Rows db route from to class asset exact on_links text) = Some db.now
+inventory_of (job.Gone db edit class since until text) = Some db.now
+inventory_of (job.History db asset text) = Some db.now
+inventory_of (job.Log db from until key text sum) = Some db.now
 inventory_of (job.Audit db) = Some db.now
 inventory_of (job.Serve db port max sums log end_on_fault most_reply page) = Some db.now
 inventory_of (job.Page dir) = None
@@ -43,10 +44,11 @@ kind_of false = Edits
 -- each cell of what the job lists is written as text
 abbrev pub has_text_cells : Job → Bool
 has_text_cells (job.Lengths db route text) = text
-has_text_cells (job.List db what text) = text
-has_text_cells (job.Rows db route from to class asset text) = text
-has_text_cells (job.Gone db edit text) = text
-has_text_cells (job.Log db from key text sum) = text
+has_text_cells (job.List db what route exact text) = text
+has_text_cells (job.Rows db route from to class asset exact on_links text) = text
+has_text_cells (job.Gone db edit class since until text) = text
+has_text_cells (job.History db asset text) = text
+has_text_cells (job.Log db from until key text sum) = text
 has_text_cells _ = false
 
 -- `edit` does an edit sheet, `survey` a survey, `check` tries one, `ask` answers a sheet of questions, `audit` audits, `log --sum` sums the log, `serve` serves where and how its words say, and every other job asks what they say, and has its cells written as text where it says so
@@ -56,7 +58,8 @@ IsWorkOf (job.Survey db sheet sums resume all whole) (work.Sheet kind from resum
 IsWorkOf (job.Check db sheet survey) (work.Check kind from) = (kind ≡ kind_of survey) × (from.now ≡ sheet.now)
 IsWorkOf (job.Ask db questions) (work.Questions from) = from.now ≡ questions.now
 IsWorkOf (job.Audit db) work.Audit = ⊤
-IsWorkOf (job.Log db from key text true) (work.Sum up_to) = SaysSummed (option_map (λ w. w.now) from) (option_map (λ w. w.now) key) up_to
+IsWorkOf (job.Log db from until key text true) (work.Sum up_to) =
+    SaysSummed (option_map (λ w. w.now) from) (option_map (λ w. w.now) until) (option_map (λ w. w.now) key) up_to
 IsWorkOf (job.Serve db port max sums log end_on_fault most_reply page) (work.Service service) = SaysService port.now max.now log end_on_fault (option_map (λ w. w.now) most_reply) page service
 IsWorkOf j (work.Question question as_text) = Asks j question × (as_text ≡ has_text_cells j)
 IsWorkOf j w = ⊥

@@ -4,17 +4,18 @@ ghost use Rattle.std.specs.Prelude.{◌≡◌, OnOk};
 ghost use Rattle.std.specs.List.{flat_map};
 ghost use Rattle.std.specs.Io.KnownBytes.{Appends};
 ghost use Rattle.lrs_machine.specs.Lines.{method_text};
+ghost use Rattle.lrs_report_lists.specs.Lists.{rows_text};
 ghost use Rattle.lrs_cli_tasks.specs.Lines.{at_text, expression_line, found_text, hit_text, link_position_text, listing_text, place_text, position_line, row_text, told_text, total_text, totals_text, whereabouts_text};
 
 use lrs_desk::Inventory;
-use lrs_machine::{Hit, Listing, Total};
+use lrs_machine::{Hit, Listing, RowsWanted, Total};
 use lrs_measure::Frac;
 use lrs_position::{Expr, RouteName};
 use lrs_report::{strip_of, write_diagram};
 use lrs_report_answers::{AtAnswer, FoundRow, Told, Whereabouts};
 use lrs_report_lists::{
-    write_classes, write_gone, write_lengths, write_links, write_marks, write_refs, write_routes,
-    write_rows,
+    write_classes, write_gone, write_history, write_lengths, write_links, write_marks,
+    write_pieces, write_refs, write_routes, write_rows,
 };
 use lrs_sheet_log::{write_log, write_log_of_key, write_route_sheet};
 use std::io;
@@ -192,16 +193,29 @@ fn write_listing<W: Write>(
         Listing::Routes => write_routes(writer, kept),
         Listing::Links => write_links(writer, kept),
         Listing::Classes => write_classes(writer, kept),
-        Listing::Refs => write_refs(writer, kept),
-        Listing::Marks => write_marks(writer, kept),
-        Listing::Rows(wanted) => write_rows(writer, kept, wanted),
-        Listing::Gone(edit) => write_gone(writer, kept, *edit),
-        Listing::Log(from) => write_log(writer, kept, *from),
+        Listing::Refs { route, exact } => write_refs(writer, kept, route.as_ref(), *exact),
+        Listing::Marks(route) => write_marks(writer, kept, route.as_ref()),
+        Listing::Pieces(route) => write_pieces(writer, kept, route.as_ref()),
+        Listing::Gone(wanted) => write_gone(writer, kept, wanted),
+        Listing::History(asset) => write_history(writer, kept, *asset),
+        Listing::Log { from, until } => write_log(writer, kept, *from, *until),
         Listing::LogOfKey(key) => {
             let _ = write_log_of_key(writer, kept, key)?;
             Ok(())
         }
     }
+}
+
+/// Writes the rows of an inventory that are wanted, as CSV.
+fn write_wanted<W: Write>(
+    writer: &mut W,
+    inventory: &Inventory,
+    wanted: &RowsWanted,
+) -> io::Result<()>
+    ensures { OnOk result (Appends (W.contents writer.old) (W.contents writer.new)
+        (rows_text wanted.now inventory.now)) }
+{
+    write_rows(writer, inventory.kept(), wanted)
 }
 
 /// Writes what is told to a question, in lines; lists as CSV, a route as an edit sheet, and a diagram as an SVG picture. It
@@ -230,6 +244,7 @@ pub(crate) fn write_told<W: Write>(writer: &mut W, told: Told<'_>) -> io::Result
         Told::Found(rows) => write_found(writer, rows.as_slice()),
         Told::Where(found) => write_whereabouts(writer, &found),
         Told::Lengths(rows) => write_lengths(writer, rows.as_slice()),
+        Told::Rows { wanted, inventory } => write_wanted(writer, inventory, &wanted),
         Told::Listing { listing, inventory } => write_listing(writer, inventory, &listing),
         Told::Health(edits) => write_health(writer, edits),
     }

@@ -50,9 +50,11 @@ fn stop_of(fault: AskFault) -> ProgramFault
 {
     match fault {
         AskFault::MustReopen => ProgramFault::MustReopen,
-        AskFault::Missing(_) | AskFault::Place(_) | AskFault::Seg(_) | AskFault::Memory => {
-            ProgramFault::Memory
-        }
+        AskFault::Missing(_)
+        | AskFault::Place(_)
+        | AskFault::End(..)
+        | AskFault::Seg(_)
+        | AskFault::Memory => ProgramFault::Memory,
     }
 }
 

@@ -90,6 +90,7 @@ fn writes_text_cells(job: &Job<'_>) -> bool
         | Job::List { text, .. }
         | Job::Rows { text, .. }
         | Job::Gone { text, .. }
+        | Job::History { text, .. }
         | Job::Log { text, .. } => *text,
         _ => false,
     }
@@ -135,13 +136,14 @@ pub fn task_of<'a>(alloc: Global, job: &Job<'a>) -> Result<Task<'a>, QuestionFau
         Job::Log {
             db,
             from,
+            until,
             key,
             sum: true,
             ..
         } => (
             db,
             Work::Sum {
-                up_to: summed_of(*from, *key)?,
+                up_to: summed_of(*from, *until, *key)?,
             },
         ),
         Job::Serve {
@@ -169,6 +171,7 @@ pub fn task_of<'a>(alloc: Global, job: &Job<'a>) -> Result<Task<'a>, QuestionFau
         | Job::List { db, .. }
         | Job::Rows { db, .. }
         | Job::Gone { db, .. }
+        | Job::History { db, .. }
         | Job::Log { db, .. } => match question_of(alloc, job)? {
             Some(question) => (
                 db,

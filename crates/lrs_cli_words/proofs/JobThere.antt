@@ -95,6 +95,12 @@ whole_fills = flag_fills (codes "whole")
 text_fills : Fills (flag_at (codes "text"))
 text_fills = flag_fills (codes "text")
 
+exact_fills : Fills (flag_at (codes "exact"))
+exact_fills = flag_fills (codes "exact")
+
+on_links_fills : Fills (flag_at (codes "on-links"))
+on_links_fills = flag_fills (codes "on-links")
+
 sum_fills : Fills (flag_at (codes "sum"))
 sum_fills = flag_fills (codes "sum")
 
@@ -125,6 +131,12 @@ asset_fills = option_fills (codes "asset") refl
 edit_fills : Fills (option_at (codes "edit"))
 edit_fills = option_fills (codes "edit") refl
 
+since_fills : Fills (option_at (codes "since"))
+since_fills = option_fills (codes "since") refl
+
+until_fills : Fills (option_at (codes "until"))
+until_fills = option_fills (codes "until") refl
+
 key_fills : Fills (option_at (codes "key"))
 key_fills = option_fills (codes "key") refl
 
@@ -144,7 +156,18 @@ abbrev end_options : List Rule
 end_options = option_at (codes "from") ∷ option_at (codes "to") ∷ []
 
 abbrev row_options : List Rule
-row_options = option_at (codes "route") ∷ option_at (codes "from") ∷ option_at (codes "to") ∷ option_at (codes "class") ∷ option_at (codes "asset") ∷ flag_at (codes "text") ∷ []
+row_options =
+    option_at (codes "route") ∷ option_at (codes "from") ∷ option_at (codes "to") ∷ option_at (codes "class") ∷ option_at (codes "asset") ∷ flag_at (codes "exact") ∷ flag_at (codes "on-links")
+    ∷ flag_at (codes "text") ∷ []
+
+abbrev list_options : List Rule
+list_options = option_at (codes "route") ∷ flag_at (codes "exact") ∷ flag_at (codes "text") ∷ []
+
+abbrev gone_options : List Rule
+gone_options = option_at (codes "edit") ∷ option_at (codes "class") ∷ option_at (codes "since") ∷ option_at (codes "until") ∷ flag_at (codes "text") ∷ []
+
+abbrev log_options : List Rule
+log_options = option_at (codes "until") ∷ option_at (codes "key") ∷ flag_at (codes "text") ∷ flag_at (codes "sum") ∷ []
 
 without_options : (j : JobName) → HasHelp (rules_at j) → ((name : Text) → IfSome (among [] name) (IsNamed (rules_at j)))
 without_options j help = long_among (rules_at j) [] tt help
@@ -183,20 +206,44 @@ has_flags job.Find = record { long = without_options job.Find help_fills; short 
 has_flags job.Route = record { long = without_options job.Route help_fills; short = short_help (rules_at job.Route) help_fills }
 has_flags job.Ask = record { long = without_options job.Ask help_fills; short = short_help (rules_at job.Ask) help_fills }
 has_flags job.List = record {
-  long = long_among (rules_at job.List) (flag_at (codes "text") ∷ []) (text_fills, text_fills, tt) help_fills;
+  long = long_among (rules_at job.List) list_options (route_fills, route_fills, (exact_fills, exact_fills, (text_fills, text_fills, tt))) help_fills;
   short = short_help (rules_at job.List) help_fills;
 }
 has_flags job.Rows = record {
-  long = long_among (rules_at job.Rows) row_options
-      (route_fills, route_fills, (from_fills, from_fills, (to_fills, to_fills, (class_fills, class_fills, (asset_fills, asset_fills, (text_fills, text_fills, tt)))))) help_fills;
+  long = long_among (rules_at job.Rows) row_options (
+    route_fills,
+    route_fills,
+    (
+      from_fills,
+      from_fills,
+      (
+        to_fills,
+        to_fills,
+        (
+          class_fills,
+          class_fills,
+          (
+            asset_fills,
+            asset_fills,
+            (exact_fills, exact_fills, (on_links_fills, on_links_fills, (text_fills, text_fills, tt))),
+          ),
+        ),
+      ),
+    ),
+  ) help_fills;
   short = short_help (rules_at job.Rows) help_fills;
 }
 has_flags job.Gone = record {
-  long = long_among (rules_at job.Gone) (option_at (codes "edit") ∷ flag_at (codes "text") ∷ []) (edit_fills, edit_fills, (text_fills, text_fills, tt)) help_fills;
+  long = long_among (rules_at job.Gone) gone_options
+      (edit_fills, edit_fills, (class_fills, class_fills, (since_fills, since_fills, (until_fills, until_fills, (text_fills, text_fills, tt))))) help_fills;
   short = short_help (rules_at job.Gone) help_fills;
 }
+has_flags job.History = record {
+  long = long_among (rules_at job.History) (flag_at (codes "text") ∷ []) (text_fills, text_fills, tt) help_fills;
+  short = short_help (rules_at job.History) help_fills;
+}
 has_flags job.Log = record {
-  long = long_among (rules_at job.Log) (option_at (codes "key") ∷ flag_at (codes "text") ∷ flag_at (codes "sum") ∷ []) (key_fills, key_fills, (text_fills, text_fills, (sum_fills, sum_fills, tt))) help_fills;
+  long = long_among (rules_at job.Log) log_options (until_fills, until_fills, (key_fills, key_fills, (text_fills, text_fills, (sum_fills, sum_fills, tt)))) help_fills;
   short = short_help (rules_at job.Log) help_fills;
 }
 has_flags job.Audit = record { long = without_options job.Audit help_fills; short = short_help (rules_at job.Audit) help_fills }
@@ -256,6 +303,7 @@ none_lack job.Ask = refl
 none_lack job.List = refl
 none_lack job.Rows = refl
 none_lack job.Gone = refl
+none_lack job.History = refl
 none_lack job.Log = refl
 none_lack job.Audit = refl
 none_lack job.Serve = refl
@@ -279,6 +327,7 @@ none_missing job.Ask rows e = missing_none _ e
 none_missing job.List rows e = missing_none _ e
 none_missing job.Rows rows e = missing_none _ e
 none_missing job.Gone rows e = missing_none _ e
+none_missing job.History rows e = missing_none _ e
 none_missing job.Log rows e = missing_none _ e
 none_missing job.Audit rows e = missing_none _ e
 none_missing job.Serve rows e = missing_none _ e

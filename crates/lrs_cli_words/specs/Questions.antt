@@ -1,8 +1,8 @@
 -- What a job's words ask of an inventory, and which of them cannot be read.
-use Rattle.std.specs.Prelude.{◌≡◌, ◌⊎◌, ⊤, ℕ, ◌≤◌, Bool, false, true, IsTrue, IsSomeAnd, List, Option, Some, None, map, option_map, codes, slice_get}
+use Rattle.std.specs.Prelude.{◌≡◌, ◌⊎◌, ⊤, ℕ, ◌≤◌, Bool, false, true, IsTrue, IsSomeAnd, List, Option, Some, None, is_some, map, option_map, codes, slice_get}
 use Rattle.std.specs.Str.Parse.{IsNumeral, digits_value}
 use Rattle.clap.specs.Words.{Text}
-use Rattle.lrs_measure.specs.Limits.{greatest_asset, greatest_link, longest_link, longest_route, most_edits}
+use Rattle.lrs_measure.specs.Limits.{greatest_asset, greatest_link, longest_link, most_edits}
 use Rattle.lrs_measure.specs.Texts.{Name}
 use Rattle.lrs_position.specs.declared.expression.Expr.{Expr}
 use Rattle.lrs_position.specs.declared.expression.Method.{Method}
@@ -21,7 +21,12 @@ use Rattle.lrs_machine.specs.declared.question.Listing.{Listing}
 use Rattle.lrs_machine.specs.declared.question.Listing.TheVariants as listing
 use Rattle.lrs_machine.specs.declared.question.Question.{Question}
 use Rattle.lrs_machine.specs.declared.question.Question.TheVariants as question
-use Rattle.lrs_machine.specs.declared.question.RowsWanted.{RowsWanted}
+use Rattle.lrs_machine.specs.declared.question.GoneWanted.{GoneWanted}
+use Rattle.lrs_machine.specs.declared.question.Place.{Place}
+use Rattle.lrs_machine.specs.declared.question.RowForm.{RowForm}
+use Rattle.lrs_machine.specs.declared.question.RowForm.TheVariants as form
+use Rattle.lrs_machine.specs.declared.question.RowsAsked.{RowsAsked}
+use Rattle.lrs_machine.specs.PlaceTexts.{SaysPlace}
 use Rattle.lrs_machine.specs.declared.question.AskedPlace.{AskedPlace}
 use Rattle.lrs_machine.specs.declared.question.AskedPlace.TheVariants as spot
 use Rattle.lrs_cli_words.specs.declared.question.Service.{Service}
@@ -64,19 +69,15 @@ SaysAsset = SaysNumber 1 greatest_asset
 abbrev pub SaysPort : Text → ℕ → Type 0
 SaysPort = SaysNumber 1 65_535
 
--- millimetres from the start of a route
-abbrev pub SaysChainage : Text → ℕ → Type 0
-SaysChainage = SaysNumber 0 longest_route
-
 -- what a text says, where there is one
 abbrev pub SaysIfGiven : {A : Type 0} → (Text → A → Type 0) → Option Text → Option A → Type 0
 SaysIfGiven Says (Some text) (Some x) = Says text x
 SaysIfGiven Says None None = ⊤
 SaysIfGiven Says _ _ = ⊥
 
--- the chainage at an end, where a text says one
-abbrev pub SaysEnd : Option Text → Option ℕ → Type 0
-SaysEnd = SaysIfGiven SaysChainage
+-- the place at an end, where a text says one
+abbrev pub SaysEnd : Option Text → Option Place → Type 0
+SaysEnd = SaysIfGiven SaysPlace
 
 -- the number of a link, and a millimetre of it
 abbrev pub SaysLink : Text → ℕ → Type 0
@@ -93,14 +94,34 @@ SaysEdit = SaysNumber 1 most_edits
 abbrev pub SaysKey : Text → Name → Type 0
 SaysKey text key = (key ≡ text) × IsTrue (is_key text)
 
--- what is listed
-abbrev pub SaysList : Text → Listing → Type 0
-SaysList text listing.Routes = text ≡ codes "routes"
-SaysList text listing.Links = text ≡ codes "links"
-SaysList text listing.Classes = text ≡ codes "classes"
-SaysList text listing.Refs = text ≡ codes "refs"
-SaysList text listing.Marks = text ≡ codes "marks"
-SaysList text _ = ⊥
+-- what is listed without measures, and not by routes
+abbrev pub IsWholeList : Text → Type 0
+IsWholeList what = (what ≡ codes "routes") ⊎ (what ≡ codes "links") ⊎ (what ≡ codes "classes")
+
+-- what is listed of each route, without measures that can be fractions
+abbrev pub IsListOfRoutes : Text → Type 0
+IsListOfRoutes what = (what ≡ codes "marks") ⊎ (what ≡ codes "pieces")
+
+-- what is listed, of one route where it is named, and with measures as they are or as decimals
+abbrev pub SaysList : Text → Option Text → Bool → Listing → Type 0
+SaysList what route exact listing.Routes = (what ≡ codes "routes") × (route ≡ None) × (exact ≡ false)
+SaysList what route exact listing.Links = (what ≡ codes "links") × (route ≡ None) × (exact ≡ false)
+SaysList what route exact listing.Classes = (what ≡ codes "classes") × (route ≡ None) × (exact ≡ false)
+SaysList what route exact (listing.Refs name are_exact) = (what ≡ codes "refs") × SaysIfGiven SaysRoute route name × (are_exact ≡ exact)
+SaysList what route exact (listing.Marks name) = (what ≡ codes "marks") × SaysIfGiven SaysRoute route name × (exact ≡ false)
+SaysList what route exact (listing.Pieces name) = (what ≡ codes "pieces") × SaysIfGiven SaysRoute route name × (exact ≡ false)
+SaysList what route exact _ = ⊥
+
+-- the form of rows that the options say
+abbrev pub IsForm : Bool → Bool → RowForm → Type 0
+IsForm exact on_links form.Decimal = (exact ≡ false) × (on_links ≡ false)
+IsForm exact on_links form.Exact = (exact ≡ true) × (on_links ≡ false)
+IsForm exact on_links form.OnLinks = (exact ≡ false) × (on_links ≡ true)
+
+-- the number of the first edit, which is 1 where none is given
+abbrev pub SaysFirst : Option Text → ℕ → Type 0
+SaysFirst (Some text) n = SaysEdit text n
+SaysFirst None n = n ≡ 1
 
 -- how many connections
 abbrev pub SaysMost : Text → ℕ → Type 0
@@ -133,7 +154,7 @@ AsksNothing (job.Survey db sheet sums resume all whole) = ⊤
 AsksNothing (job.Check db sheet survey) = ⊤
 AsksNothing (job.Tidy file survey) = ⊤
 AsksNothing (job.Ask db questions) = ⊤
-AsksNothing (job.Log db from key text true) = ⊤
+AsksNothing (job.Log db from until key text true) = ⊤
 AsksNothing (job.Audit db) = ⊤
 AsksNothing (job.Serve db port max sums log end_on_fault most_reply page) = ⊤
 AsksNothing (job.Page dir) = ⊤
@@ -154,44 +175,46 @@ abbrev pub AsksStrip : Text → Text → List Text → Question → Type 0
 AsksStrip route side classes (question.Segments r s names) = SaysRoute route r × SaysSide side s × (names ≡ classes)
 AsksStrip route side classes _ = ⊥
 
--- a diagram of a route with these classes, from a chainage to another
+-- a diagram of a route with these classes, from a place to another
 abbrev pub AsksDiagram : Text → List Text → Option Text → Option Text → Question → Type 0
 AsksDiagram route classes from to (question.Diagram r names first last) = SaysRoute route r × (names ≡ classes) × SaysEnd from first × SaysEnd to last
 AsksDiagram route classes from to _ = ⊥
 
--- a chainage of a route
+-- a place of a route
 abbrev pub IsOnRoute : Text → Text → AskedPlace → Type 0
-IsOnRoute route chainage (spot.OnRoute r c) = SaysRoute route r × SaysChainage chainage c
-IsOnRoute route chainage p = ⊥
+IsOnRoute route place (spot.OnRoute r p) = SaysRoute route r × SaysPlace place p
+IsOnRoute route place _ = ⊥
 
 -- a millimetre of a link
 abbrev pub IsOnLink : Text → Text → AskedPlace → Type 0
 IsOnLink link mm (spot.OnLink l m) = SaysLink link l × SaysMillimetre mm m
 IsOnLink link mm p = ⊥
 
--- a route and a chainage; or `link`, a link and a millimetre
+-- a route and a place of it; or `link`, a link and a millimetre
 abbrev pub IsPlace : Text → Text → Option Text → AskedPlace → Type 0
-IsPlace route chainage None p = IsOnRoute route chainage p
-IsPlace route chainage (Some mm) p = (route ≡ codes "link") × IsOnLink chainage mm p
+IsPlace route place None p = IsOnRoute route place p
+IsPlace route place (Some mm) p = (route ≡ codes "link") × IsOnLink place mm p
 
 -- the rows that these words ask for
-pub record AreWanted (on from to of number : Option Text) (wanted : RowsWanted) : Type 0 where
-  pub route : SaysIfGiven SaysRoute on wanted.route
-  pub start : SaysEnd from wanted.from
-  pub end : SaysEnd to wanted.to
+pub record AreAsked (on from to of number : Option Text) (asked : RowsAsked) : Type 0 where
+  pub route : SaysIfGiven SaysRoute on asked.route
+  pub start : SaysEnd from asked.from
+  pub end : SaysEnd to asked.to
+  pub class : SaysIfGiven SaysClass of asked.class
+  pub asset : SaysIfGiven SaysAsset number asked.asset
+
+-- what of all that is gone these words ask for
+pub record AreGoneAsked (by of from to : Option Text) (wanted : GoneWanted) : Type 0 where
+  pub edit : SaysIfGiven SaysEdit by wanted.edit
   pub class : SaysIfGiven SaysClass of wanted.class
-  pub asset : SaysIfGiven SaysAsset number wanted.asset
+  pub since : SaysIfGiven SaysEdit from wanted.since
+  pub until : SaysIfGiven SaysEdit to wanted.until
 
-abbrev pub AsksRows : Option Text → Option Text → Option Text → Option Text → Option Text → Listing → Type 0
-AsksRows on from to of number (listing.Rows wanted) = AreWanted on from to of number wanted
-AsksRows on from to of number _ = ⊥
-
--- the edit of the key, or those from a number on, which is 1 where neither is given
-abbrev pub AsksLog : Option Text → Option Text → Listing → Type 0
-AsksLog None (Some key) (listing.LogOfKey k) = SaysKey key k
-AsksLog (Some from) None (listing.Log n) = SaysEdit from n
-AsksLog None None (listing.Log n) = n ≡ 1
-AsksLog from key l = ⊥
+-- the edit of the key; or those from a number on, which is 1 where it is not given, and up to another where that is
+abbrev pub AsksLog : Option Text → Option Text → Option Text → Listing → Type 0
+AsksLog from until None (listing.Log n last) = SaysFirst from n × SaysIfGiven SaysEdit until last
+AsksLog None None (Some key) (listing.LogOfKey k) = SaysKey key k
+AsksLog from until key l = ⊥
 
 -- the question is what the job's words say
 abbrev pub Asks : Job → Question → Type 0
@@ -202,21 +225,24 @@ Asks (job.Diagram db route classes from to) q = AsksDiagram route.now (map (λ w
 Asks (job.Totals db) question.Totals = ⊤
 Asks (job.Find db asset) (question.Find n) = SaysAsset asset.now n
 Asks (job.Route db route) (question.Route name) = SaysRoute route.now name
-Asks (job.Where db route chainage mm) (question.Where place) = IsPlace route.now chainage.now (option_map (λ w. w.now) mm) place
+Asks (job.Where db route place mm) (question.Where spot) = IsPlace route.now place.now (option_map (λ w. w.now) mm) spot
 Asks (job.Lengths db route text) (question.Lengths name) = SaysIfGiven SaysRoute (option_map (λ w. w.now) route) name
-Asks (job.List db what text) (question.List l) = SaysList what.now l
-Asks (job.Rows db route from to class asset text) (question.List l) =
-    AsksRows (option_map (λ w. w.now) route) (option_map (λ w. w.now) from) (option_map (λ w. w.now) to) (option_map (λ w. w.now) class) (option_map (λ w. w.now) asset) l
-Asks (job.Gone db edit text) (question.List (listing.Gone n)) = SaysIfGiven SaysEdit (option_map (λ w. w.now) edit) n
-Asks (job.Log db from key text false) (question.List l) = AsksLog (option_map (λ w. w.now) from) (option_map (λ w. w.now) key) l
+Asks (job.List db what route exact text) (question.List l) = SaysList what.now (option_map (λ w. w.now) route) exact l
+Asks (job.Rows db route from to class asset exact on_links text) (question.Rows asked) =
+    AreAsked (option_map (λ w. w.now) route) (option_map (λ w. w.now) from) (option_map (λ w. w.now) to) (option_map (λ w. w.now) class) (option_map (λ w. w.now) asset) asked
+    × IsForm exact on_links asked.form
+Asks (job.Gone db edit class since until text) (question.List (listing.Gone wanted)) =
+    AreGoneAsked (option_map (λ w. w.now) edit) (option_map (λ w. w.now) class) (option_map (λ w. w.now) since) (option_map (λ w. w.now) until) wanted
+Asks (job.History db asset text) (question.List (listing.History n)) = SaysAsset asset.now n
+Asks (job.Log db from until key text false) (question.List l) = AsksLog (option_map (λ w. w.now) from) (option_map (λ w. w.now) until) (option_map (λ w. w.now) key) l
 Asks _ q = ⊥
 
 -- ---- sums
 
--- The number of the edit up to which a log is summed, where it is given; there is no key beside it.
-abbrev pub SaysSummed : Option Text → Option Text → Option ℕ → Type 0
-SaysSummed from (Some key) up_to = ⊥
-SaysSummed from None up_to = SaysIfGiven SaysEdit from up_to
+-- The number of the edit up to which a log is summed, where it is given; there is no key and no last edit beside it.
+abbrev pub SaysSummed : Option Text → Option Text → Option Text → Option ℕ → Type 0
+SaysSummed from None None up_to = SaysIfGiven SaysEdit from up_to
+SaysSummed from until key up_to = ⊥
 
 -- ---- words that cannot be read
 
@@ -249,9 +275,9 @@ CannotStrip route side classes fault =
 abbrev pub CannotIfGiven : {A : Type 0} → BadWord → (Text → A → Type 0) → Option Text → QuestionFault → Type 0
 CannotIfGiven w Says text fault = IsSomeAnd text (λ t. Cannot w (Says t) fault)
 
--- the chainage at an end, which was given
+-- the place at an end, which was given
 abbrev pub CannotEnd : BadWord → Option Text → QuestionFault → Type 0
-CannotEnd w = CannotIfGiven w SaysChainage
+CannotEnd w = CannotIfGiven w SaysPlace
 
 -- the route, a class or an end of a diagram, or lack of memory for the classes
 abbrev pub CannotDiagram : Text → List Text → Option Text → Option Text → QuestionFault → Type 0
@@ -263,9 +289,9 @@ abbrev pub CannotServe : Text → Text → Option Text → QuestionFault → Typ
 CannotServe port max longest fault =
     Cannot word.Port (SaysPort port) fault ⊎ Cannot word.Max (SaysMost max) fault ⊎ CannotIfGiven word.MostReply SaysReplyLength longest fault
 
--- the route, or the chainage
+-- the route, or the place of it
 abbrev pub CannotPlace : Text → Text → QuestionFault → Type 0
-CannotPlace route chainage fault = Cannot word.Route (SaysRoute route) fault ⊎ Cannot word.Chainage (SaysChainage chainage) fault
+CannotPlace route place fault = Cannot word.Route (SaysRoute route) fault ⊎ Cannot word.Place (SaysPlace place) fault
 
 -- the link, or the millimetre
 abbrev pub CannotLink : Text → Text → QuestionFault → Type 0
@@ -273,8 +299,28 @@ CannotLink link mm fault = Cannot word.Link (SaysLink link) fault ⊎ Cannot wor
 
 -- a word of a place: a third one says that the first is `link`
 abbrev pub CannotWhere : Text → Text → Option Text → QuestionFault → Type 0
-CannotWhere route chainage None fault = CannotPlace route chainage fault
-CannotWhere route chainage (Some mm) fault = ((fault ≡ Unreadable word.NotLink) × (route ≡ codes "link" → ⊥)) ⊎ CannotLink chainage mm fault
+CannotWhere route place None fault = CannotPlace route place fault
+CannotWhere route place (Some mm) fault = ((fault ≡ Unreadable word.NotLink) × (route ≡ codes "link" → ⊥)) ⊎ CannotLink place mm fault
+
+-- a route is named that a list cannot be narrowed to
+abbrev pub IsMisplacedRoute : Option Text → QuestionFault → Type 0
+IsMisplacedRoute route fault = (fault ≡ Unreadable word.RouteOfList) × (is_some route ≡ true)
+
+-- measures are to be exact where none can be a fraction
+abbrev pub IsMisplacedExact : Bool → QuestionFault → Type 0
+IsMisplacedExact exact fault = (fault ≡ Unreadable word.ExactOfList) × (exact ≡ true)
+
+-- the word for what is listed, which is none of the six; an option that does not stand beside it; or the name of the route
+abbrev pub CannotList : Text → Option Text → Bool → QuestionFault → Type 0
+CannotList what route exact fault =
+    ((fault ≡ Unreadable word.What) × (IsWholeList what ⊎ IsListOfRoutes what ⊎ (what ≡ codes "refs") → ⊥))
+    ⊎ (IsWholeList what × (IsMisplacedRoute route fault ⊎ IsMisplacedExact exact fault))
+    ⊎ (IsListOfRoutes what × (IsMisplacedExact exact fault ⊎ CannotIfGiven word.Route SaysRoute route fault))
+    ⊎ ((what ≡ codes "refs") × CannotIfGiven word.Route SaysRoute route fault)
+
+-- two forms of rows are asked for
+abbrev pub CannotForm : Bool → Bool → QuestionFault → Type 0
+CannotForm exact on_links fault = (fault ≡ Unreadable word.TwoForms) × (exact ≡ true) × (on_links ≡ true)
 
 -- one of the words that narrow a list of rows
 abbrev pub CannotRows : Option Text → Option Text → Option Text → Option Text → Option Text → QuestionFault → Type 0
@@ -282,15 +328,24 @@ CannotRows route from to class asset fault =
     CannotIfGiven word.Route SaysRoute route fault ⊎ CannotEnd word.From from fault ⊎ CannotEnd word.To to fault ⊎ CannotIfGiven word.Class SaysClass class fault
     ⊎ CannotIfGiven word.Asset SaysAsset asset fault
 
--- the number of the first edit, or the key; or both are given
-abbrev pub CannotLog : Option Text → Option Text → QuestionFault → Type 0
-CannotLog (Some from) (Some key) fault = fault ≡ Unreadable word.FromBesideKey
-CannotLog from key fault = CannotIfGiven word.Number SaysEdit from fault ⊎ CannotIfGiven word.Key SaysKey key fault
+-- one of the words that narrow a list of what is gone
+abbrev pub CannotGone : Option Text → Option Text → Option Text → Option Text → QuestionFault → Type 0
+CannotGone edit class since until fault =
+    CannotIfGiven word.Edit SaysEdit edit fault ⊎ CannotIfGiven word.Class SaysClass class fault ⊎ CannotIfGiven word.Since SaysEdit since fault
+    ⊎ CannotIfGiven word.Until SaysEdit until fault
 
--- the number of the last edit of a sum; or a key is given
-abbrev pub CannotSum : Option Text → Option Text → QuestionFault → Type 0
-CannotSum from (Some key) fault = fault ≡ Unreadable word.SumBesideKey
-CannotSum from None fault = CannotIfGiven word.Number SaysEdit from fault
+-- the number of the first edit or of the last one, or the key; or one of these numbers is given beside a key
+abbrev pub CannotLog : Option Text → Option Text → Option Text → QuestionFault → Type 0
+CannotLog from until None fault = CannotIfGiven word.Number SaysEdit from fault ⊎ CannotIfGiven word.Until SaysEdit until fault
+CannotLog (Some from) until (Some key) fault = fault ≡ Unreadable word.FromBesideKey
+CannotLog None (Some until) (Some key) fault = fault ≡ Unreadable word.UntilBesideKey
+CannotLog None None (Some key) fault = Cannot word.Key (SaysKey key) fault
+
+-- the number of the last edit of a sum; or a key is given, or the last edit of a list
+abbrev pub CannotSum : Option Text → Option Text → Option Text → QuestionFault → Type 0
+CannotSum from until (Some key) fault = fault ≡ Unreadable word.SumBesideKey
+CannotSum from (Some until) None fault = fault ≡ Unreadable word.UntilBesideSum
+CannotSum from None None fault = CannotIfGiven word.Number SaysEdit from fault
 
 -- the fault is a word of the job that cannot be read, or lack of memory for the classes
 abbrev pub IsFaultOf : Job → QuestionFault → Type 0
@@ -300,14 +355,17 @@ IsFaultOf (job.Strip db route side classes) fault = CannotStrip route.now side.n
 IsFaultOf (job.Diagram db route classes from to) fault = CannotDiagram route.now (map (λ w. w.now) classes.items) (option_map (λ w. w.now) from) (option_map (λ w. w.now) to) fault
 IsFaultOf (job.Find db asset) fault = Cannot word.Asset (SaysAsset asset.now) fault
 IsFaultOf (job.Route db route) fault = Cannot word.Route (SaysRoute route.now) fault
-IsFaultOf (job.Where db route chainage mm) fault = CannotWhere route.now chainage.now (option_map (λ w. w.now) mm) fault
+IsFaultOf (job.Where db route place mm) fault = CannotWhere route.now place.now (option_map (λ w. w.now) mm) fault
 IsFaultOf (job.Lengths db route text) fault = CannotIfGiven word.Route SaysRoute (option_map (λ w. w.now) route) fault
-IsFaultOf (job.List db what text) fault = Cannot word.What (SaysList what.now) fault
-IsFaultOf (job.Rows db route from to class asset text) fault =
-    CannotRows (option_map (λ w. w.now) route) (option_map (λ w. w.now) from) (option_map (λ w. w.now) to) (option_map (λ w. w.now) class) (option_map (λ w. w.now) asset) fault
-IsFaultOf (job.Gone db edit text) fault = CannotIfGiven word.Edit SaysEdit (option_map (λ w. w.now) edit) fault
-IsFaultOf (job.Log db from key text false) fault = CannotLog (option_map (λ w. w.now) from) (option_map (λ w. w.now) key) fault
-IsFaultOf (job.Log db from key text true) fault = CannotSum (option_map (λ w. w.now) from) (option_map (λ w. w.now) key) fault
+IsFaultOf (job.List db what route exact text) fault = CannotList what.now (option_map (λ w. w.now) route) exact fault
+IsFaultOf (job.Rows db route from to class asset exact on_links text) fault =
+    CannotForm exact on_links fault
+    ⊎ CannotRows (option_map (λ w. w.now) route) (option_map (λ w. w.now) from) (option_map (λ w. w.now) to) (option_map (λ w. w.now) class) (option_map (λ w. w.now) asset) fault
+IsFaultOf (job.Gone db edit class since until text) fault =
+    CannotGone (option_map (λ w. w.now) edit) (option_map (λ w. w.now) class) (option_map (λ w. w.now) since) (option_map (λ w. w.now) until) fault
+IsFaultOf (job.History db asset text) fault = Cannot word.Asset (SaysAsset asset.now) fault
+IsFaultOf (job.Log db from until key text false) fault = CannotLog (option_map (λ w. w.now) from) (option_map (λ w. w.now) until) (option_map (λ w. w.now) key) fault
+IsFaultOf (job.Log db from until key text true) fault = CannotSum (option_map (λ w. w.now) from) (option_map (λ w. w.now) until) (option_map (λ w. w.now) key) fault
 IsFaultOf (job.Serve db port max sums log end_on_fault most_reply page) fault = CannotServe port.now max.now (option_map (λ w. w.now) most_reply) fault
 IsFaultOf _ fault = ⊥
 
@@ -319,16 +377,23 @@ bad_word_text word.Position = codes "POS is no position by this method"
 bad_word_text word.Destination = codes "TO is none of abs, int, rel:NAME and link"
 bad_word_text word.Side = codes "SIDE is neither L nor R"
 bad_word_text word.Class = codes "CLASS is no class name"
-bad_word_text word.From = codes "FROM is no chainage in millimetres"
-bad_word_text word.To = codes "TO is no chainage in millimetres"
+bad_word_text word.From = codes "FROM is no place: millimetres, or abs:, rel: or int: before a position"
+bad_word_text word.To = codes "TO is no place: millimetres, or abs:, rel: or int: before a position"
 bad_word_text word.Asset = codes "ASSET is no asset number"
-bad_word_text word.What = codes "WHAT is none of routes, links, classes, refs and marks"
+bad_word_text word.What = codes "WHAT is none of routes, links, classes, refs, marks and pieces"
+bad_word_text word.RouteOfList = codes "--route stands only beside refs, marks and pieces"
+bad_word_text word.ExactOfList = codes "--exact stands only beside refs"
+bad_word_text word.TwoForms = codes "--exact and --on-links are two forms"
 bad_word_text word.Edit = codes "EDIT is no number of an edit"
+bad_word_text word.Since = codes "SINCE is no number of an edit"
+bad_word_text word.Until = codes "UNTIL is no number of an edit"
 bad_word_text word.Number = codes "FROM is no number of an edit"
 bad_word_text word.Key = codes "KEY is no key"
 bad_word_text word.FromBesideKey = codes "FROM and --key KEY are two questions"
+bad_word_text word.UntilBesideKey = codes "--until and --key KEY are two questions"
 bad_word_text word.SumBesideKey = codes "--sum and --key KEY are two questions"
-bad_word_text word.Chainage = codes "CHAINAGE is no chainage in millimetres"
+bad_word_text word.UntilBesideSum = codes "--until and --sum are two questions"
+bad_word_text word.Place = codes "PLACE is no place: millimetres, or abs:, rel: or int: before a position"
 bad_word_text word.NotLink = codes "MM stands only behind the word link and LINK"
 bad_word_text word.Link = codes "LINK is no link number"
 bad_word_text word.Millimetre = codes "MM is no millimetre of a link"

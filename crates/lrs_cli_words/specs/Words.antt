@@ -9,7 +9,7 @@ use Rattle.clap.specs.declared.error.ErrorKind.TheVariants as kind
 use Rattle.lrs_cli_words.specs.declared.job.JobName.{JobName}
 use Rattle.lrs_cli_words.specs.declared.job.JobName.TheVariants as job
 use Rattle.lrs_cli_words.specs.declared.job.Job.{Job}
-use Rattle.lrs_cli_words.specs.declared.job.Job.TheVariants.{Edit, Survey, Check, Tidy, At, Where, Translate, Strip, Diagram, Totals, Lengths, Find, Route, Ask, List as Listing, Rows, Gone, Log, Audit, Serve, Page}
+use Rattle.lrs_cli_words.specs.declared.job.Job.TheVariants.{Edit, Survey, Check, Tidy, At, Where, Translate, Strip, Diagram, Totals, Lengths, Find, Route, Ask, List as Listing, Rows, Gone, History, Log, Audit, Serve, Page}
 
 -- ---- the command line
 
@@ -55,6 +55,7 @@ name_text job.Ask = codes "ask"
 name_text job.List = codes "list"
 name_text job.Rows = codes "rows"
 name_text job.Gone = codes "gone"
+name_text job.History = codes "history"
 name_text job.Log = codes "log"
 name_text job.Audit = codes "audit"
 name_text job.Serve = codes "serve"
@@ -67,7 +68,7 @@ rules_of job.Survey = required (codes "DB") ∷ required (codes "SHEET") ∷ []
 rules_of job.Check = required (codes "DB") ∷ required (codes "SHEET") ∷ []
 rules_of job.Tidy = required (codes "FILE") ∷ []
 rules_of job.At = required (codes "DB") ∷ required (codes "ROUTE") ∷ required (codes "METHOD") ∷ required (codes "POS") ∷ []
-rules_of job.Where = required (codes "DB") ∷ required (codes "ROUTE") ∷ required (codes "CHAINAGE") ∷ []
+rules_of job.Where = required (codes "DB") ∷ required (codes "ROUTE") ∷ required (codes "PLACE") ∷ []
 rules_of job.Translate = required (codes "DB") ∷ required (codes "ROUTE") ∷ required (codes "METHOD") ∷ required (codes "POS") ∷ required (codes "TO") ∷ []
 rules_of job.Strip = required (codes "DB") ∷ required (codes "ROUTE") ∷ required (codes "SIDE") ∷ several (codes "CLASS") ∷ []
 rules_of job.Diagram = required (codes "DB") ∷ required (codes "ROUTE") ∷ []
@@ -79,12 +80,13 @@ rules_of job.Ask = required (codes "DB") ∷ required (codes "QUESTIONS") ∷ []
 rules_of job.List = required (codes "DB") ∷ required (codes "WHAT") ∷ []
 rules_of job.Rows = required (codes "DB") ∷ []
 rules_of job.Gone = required (codes "DB") ∷ []
+rules_of job.History = required (codes "DB") ∷ required (codes "ASSET") ∷ []
 rules_of job.Log = required (codes "DB") ∷ []
 rules_of job.Audit = required (codes "DB") ∷ []
 rules_of job.Serve = required (codes "DB") ∷ required (codes "PORT") ∷ required (codes "MAX") ∷ []
 rules_of job.Page = required (codes "DIR") ∷ []
 
--- what may be left out: those jobs that may make a file have `--sums`, those that do a sheet also `--resume`, `--all` and `--whole`, a service also `--log`, `--end-on-fault`, `--most-reply` and `--page`, a check and a tidying say of which kind their sheet is, a place on a link has its millimetre, a diagram has its classes and its ends, a list may be narrowed, and has `--text`, and a log has its sum
+-- what may be left out: those jobs that may make a file have `--sums`, those that do a sheet also `--resume`, `--all` and `--whole`, a service also `--log`, `--end-on-fault`, `--most-reply` and `--page`, a check and a tidying say of which kind their sheet is, a place on a link has its millimetre, a diagram has its classes and its ends, a list may be narrowed, told in another form, and has `--text`, and a log has its end and its sum
 abbrev pub options_of : JobName → List Rule
 options_of job.Edit = flag (codes "sums") ∷ flag (codes "resume") ∷ flag (codes "all") ∷ flag (codes "whole") ∷ []
 options_of job.Survey = flag (codes "sums") ∷ flag (codes "resume") ∷ flag (codes "all") ∷ flag (codes "whole") ∷ []
@@ -93,11 +95,13 @@ options_of job.Tidy = flag (codes "survey") ∷ []
 options_of job.Serve = flag (codes "sums") ∷ flag (codes "log") ∷ flag (codes "end-on-fault") ∷ option (codes "most-reply") ∷ flag (codes "page") ∷ []
 options_of job.Where = optional (codes "MM") ∷ []
 options_of job.Lengths = option (codes "route") ∷ flag (codes "text") ∷ []
-options_of job.List = flag (codes "text") ∷ []
+options_of job.List = option (codes "route") ∷ flag (codes "exact") ∷ flag (codes "text") ∷ []
 options_of job.Diagram = any (codes "CLASS") ∷ option (codes "from") ∷ option (codes "to") ∷ []
-options_of job.Rows = option (codes "route") ∷ option (codes "from") ∷ option (codes "to") ∷ option (codes "class") ∷ option (codes "asset") ∷ flag (codes "text") ∷ []
-options_of job.Gone = option (codes "edit") ∷ flag (codes "text") ∷ []
-options_of job.Log = optional (codes "FROM") ∷ option (codes "key") ∷ flag (codes "text") ∷ flag (codes "sum") ∷ []
+options_of job.Rows =
+    option (codes "route") ∷ option (codes "from") ∷ option (codes "to") ∷ option (codes "class") ∷ option (codes "asset") ∷ flag (codes "exact") ∷ flag (codes "on-links") ∷ flag (codes "text") ∷ []
+options_of job.Gone = option (codes "edit") ∷ option (codes "class") ∷ option (codes "since") ∷ option (codes "until") ∷ flag (codes "text") ∷ []
+options_of job.History = flag (codes "text") ∷ []
+options_of job.Log = optional (codes "FROM") ∷ option (codes "until") ∷ option (codes "key") ∷ flag (codes "text") ∷ flag (codes "sum") ∷ []
 options_of _ = []
 
 -- the line of a job: its name, its words and its options
@@ -115,7 +119,7 @@ with_job a j = with_subcommand a (line_of_job j)
 abbrev pub jobs : List JobName
 jobs =
     job.Edit ∷ job.Survey ∷ job.Check ∷ job.Tidy ∷ job.At ∷ job.Where ∷ job.Translate ∷ job.Strip ∷ job.Diagram ∷ job.Totals ∷ job.Lengths ∷ job.Find ∷ job.Route ∷ job.Ask ∷ job.List
-    ∷ job.Rows ∷ job.Gone ∷ job.Log ∷ job.Audit ∷ job.Serve ∷ job.Page ∷ []
+    ∷ job.Rows ∷ job.Gone ∷ job.History ∷ job.Log ∷ job.Audit ∷ job.Serve ∷ job.Page ∷ []
 
 abbrev pub bare_line : App
 bare_line = record (new_app (codes "roadlrs")) {
@@ -134,7 +138,7 @@ job_name (Survey db sheet sums resume all whole) = job.Survey
 job_name (Check db sheet survey) = job.Check
 job_name (Tidy file survey) = job.Tidy
 job_name (At db route method position) = job.At
-job_name (Where db route chainage mm) = job.Where
+job_name (Where db route place mm) = job.Where
 job_name (Translate db route method position to) = job.Translate
 job_name (Strip db route side classes) = job.Strip
 job_name (Diagram db route classes from to) = job.Diagram
@@ -143,10 +147,11 @@ job_name (Lengths db route text) = job.Lengths
 job_name (Find db asset) = job.Find
 job_name (Route db route) = job.Route
 job_name (Ask db questions) = job.Ask
-job_name (Listing db what text) = job.List
-job_name (Rows db route from to class asset text) = job.Rows
-job_name (Gone db edit text) = job.Gone
-job_name (Log db from key text sum) = job.Log
+job_name (Listing db what route exact text) = job.List
+job_name (Rows db route from to class asset exact on_links text) = job.Rows
+job_name (Gone db edit class since until text) = job.Gone
+job_name (History db asset text) = job.History
+job_name (Log db from until key text sum) = job.Log
 job_name (Audit db) = job.Audit
 job_name (Serve db port max sums log end_on_fault most_reply page) = job.Serve
 job_name (Page dir) = job.Page
@@ -158,7 +163,7 @@ words_of (Survey db sheet sums resume all whole) = (codes "DB", db.now) ∷ (cod
 words_of (Check db sheet survey) = (codes "DB", db.now) ∷ (codes "SHEET", sheet.now) ∷ []
 words_of (Tidy file survey) = (codes "FILE", file.now) ∷ []
 words_of (At db route method position) = (codes "DB", db.now) ∷ (codes "ROUTE", route.now) ∷ (codes "METHOD", method.now) ∷ (codes "POS", position.now) ∷ []
-words_of (Where db route chainage mm) = (codes "DB", db.now) ∷ (codes "ROUTE", route.now) ∷ (codes "CHAINAGE", chainage.now) ∷ []
+words_of (Where db route place mm) = (codes "DB", db.now) ∷ (codes "ROUTE", route.now) ∷ (codes "PLACE", place.now) ∷ []
 words_of (Translate db route method position to) =
     (codes "DB", db.now) ∷ (codes "ROUTE", route.now) ∷ (codes "METHOD", method.now) ∷ (codes "POS", position.now) ∷ (codes "TO", to.now) ∷ []
 words_of (Strip db route side classes) = (codes "DB", db.now) ∷ (codes "ROUTE", route.now) ∷ (codes "SIDE", side.now) ∷ []
@@ -168,10 +173,11 @@ words_of (Lengths db route text) = (codes "DB", db.now) ∷ []
 words_of (Find db asset) = (codes "DB", db.now) ∷ (codes "ASSET", asset.now) ∷ []
 words_of (Route db route) = (codes "DB", db.now) ∷ (codes "ROUTE", route.now) ∷ []
 words_of (Ask db questions) = (codes "DB", db.now) ∷ (codes "QUESTIONS", questions.now) ∷ []
-words_of (Listing db what text) = (codes "DB", db.now) ∷ (codes "WHAT", what.now) ∷ []
-words_of (Rows db route from to class asset text) = (codes "DB", db.now) ∷ []
-words_of (Gone db edit text) = (codes "DB", db.now) ∷ []
-words_of (Log db from key text sum) = (codes "DB", db.now) ∷ []
+words_of (Listing db what route exact text) = (codes "DB", db.now) ∷ (codes "WHAT", what.now) ∷ []
+words_of (Rows db route from to class asset exact on_links text) = (codes "DB", db.now) ∷ []
+words_of (Gone db edit class since until text) = (codes "DB", db.now) ∷ []
+words_of (History db asset text) = (codes "DB", db.now) ∷ (codes "ASSET", asset.now) ∷ []
+words_of (Log db from until key text sum) = (codes "DB", db.now) ∷ []
 words_of (Audit db) = (codes "DB", db.now) ∷ []
 words_of (Serve db port max sums log end_on_fault most_reply page) = (codes "DB", db.now) ∷ (codes "PORT", port.now) ∷ (codes "MAX", max.now) ∷ []
 words_of (Page dir) = (codes "DIR", dir.now) ∷ []
@@ -190,14 +196,19 @@ IsValue id rows word = first_of id rows ≡ word
 abbrev pub HasValues : Job → List Row → Type 0
 HasValues (Diagram db route classes from to) rows =
     IsValue (codes "from") rows (option_map (λ w. w.now) from) × IsValue (codes "to") rows (option_map (λ w. w.now) to)
-HasValues (Rows db route from to class asset text) rows =
+HasValues (Rows db route from to class asset exact on_links text) rows =
     IsValue (codes "route") rows (option_map (λ w. w.now) route) × IsValue (codes "from") rows (option_map (λ w. w.now) from)
     × IsValue (codes "to") rows (option_map (λ w. w.now) to) × IsValue (codes "class") rows (option_map (λ w. w.now) class)
     × IsValue (codes "asset") rows (option_map (λ w. w.now) asset)
-HasValues (Where db route chainage mm) rows = IsValue (codes "MM") rows (option_map (λ w. w.now) mm)
+HasValues (Where db route place mm) rows = IsValue (codes "MM") rows (option_map (λ w. w.now) mm)
 HasValues (Lengths db route text) rows = IsValue (codes "route") rows (option_map (λ w. w.now) route)
-HasValues (Gone db edit text) rows = IsValue (codes "edit") rows (option_map (λ w. w.now) edit)
-HasValues (Log db from key text sum) rows = IsValue (codes "FROM") rows (option_map (λ w. w.now) from) × IsValue (codes "key") rows (option_map (λ w. w.now) key)
+HasValues (Listing db what route exact text) rows = IsValue (codes "route") rows (option_map (λ w. w.now) route)
+HasValues (Gone db edit class since until text) rows =
+    IsValue (codes "edit") rows (option_map (λ w. w.now) edit) × IsValue (codes "class") rows (option_map (λ w. w.now) class)
+    × IsValue (codes "since") rows (option_map (λ w. w.now) since) × IsValue (codes "until") rows (option_map (λ w. w.now) until)
+HasValues (Log db from until key text sum) rows =
+    IsValue (codes "FROM") rows (option_map (λ w. w.now) from) × IsValue (codes "until") rows (option_map (λ w. w.now) until)
+    × IsValue (codes "key") rows (option_map (λ w. w.now) key)
 HasValues (Serve db port max sums log end_on_fault most_reply page) rows = IsValue (codes "most-reply") rows (option_map (λ w. w.now) most_reply)
 HasValues _ rows = ⊤
 
@@ -233,15 +244,22 @@ HasWhole _ rows = ⊤
 -- each cell of a list is written as text exactly where `--text` was given
 abbrev pub HasText : Job → List Row → Type 0
 HasText (Lengths db route text) rows = IsTrue text ↔ IsSet (codes "text") rows
-HasText (Listing db what text) rows = IsTrue text ↔ IsSet (codes "text") rows
-HasText (Rows db route from to class asset text) rows = IsTrue text ↔ IsSet (codes "text") rows
-HasText (Gone db edit text) rows = IsTrue text ↔ IsSet (codes "text") rows
-HasText (Log db from key text sum) rows = IsTrue text ↔ IsSet (codes "text") rows
+HasText (Listing db what route exact text) rows = IsTrue text ↔ IsSet (codes "text") rows
+HasText (Rows db route from to class asset exact on_links text) rows = IsTrue text ↔ IsSet (codes "text") rows
+HasText (Gone db edit class since until text) rows = IsTrue text ↔ IsSet (codes "text") rows
+HasText (History db asset text) rows = IsTrue text ↔ IsSet (codes "text") rows
+HasText (Log db from until key text sum) rows = IsTrue text ↔ IsSet (codes "text") rows
 HasText _ rows = ⊤
+
+-- measures are exact where `--exact` was given, and stretches are told on links where `--on-links` was, and not else
+abbrev pub HasForm : Job → List Row → Type 0
+HasForm (Listing db what route exact text) rows = IsTrue exact ↔ IsSet (codes "exact") rows
+HasForm (Rows db route from to class asset exact on_links text) rows = (IsTrue exact ↔ IsSet (codes "exact") rows) × (IsTrue on_links ↔ IsSet (codes "on-links") rows)
+HasForm _ rows = ⊤
 
 -- the sum of a log is asked for exactly where `--sum` was given
 abbrev pub HasSum : Job → List Row → Type 0
-HasSum (Log db from key text sum) rows = IsTrue sum ↔ IsSet (codes "sum") rows
+HasSum (Log db from until key text sum) rows = IsTrue sum ↔ IsSet (codes "sum") rows
 HasSum _ rows = ⊤
 
 -- a survey is checked or tidied exactly where `--survey` was given
@@ -258,7 +276,7 @@ HasManner _ rows = ⊤
 
 -- its words stand in their places, and its options are as they were given
 abbrev pub HasWords : Job → List Row → Type 0
-HasWords j rows = (map (λ w. first_of w.0 rows) (words_of j) ≡ map (λ w. Some w.1) (words_of j)) × HasClasses j rows × HasValues j rows × HasSums j rows × HasResume j rows × HasAll j rows × HasWhole j rows × HasText j rows × HasSum j rows × HasKind j rows × HasManner j rows
+HasWords j rows = (map (λ w. first_of w.0 rows) (words_of j) ≡ map (λ w. Some w.1) (words_of j)) × HasClasses j rows × HasValues j rows × HasSums j rows × HasResume j rows × HasAll j rows × HasWhole j rows × HasText j rows × HasForm j rows × HasSum j rows × HasKind j rows × HasManner j rows
 
 -- the job that was met has this name and these rows
 abbrev pub IsMet : Job → Option (Text × List Row) → Type 0

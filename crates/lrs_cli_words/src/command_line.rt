@@ -11,7 +11,7 @@ use clap::Command;
 use std::alloc::{AllocError, Global};
 
 /// The version of the program, and the kit that proved it.
-static VERSION: &str = "0.8.17, proved by rattle-kit-13b logic dac8208d650f15bf";
+static VERSION: &str = "0.8.18, proved by rattle-kit-13f logic dac8208d650f15bf";
 
 // What help says of the words.
 const DB: &str = "The inventory's file, or :memory: for a fresh one in memory";
@@ -44,9 +44,9 @@ const CLASS: &str = "The names of exclusive classes";
 
 const CLASSES: &str = "The names of classes; all where none is named";
 
-const FROM_CHAINAGE: &str = "From this chainage, in millimetres; else from the start";
+const FROM_PLACE: &str = "From this place: 3000 (mm), abs:3000, rel:KM2+500 or int:1/3";
 
-const TO_CHAINAGE: &str = "To this chainage, in millimetres; else to the end";
+const TO_PLACE: &str = "To this place; else to the end";
 
 const ASSET: &str = "The number of an asset";
 
@@ -68,13 +68,21 @@ const AS_TEXT: &str = "Writes each cell as text, for a spreadsheet";
 
 const AS_SURVEY: &str = "The sheet is a survey";
 
-const WHAT: &str = "What is listed: routes, links, classes, refs or marks";
+const WHAT: &str = "What is listed: routes, links, classes, refs, marks or pieces";
 
 const OF_ROUTE: &str = "On this route; else on all";
 
-const ROWS_FROM: &str = "What lies after this chainage, in millimetres";
+const OF_LISTED_ROUTE: &str = "Of refs, marks or pieces: those of this route; else of all";
 
-const ROWS_TO: &str = "What lies before this chainage, in millimetres";
+const ROWS_FROM: &str = "What lies after this place: 3000 (mm), abs:3000, rel:KM2+500 or int:1/3";
+
+const ROWS_TO: &str = "What lies before this place";
+
+const EXACT: &str = "Measures as whole numbers or fractions, and not as decimals";
+
+const EXACT_REFS: &str = "Of refs: measures as whole numbers or fractions, and not as decimals";
+
+const ON_LINKS: &str = "Stretches of links, with sides seen along the link";
 
 const OF_CLASS: &str = "Of this class; else of all";
 
@@ -82,7 +90,12 @@ const OF_ASSET: &str = "Of the asset of this number; else of all";
 
 const OF_EDIT: &str = "By the edit of this number; else by all";
 
-const CHAINAGE: &str = "A chainage of the route, in millimetres";
+const SINCE: &str = "By edits from this number on";
+
+const UNTIL: &str = "By edits up to this number";
+
+const PLACE: &str =
+    "A chainage of the route in millimetres, or a position: abs:3000, rel:KM2+500, int:1/3";
 
 const MM: &str = "After the word link and a link's number: a millimetre of the link";
 
@@ -94,6 +107,8 @@ const MOST_REPLY: &str =
     "How many bytes a reply has at most, 67108864 unless said; a longer one is a 503";
 
 const WITH_PAGE: &str = "Shows the web page at /; takes no sheet of a page from elsewhere";
+
+const UNTIL_EDIT: &str = "The number of the last edit; else to the last one of all";
 
 const FROM_EDIT: &str = "The number of the first edit; else from the first one of all";
 
@@ -250,14 +265,15 @@ static AT: JobLine = JobLine {
 
 static WHERE: JobLine = JobLine {
     name: "where",
-    about: "Shows what is at a chainage, and its position by each method",
+    about: "Shows what is at a place, and its position by each method",
     example: "Examples: roadlrs where roads.db A1 3000
+          roadlrs where roads.db A1 rel:KM2+500
           roadlrs where roads.db link 101 3000",
     usage: None,
     parts: &[
         LinePart::Required("DB", DB),
         LinePart::Required("ROUTE", ROUTE),
-        LinePart::Required("CHAINAGE", CHAINAGE),
+        LinePart::Required("PLACE", PLACE),
         LinePart::Optional("MM", MM),
     ],
 };
@@ -298,8 +314,8 @@ static DIAGRAM: JobLine = JobLine {
         LinePart::Required("DB", DB),
         LinePart::Required("ROUTE", ROUTE),
         LinePart::Any("CLASS", CLASSES),
-        LinePart::Valued("from", "C", FROM_CHAINAGE),
-        LinePart::Valued("to", "C", TO_CHAINAGE),
+        LinePart::Valued("from", "PLACE", FROM_PLACE),
+        LinePart::Valued("to", "PLACE", TO_PLACE),
     ],
 };
 
@@ -358,12 +374,15 @@ static ASK: JobLine = JobLine {
 
 static LIST: JobLine = JobLine {
     name: "list",
-    about: "Lists the routes, links, classes, referents or marks as CSV",
-    example: "Example: roadlrs list roads.db routes",
+    about: "Lists the routes, links, classes, referents, marks or pieces as CSV",
+    example: "Examples: roadlrs list roads.db routes
+          roadlrs list roads.db refs --route A1",
     usage: None,
     parts: &[
         LinePart::Required("DB", DB),
         LinePart::Required("WHAT", WHAT),
+        LinePart::Valued("route", "ROUTE", OF_LISTED_ROUTE),
+        LinePart::Switch("exact", EXACT_REFS),
         LinePart::Switch("text", AS_TEXT),
     ],
 };
@@ -371,15 +390,18 @@ static LIST: JobLine = JobLine {
 static ROWS: JobLine = JobLine {
     name: "rows",
     about: "Lists the stretches that assets hold as CSV",
-    example: "Example: roadlrs rows roads.db --route A1 --class SPEED",
+    example: "Examples: roadlrs rows roads.db --route A1 --class SPEED
+          roadlrs rows roads.db --route A1 --from abs:3000 --to rel:KM2+500",
     usage: None,
     parts: &[
         LinePart::Required("DB", DB),
         LinePart::Valued("route", "ROUTE", OF_ROUTE),
-        LinePart::Valued("from", "C", ROWS_FROM),
-        LinePart::Valued("to", "C", ROWS_TO),
+        LinePart::Valued("from", "PLACE", ROWS_FROM),
+        LinePart::Valued("to", "PLACE", ROWS_TO),
         LinePart::Valued("class", "CLASS", OF_CLASS),
         LinePart::Valued("asset", "ASSET", OF_ASSET),
+        LinePart::Switch("exact", EXACT),
+        LinePart::Switch("on-links", ON_LINKS),
         LinePart::Switch("text", AS_TEXT),
     ],
 };
@@ -392,6 +414,21 @@ static GONE: JobLine = JobLine {
     parts: &[
         LinePart::Required("DB", DB),
         LinePart::Valued("edit", "N", OF_EDIT),
+        LinePart::Valued("class", "CLASS", OF_CLASS),
+        LinePart::Valued("since", "N", SINCE),
+        LinePart::Valued("until", "N", UNTIL),
+        LinePart::Switch("text", AS_TEXT),
+    ],
+};
+
+static HISTORY: JobLine = JobLine {
+    name: "history",
+    about: "Lists what was entered, retired and abandoned of an asset, as CSV",
+    example: "Example: roadlrs history roads.db 10",
+    usage: None,
+    parts: &[
+        LinePart::Required("DB", DB),
+        LinePart::Required("ASSET", ASSET),
         LinePart::Switch("text", AS_TEXT),
     ],
 };
@@ -404,6 +441,7 @@ static LOG: JobLine = JobLine {
     parts: &[
         LinePart::Required("DB", DB),
         LinePart::Optional("FROM", FROM_EDIT),
+        LinePart::Valued("until", "N", UNTIL_EDIT),
         LinePart::Valued("key", "KEY", OF_KEY),
         LinePart::Switch("text", AS_TEXT),
         LinePart::Switch("sum", AS_SUM),
@@ -465,6 +503,7 @@ fn line_in_table(job: JobName) -> &'static JobLine
         JobName::List => &LIST,
         JobName::Rows => &ROWS,
         JobName::Gone => &GONE,
+        JobName::History => &HISTORY,
         JobName::Log => &LOG,
         JobName::Audit => &AUDIT,
         JobName::Serve => &SERVE,
@@ -533,6 +572,7 @@ pub(crate) fn program<'a>(alloc: Global) -> Result<Command<'a>, AllocError>
             JobName::List,
             JobName::Rows,
             JobName::Gone,
+            JobName::History,
             JobName::Log,
             JobName::Audit,
             JobName::Serve,

@@ -24,6 +24,7 @@ pub enum JobName {
     List,
     Rows,
     Gone,
+    History,
     Log,
     Audit,
     Serve,
@@ -72,12 +73,11 @@ pub enum Job<'a> {
         method: &'a str,
         position: &'a str,
     },
-    /// Says what is at a chainage of a route; or, where `route` is `link`, at the millimetre `mm` of the link
-    /// `chainage`.
+    /// Says what is at a place of a route; or, where `route` is `link`, at the millimetre `mm` of the link `place`.
     Where {
         db: &'a str,
         route: &'a str,
-        chainage: &'a str,
+        place: &'a str,
         mm: Option<&'a str>,
     },
     /// Says a position on a route by another method, or on a link.
@@ -95,8 +95,7 @@ pub enum Job<'a> {
         side: &'a str,
         classes: Vec<&'a str>,
     },
-    /// Draws a route with the assets of classes, or of all where none is named, from a chainage to
-    /// another.
+    /// Draws a route with the assets of classes, or of all where none is named, from a place to another.
     Diagram {
         db: &'a str,
         route: &'a str,
@@ -129,14 +128,17 @@ pub enum Job<'a> {
         db: &'a str,
         questions: &'a str,
     },
-    /// Lists all of one kind: routes, links, classes, referents or marks.
+    /// Lists all of one kind: routes, links or classes; or the referents, marks or pieces of all routes, or of one. With
+    /// `exact` measures are whole numbers or fractions.
     List {
         db: &'a str,
         what: &'a str,
+        route: Option<&'a str>,
+        exact: bool,
         text: bool,
     },
-    /// Lists the stretches that assets hold: on a route, from a chainage to another, of a class, of an
-    /// asset, where these are given.
+    /// Lists the stretches that assets hold: on a route, from a place to another, of a class, of an asset, where these
+    /// are given. With `exact` measures are whole numbers or fractions; with `on_links` stretches are told on links.
     Rows {
         db: &'a str,
         route: Option<&'a str>,
@@ -144,19 +146,32 @@ pub enum Job<'a> {
         to: Option<&'a str>,
         class: Option<&'a str>,
         asset: Option<&'a str>,
+        exact: bool,
+        on_links: bool,
         text: bool,
     },
-    /// Lists what was retired or abandoned, by one edit where it is given.
+    /// Lists what was retired or abandoned: by one edit, by those from a number on, or up to one, and of a class, where
+    /// these are given.
     Gone {
         db: &'a str,
         edit: Option<&'a str>,
+        class: Option<&'a str>,
+        since: Option<&'a str>,
+        until: Option<&'a str>,
         text: bool,
     },
-    /// Prints the accepted commands as an edit sheet: from a number on, or the one of a key. With `sum` it prints the
-    /// sum of them all, or up to that number.
+    /// Lists what was entered, retired and abandoned of an asset.
+    History {
+        db: &'a str,
+        asset: &'a str,
+        text: bool,
+    },
+    /// Prints the accepted commands as an edit sheet: from a number on, or up to one, or the one of a key. With `sum` it
+    /// prints the sum of them all, or up to the number `from`.
     Log {
         db: &'a str,
         from: Option<&'a str>,
+        until: Option<&'a str>,
         key: Option<&'a str>,
         text: bool,
         sum: bool,
@@ -205,6 +220,7 @@ pub fn new_has_sums(job: &Job<'_>) -> bool
         | Job::List { .. }
         | Job::Rows { .. }
         | Job::Gone { .. }
+        | Job::History { .. }
         | Job::Log { .. }
         | Job::Audit { .. }
         | Job::Page { .. } => false,
@@ -234,6 +250,7 @@ pub(crate) fn read_job(name: &str) -> Option<JobName>
         "list" => Some(JobName::List),
         "rows" => Some(JobName::Rows),
         "gone" => Some(JobName::Gone),
+        "history" => Some(JobName::History),
         "log" => Some(JobName::Log),
         "audit" => Some(JobName::Audit),
         "serve" => Some(JobName::Serve),

@@ -1,24 +1,65 @@
 //! Places, and listings, as words say them.
 
-ghost use Rattle.std.specs.Prelude.{IfOk, IfErr, option_map};
-ghost use Rattle.lrs_cli_words.specs.Questions.{AsksLog, AsksRows, Cannot, CannotIfGiven, CannotLink, CannotLog, CannotPlace, CannotRows, CannotSum, CannotWhere, IsOnLink, IsOnRoute, IsPlace, SaysAsset, SaysClass, SaysEdit, SaysIfGiven, SaysKey, SaysLink, SaysList, SaysRoute, SaysSummed};
+ghost use Rattle.std.specs.Prelude.{◌≡◌, ◌⊎◌, IfOk, IfErr, None, false, option_map};
+ghost use Rattle.lrs_cli_words.specs.Questions.{AreAsked, AreGoneAsked, AsksLog, Cannot, CannotForm, CannotGone, CannotIfGiven, CannotLink, CannotList, CannotLog, CannotPlace, CannotRows, CannotSum, CannotWhere, IsForm, IsMisplacedExact, IsMisplacedRoute, IsOnLink, IsOnRoute, IsPlace, SaysAsset, SaysClass, SaysEdit, SaysFirst, SaysIfGiven, SaysKey, SaysLink, SaysList, SaysRoute, SaysSummed};
 
-use crate::question::{BadWord, QuestionFault, asset_of, class_of, end_of, number_of, route_of};
+use crate::question::{
+    BadWord, QuestionFault, asset_of, class_of, end_of, number_of, place_in, route_of,
+};
 use lrs_events::ClassName;
-use lrs_machine::{AskedPlace, Key, Listing, RowsWanted};
-use lrs_measure::limits::{GREATEST_LINK, LONGEST_LINK, LONGEST_ROUTE, MOST_EDITS};
+use lrs_machine::{AskedPlace, GoneWanted, Key, Listing, RowForm, RowsAsked};
+use lrs_measure::limits::{GREATEST_LINK, LONGEST_LINK, MOST_EDITS};
 use lrs_position::RouteName;
 
-pub(crate) fn list_of(text: &str) -> Result<Listing, QuestionFault>
-    ensures read { IfOk result (SaysList text.now) }
-    ensures unread { IfErr result (Cannot BadWord.What (SaysList text.now)) }
+/// No measures are listed here that could be exact.
+fn refuse_exact(exact: bool) -> Result<(), QuestionFault>
+    ensures read { IfOk result (λ _. exact ≡ false) }
+    ensures unread { IfErr result (IsMisplacedExact exact) }
 {
-    match text {
-        "routes" => Ok(Listing::Routes),
-        "links" => Ok(Listing::Links),
-        "classes" => Ok(Listing::Classes),
-        "refs" => Ok(Listing::Refs),
-        "marks" => Ok(Listing::Marks),
+    if exact {
+        return Err(QuestionFault::Unreadable(BadWord::ExactOfList));
+    }
+    Ok(())
+}
+
+/// A list that is not of one route, and has no measures.
+fn whole_list(listing: Listing, route: Option<&str>, exact: bool) -> Result<Listing, QuestionFault>
+    ensures read { IfOk result (λ l. (l ≡ listing) × (route.entry ≡ None) × (exact ≡ false)) }
+    ensures unread { IfErr result (λ e. IsMisplacedRoute (option_map (λ t. t.now) route.entry) e
+        ⊎ IsMisplacedExact exact e) }
+{
+    if route.is_some() {
+        return Err(QuestionFault::Unreadable(BadWord::RouteOfList));
+    }
+    refuse_exact(exact)?;
+    Ok(listing)
+}
+
+pub(crate) fn list_of(
+    what: &str,
+    route: Option<&str>,
+    exact: bool,
+) -> Result<Listing, QuestionFault>
+    ensures read { IfOk result (SaysList what.now (option_map (λ t. t.now) route.entry) exact) }
+    ensures unread { IfErr result (CannotList what.now (option_map (λ t. t.now) route.entry)
+        exact) }
+{
+    match what {
+        "routes" => whole_list(Listing::Routes, route, exact),
+        "links" => whole_list(Listing::Links, route, exact),
+        "classes" => whole_list(Listing::Classes, route, exact),
+        "refs" => {
+            let route = route_if_given(route)?;
+            Ok(Listing::Refs { route, exact })
+        }
+        "marks" => {
+            refuse_exact(exact)?;
+            Ok(Listing::Marks(route_if_given(route)?))
+        }
+        "pieces" => {
+            refuse_exact(exact)?;
+            Ok(Listing::Pieces(route_if_given(route)?))
+        }
         _ => Err(QuestionFault::Unreadable(BadWord::What)),
     }
 }
@@ -40,30 +81,30 @@ fn place_on_link(link: &str, mm: &str) -> Result<AskedPlace, QuestionFault>
     Ok(AskedPlace::OnLink { link, mm })
 }
 
-fn place_on_route(route: &str, chainage: &str) -> Result<AskedPlace, QuestionFault>
-    ensures read { IfOk result (IsOnRoute route.now chainage.now) }
-    ensures unread { IfErr result (CannotPlace route.now chainage.now) }
+fn place_on_route(route: &str, place: &str) -> Result<AskedPlace, QuestionFault>
+    ensures read { IfOk result (IsOnRoute route.now place.now) }
+    ensures unread { IfErr result (CannotPlace route.now place.now) }
 {
     let route = route_of(route)?;
-    let chainage = number_of(chainage, 0, LONGEST_ROUTE, BadWord::Chainage)?;
-    Ok(AskedPlace::OnRoute { route, chainage })
+    let place = place_in(place, BadWord::Place)?;
+    Ok(AskedPlace::OnRoute { route, place })
 }
 
 // A route's name is in capitals, so `link` is none.
 pub(crate) fn place_of(
     route: &str,
-    chainage: &str,
+    place: &str,
     mm: Option<&str>,
 ) -> Result<AskedPlace, QuestionFault>
-    ensures read { IfOk result (IsPlace route.now chainage.now
+    ensures read { IfOk result (IsPlace route.now place.now
         (option_map (λ t. t.now) mm.entry)) }
-    ensures unread { IfErr result (CannotWhere route.now chainage.now
+    ensures unread { IfErr result (CannotWhere route.now place.now
         (option_map (λ t. t.now) mm.entry)) }
 {
     match mm {
-        Some(mm) if route == "link" => place_on_link(chainage, mm),
+        Some(mm) if route == "link" => place_on_link(place, mm),
         Some(_) => Err(QuestionFault::Unreadable(BadWord::NotLink)),
-        None => place_on_route(route, chainage),
+        None => place_on_route(route, place),
     }
 }
 
@@ -117,14 +158,27 @@ fn asset_if_given(text: Option<&str>) -> Result<Option<u64>, QuestionFault>
     }
 }
 
-pub(crate) fn edit_if_given(text: Option<&str>) -> Result<Option<u64>, QuestionFault>
+fn edit_if_given(text: Option<&str>, fault: BadWord) -> Result<Option<u64>, QuestionFault>
     ensures read { IfOk result (SaysIfGiven SaysEdit (option_map (λ t. t.now) text.entry)) }
-    ensures unread { IfErr result (CannotIfGiven BadWord.Edit SaysEdit
+    ensures unread { IfErr result (CannotIfGiven fault SaysEdit
         (option_map (λ t. t.now) text.entry)) }
 {
     match text {
-        Some(text) => Ok(Some(edit_of(text, BadWord::Edit)?)),
+        Some(text) => Ok(Some(edit_of(text, fault)?)),
         None => Ok(None),
+    }
+}
+
+/// The form in which rows are told, as the options say.
+pub(crate) fn form_of(exact: bool, on_links: bool) -> Result<RowForm, QuestionFault>
+    ensures read { IfOk result (IsForm exact on_links) }
+    ensures unread { IfErr result (CannotForm exact on_links) }
+{
+    match (exact, on_links) {
+        (false, false) => Ok(RowForm::Decimal),
+        (true, false) => Ok(RowForm::Exact),
+        (false, true) => Ok(RowForm::OnLinks),
+        (true, true) => Err(QuestionFault::Unreadable(BadWord::TwoForms)),
     }
 }
 
@@ -134,10 +188,12 @@ pub(crate) fn rows_of(
     to: Option<&str>,
     class: Option<&str>,
     asset: Option<&str>,
-) -> Result<Listing, QuestionFault>
-    ensures read { IfOk result (AsksRows (option_map (λ t. t.now) route.entry)
+    form: RowForm,
+) -> Result<RowsAsked, QuestionFault>
+    ensures read { IfOk result (AreAsked (option_map (λ t. t.now) route.entry)
         (option_map (λ t. t.now) from.entry) (option_map (λ t. t.now) to.entry)
         (option_map (λ t. t.now) class.entry) (option_map (λ t. t.now) asset.entry)) }
+    ensures form { IfOk result (λ asked. asked.form ≡ form) }
     ensures unread { IfErr result (CannotRows (option_map (λ t. t.now) route.entry)
         (option_map (λ t. t.now) from.entry) (option_map (λ t. t.now) to.entry)
         (option_map (λ t. t.now) class.entry) (option_map (λ t. t.now) asset.entry)) }
@@ -147,42 +203,99 @@ pub(crate) fn rows_of(
     let to = end_of(to, BadWord::To)?;
     let class = class_if_given(class)?;
     let asset = asset_if_given(asset)?;
-    Ok(Listing::Rows(RowsWanted {
+    Ok(RowsAsked {
         route,
         from,
         to,
         class,
         asset,
-    }))
+        form,
+    })
 }
 
-pub(crate) fn log_of(from: Option<&str>, key: Option<&str>) -> Result<Listing, QuestionFault>
-    ensures read { IfOk result (AsksLog (option_map (λ t. t.now) from.entry)
-        (option_map (λ t. t.now) key.entry)) }
-    ensures unread { IfErr result (CannotLog (option_map (λ t. t.now) from.entry)
-        (option_map (λ t. t.now) key.entry)) }
+pub(crate) fn gone_of(
+    edit: Option<&str>,
+    class: Option<&str>,
+    since: Option<&str>,
+    until: Option<&str>,
+) -> Result<GoneWanted, QuestionFault>
+    ensures read { IfOk result (AreGoneAsked (option_map (λ t. t.now) edit.entry)
+        (option_map (λ t. t.now) class.entry) (option_map (λ t. t.now) since.entry)
+        (option_map (λ t. t.now) until.entry)) }
+    ensures unread { IfErr result (CannotGone (option_map (λ t. t.now) edit.entry)
+        (option_map (λ t. t.now) class.entry) (option_map (λ t. t.now) since.entry)
+        (option_map (λ t. t.now) until.entry)) }
 {
-    match (key, from) {
-        (Some(_), Some(_)) => Err(QuestionFault::Unreadable(BadWord::FromBesideKey)),
-        (Some(key), None) => Ok(Listing::LogOfKey(key_of(key)?)),
-        (None, Some(from)) => Ok(Listing::Log(edit_of(from, BadWord::Number)?)),
-        (None, None) => Ok(Listing::Log(1)),
+    let edit = edit_if_given(edit, BadWord::Edit)?;
+    let class = class_if_given(class)?;
+    let since = edit_if_given(since, BadWord::Since)?;
+    let until = edit_if_given(until, BadWord::Until)?;
+    Ok(GoneWanted {
+        edit,
+        since,
+        until,
+        class,
+    })
+}
+
+/// The number of the first edit of a log: 1 where none is given.
+fn first_of(from: Option<&str>) -> Result<u64, QuestionFault>
+    ensures read { IfOk result (SaysFirst (option_map (λ t. t.now) from.entry)) }
+    ensures unread { IfErr result (CannotIfGiven BadWord.Number SaysEdit
+        (option_map (λ t. t.now) from.entry)) }
+{
+    match from {
+        Some(from) => edit_of(from, BadWord::Number),
+        None => Ok(1),
+    }
+}
+
+fn stretch_of_log(from: Option<&str>, until: Option<&str>) -> Result<Listing, QuestionFault>
+    ensures read { IfOk result (AsksLog (option_map (λ t. t.now) from.entry)
+        (option_map (λ t. t.now) until.entry) None) }
+    ensures unread { IfErr result (CannotLog (option_map (λ t. t.now) from.entry)
+        (option_map (λ t. t.now) until.entry) None) }
+{
+    let from = first_of(from)?;
+    let until = edit_if_given(until, BadWord::Until)?;
+    Ok(Listing::Log { from, until })
+}
+
+pub(crate) fn log_of(
+    from: Option<&str>,
+    until: Option<&str>,
+    key: Option<&str>,
+) -> Result<Listing, QuestionFault>
+    ensures read { IfOk result (AsksLog (option_map (λ t. t.now) from.entry)
+        (option_map (λ t. t.now) until.entry) (option_map (λ t. t.now) key.entry)) }
+    ensures unread { IfErr result (CannotLog (option_map (λ t. t.now) from.entry)
+        (option_map (λ t. t.now) until.entry) (option_map (λ t. t.now) key.entry)) }
+{
+    match (key, from, until) {
+        (Some(_), Some(_), _) => Err(QuestionFault::Unreadable(BadWord::FromBesideKey)),
+        (Some(_), None, Some(_)) => Err(QuestionFault::Unreadable(BadWord::UntilBesideKey)),
+        (Some(key), None, None) => Ok(Listing::LogOfKey(key_of(key)?)),
+        (None, _, _) => stretch_of_log(from, until),
     }
 }
 
 /// The number of the edit up to which a log is summed, where these words say one; else all of it is.
 ///
 /// # Errors
-/// A number that cannot be read, or a key that is given.
-pub fn summed_of(from: Option<&str>, key: Option<&str>) -> Result<Option<u64>, QuestionFault>
+/// A number that cannot be read, or a key or a number of a last edit that is given.
+pub fn summed_of(
+    from: Option<&str>,
+    until: Option<&str>,
+    key: Option<&str>,
+) -> Result<Option<u64>, QuestionFault>
     ensures read { IfOk result (SaysSummed (option_map (λ t. t.now) from.entry)
-        (option_map (λ t. t.now) key.entry)) }
+        (option_map (λ t. t.now) until.entry) (option_map (λ t. t.now) key.entry)) }
     ensures unread { IfErr result (CannotSum (option_map (λ t. t.now) from.entry)
-        (option_map (λ t. t.now) key.entry)) }
+        (option_map (λ t. t.now) until.entry) (option_map (λ t. t.now) key.entry)) }
 {
-    match (key, from) {
+    match (key, until) {
         (Some(_), _) => Err(QuestionFault::Unreadable(BadWord::SumBesideKey)),
-        (None, Some(from)) => Ok(Some(edit_of(from, BadWord::Number)?)),
-        (None, None) => Ok(None),
+        (None, Some(_)) => Err(QuestionFault::Unreadable(BadWord::UntilBesideSum)),
+        (None, None) => edit_if_given(from, BadWord::Number),
     }
 }

@@ -2,13 +2,14 @@
 
 ghost use Rattle.std.specs.Prelude.{◌≡◌, ◌⊎◌, IfOk, IfErr, IfNone, IfSome, map, option_map};
 ghost use Rattle.lrs_position.specs.Readings.{States};
+ghost use Rattle.lrs_machine.specs.PlaceTexts.{SaysPlace};
 ghost use Rattle.lrs_cli_words.specs.Questions.{Asks, AsksAt, AsksDiagram, AsksNothing, AsksStrip, AsksTranslate, Cannot, CannotAt, CannotClass, CannotDiagram, CannotEnd, CannotPosition, CannotIfGiven, CannotServe, CannotStrip, CannotTranslate, IsFaultOf, SaysAsset, SaysClass, SaysDestination, SaysEnd, SaysMethod, SaysMost, SaysMostReply, SaysNumber, SaysReplyLength, SaysPort, SaysPosition, SaysRoute, SaysService, SaysSide};
 
 use crate::job::Job;
-use crate::lists::{edit_if_given, list_of, log_of, place_of, route_if_given, rows_of};
+use crate::lists::{form_of, gone_of, list_of, log_of, place_of, route_if_given, rows_of};
 use lrs_events::{ClassName, Side, read_side};
-use lrs_machine::{Destination, Listing, Question};
-use lrs_measure::limits::{GREATEST_ASSET, LONGEST_ROUTE};
+use lrs_machine::{Destination, Listing, Place, Question, read_place};
+use lrs_measure::limits::GREATEST_ASSET;
 use lrs_measure::{Rows, read_digits};
 use lrs_position::{Expr, Method, RouteName, Target, read_expr, read_method, read_target};
 use std::alloc::{AllocError, Global};
@@ -53,12 +54,19 @@ pub enum BadWord {
     To,
     Asset,
     What,
+    RouteOfList,
+    ExactOfList,
+    TwoForms,
     Edit,
+    Since,
+    Until,
     Number,
     Key,
     FromBesideKey,
+    UntilBesideKey,
     SumBesideKey,
-    Chainage,
+    UntilBesideSum,
+    Place,
     NotLink,
     Link,
     Millimetre,
@@ -82,16 +90,33 @@ impl fmt::Display for BadWord {
             BadWord::Destination => f.write_str("TO is none of abs, int, rel:NAME and link"),
             BadWord::Side => f.write_str("SIDE is neither L nor R"),
             BadWord::Class => f.write_str("CLASS is no class name"),
-            BadWord::From => f.write_str("FROM is no chainage in millimetres"),
-            BadWord::To => f.write_str("TO is no chainage in millimetres"),
+            BadWord::From => f.write_str(
+                "FROM is no place: millimetres, or abs:, rel: or int: before a position",
+            ),
+            BadWord::To => f.write_str(
+                "TO is no place: millimetres, or abs:, rel: or int: before a position",
+            ),
             BadWord::Asset => f.write_str("ASSET is no asset number"),
-            BadWord::What => f.write_str("WHAT is none of routes, links, classes, refs and marks"),
+            BadWord::What => f.write_str(
+                "WHAT is none of routes, links, classes, refs, marks and pieces",
+            ),
+            BadWord::RouteOfList => f.write_str(
+                "--route stands only beside refs, marks and pieces",
+            ),
+            BadWord::ExactOfList => f.write_str("--exact stands only beside refs"),
+            BadWord::TwoForms => f.write_str("--exact and --on-links are two forms"),
             BadWord::Edit => f.write_str("EDIT is no number of an edit"),
+            BadWord::Since => f.write_str("SINCE is no number of an edit"),
+            BadWord::Until => f.write_str("UNTIL is no number of an edit"),
             BadWord::Number => f.write_str("FROM is no number of an edit"),
             BadWord::Key => f.write_str("KEY is no key"),
             BadWord::FromBesideKey => f.write_str("FROM and --key KEY are two questions"),
+            BadWord::UntilBesideKey => f.write_str("--until and --key KEY are two questions"),
             BadWord::SumBesideKey => f.write_str("--sum and --key KEY are two questions"),
-            BadWord::Chainage => f.write_str("CHAINAGE is no chainage in millimetres"),
+            BadWord::UntilBesideSum => f.write_str("--until and --sum are two questions"),
+            BadWord::Place => f.write_str(
+                "PLACE is no place: millimetres, or abs:, rel: or int: before a position",
+            ),
             BadWord::NotLink => f.write_str("MM stands only behind the word link and LINK"),
             BadWord::Link => f.write_str("LINK is no link number"),
             BadWord::Millimetre => f.write_str("MM is no millimetre of a link"),
@@ -232,13 +257,24 @@ pub(crate) fn asset_of(text: &str) -> Result<u64, QuestionFault>
     number_of(text, 1, GREATEST_ASSET, BadWord::Asset)
 }
 
-/// The chainage at an end of a diagram, where one was given.
-pub(crate) fn end_of(text: Option<&str>, fault: BadWord) -> Result<Option<u64>, QuestionFault>
+/// The place of a route that a word says.
+pub(crate) fn place_in(text: &str, fault: BadWord) -> Result<Place, QuestionFault>
+    ensures read { IfOk result (SaysPlace text.now) }
+    ensures unread { IfErr result (Cannot fault (SaysPlace text.now)) }
+{
+    match read_place(text.as_bytes()) {
+        Some(place) => Ok(place),
+        None => Err(QuestionFault::Unreadable(fault)),
+    }
+}
+
+/// The place at an end of a stretch, where one was given.
+pub(crate) fn end_of(text: Option<&str>, fault: BadWord) -> Result<Option<Place>, QuestionFault>
     ensures read { IfOk result (SaysEnd (option_map (λ t. t.now) text.entry)) }
     ensures unread { IfErr result (CannotEnd fault (option_map (λ t. t.now) text.entry)) }
 {
     match text {
-        Some(text) => Ok(Some(number_of(text, 0, LONGEST_ROUTE, fault)?)),
+        Some(text) => Ok(Some(place_in(text, fault)?)),
         None => Ok(None),
     }
 }
@@ -400,10 +436,10 @@ pub fn question_of(alloc: Global, job: &Job<'_>) -> Result<Option<Question>, Que
         } => at_of(route, method, position)?,
         Job::Where {
             route,
-            chainage,
+            place,
             mm,
             ..
-        } => Question::Where(place_of(route, chainage, *mm)?),
+        } => Question::Where(place_of(route, place, *mm)?),
         Job::Translate {
             route,
             method,
@@ -432,22 +468,40 @@ pub fn question_of(alloc: Global, job: &Job<'_>) -> Result<Option<Question>, Que
         Job::Route { route, .. } => Question::Route {
             route: route_of(route)?,
         },
-        Job::List { what, .. } => Question::List(list_of(what)?),
+        Job::List {
+            what,
+            route,
+            exact,
+            ..
+        } => Question::List(list_of(what, *route, *exact)?),
         Job::Rows {
             route,
             from,
             to,
             class,
             asset,
+            exact,
+            on_links,
             ..
-        } => Question::List(rows_of(*route, *from, *to, *class, *asset)?),
-        Job::Gone { edit, .. } => Question::List(Listing::Gone(edit_if_given(*edit)?)),
+        } => {
+            let form = form_of(*exact, *on_links)?;
+            Question::Rows(rows_of(*route, *from, *to, *class, *asset, form)?)
+        }
+        Job::Gone {
+            edit,
+            class,
+            since,
+            until,
+            ..
+        } => Question::List(Listing::Gone(gone_of(*edit, *class, *since, *until)?)),
+        Job::History { asset, .. } => Question::List(Listing::History(asset_of(asset)?)),
         Job::Log {
             from,
+            until,
             key,
             sum: false,
             ..
-        } => Question::List(log_of(*from, *key)?),
+        } => Question::List(log_of(*from, *until, *key)?),
     };
     Ok(Some(question))
 }

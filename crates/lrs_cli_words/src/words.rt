@@ -194,12 +194,12 @@ fn where_job<'a>(given: &ArgMatches<'a>) -> Job<'a>
 {
     let db = given_word(given, "DB");
     let route = given_word(given, "ROUTE");
-    let chainage = given_word(given, "CHAINAGE");
+    let place = given_word(given, "PLACE");
     let mm = word_in(given, "MM");
     Job::Where {
         db,
         route,
-        chainage,
+        place,
         mm,
     }
 }
@@ -331,8 +331,16 @@ fn list_job<'a>(given: &ArgMatches<'a>) -> Job<'a>
 {
     let db = given_word(given, "DB");
     let what = given_word(given, "WHAT");
+    let route = word_in(given, "route");
+    let exact = is_set(given, "exact");
     let text = is_set(given, "text");
-    Job::List { db, what, text }
+    Job::List {
+        db,
+        what,
+        route,
+        exact,
+        text,
+    }
 }
 
 fn rows_job<'a>(given: &ArgMatches<'a>) -> Job<'a>
@@ -346,6 +354,8 @@ fn rows_job<'a>(given: &ArgMatches<'a>) -> Job<'a>
     let to = word_in(given, "to");
     let class = word_in(given, "class");
     let asset = word_in(given, "asset");
+    let exact = is_set(given, "exact");
+    let on_links = is_set(given, "on-links");
     let text = is_set(given, "text");
     Job::Rows {
         db,
@@ -354,6 +364,8 @@ fn rows_job<'a>(given: &ArgMatches<'a>) -> Job<'a>
         to,
         class,
         asset,
+        exact,
+        on_links,
         text,
     }
 }
@@ -365,8 +377,29 @@ fn gone_job<'a>(given: &ArgMatches<'a>) -> Job<'a>
 {
     let db = given_word(given, "DB");
     let edit = word_in(given, "edit");
+    let class = word_in(given, "class");
+    let since = word_in(given, "since");
+    let until = word_in(given, "until");
     let text = is_set(given, "text");
-    Job::Gone { db, edit, text }
+    Job::Gone {
+        db,
+        edit,
+        class,
+        since,
+        until,
+        text,
+    }
+}
+
+fn history_job<'a>(given: &ArgMatches<'a>) -> Job<'a>
+    requires { AreGiven (rules_of JobName.History) (rows_of (found_of given.now)) }
+    ensures name { job_name result ≡ JobName.History }
+    ensures words { HasWords result (rows_of (found_of given.now)) }
+{
+    let db = given_word(given, "DB");
+    let asset = given_word(given, "ASSET");
+    let text = is_set(given, "text");
+    Job::History { db, asset, text }
 }
 
 fn log_job<'a>(given: &ArgMatches<'a>) -> Job<'a>
@@ -376,12 +409,14 @@ fn log_job<'a>(given: &ArgMatches<'a>) -> Job<'a>
 {
     let db = given_word(given, "DB");
     let from = word_in(given, "FROM");
+    let until = word_in(given, "until");
     let key = word_in(given, "key");
     let text = is_set(given, "text");
     let sum = is_set(given, "sum");
     Job::Log {
         db,
         from,
+        until,
         key,
         text,
         sum,
@@ -455,6 +490,7 @@ fn job_with<'a>(alloc: Global, name: JobName, given: &ArgMatches<'a>) -> Result<
         JobName::List => Ok(list_job(given)),
         JobName::Rows => Ok(rows_job(given)),
         JobName::Gone => Ok(gone_job(given)),
+        JobName::History => Ok(history_job(given)),
         JobName::Log => Ok(log_job(given)),
         JobName::Audit => Ok(audit_job(given)),
         JobName::Serve => Ok(serve_job(given)),

@@ -1,5 +1,5 @@
 -- The log of a state, done as an edit sheet, makes the state again.
-use Rattle.std.proofs.Common.{◌≡◌, ℕ, ◌+◌, ◌-◌, ◌≤◌, List, [], ◌∷◌, ◌++◌, length, map, drop, Some, inl, inr, refl, sym, ap, subst, ◌∙◌, length-append, arith}
+use Rattle.std.proofs.Common.{◌≡◌, ℕ, ◌+◌, ◌-◌, ◌≤◌, List, [], ◌∷◌, ◌++◌, length, map, drop, Some, None, inl, inr, refl, sym, ap, subst, ◌∙◌, length-append, arith}
 use Rattle.std.specs.List.{AllByRecursion}
 use Rattle.std.proofs.lemmas.List.{drop_at, length-map, length_push}
 use Rattle.lrs_machine.specs.Lines.{Text}
@@ -20,7 +20,7 @@ use Rattle.lrs_sheet_log.proofs.Redoing.{IsRedone, Redone, made-again}
 use Rattle.lrs_sheet_log.proofs.Reading.{is-header, log_reads_as_records}
 use Rattle.lrs_sheet_log.specs.Laws.{IsOfCommand, IsPrintable, edit_of}
 use Rattle.lrs_promises.specs.Replay.{LogMakesState, MakesAgain, PartGoesOn, done_replies}
-use Rattle.lrs_sheet_log.specs.Log.{edits_from, log_record, log_text}
+use Rattle.lrs_sheet_log.specs.Log.{edits_between, edits_text, log_record}
 
 of-commands : (limits : Limits) (s : State) (es : List Edit) (t : State) → Redone limits s es t → AllByRecursion IsOfCommand es
 of-commands limits s [] t h = tt
@@ -47,7 +47,7 @@ replied-all limits s (e ∷ es) t (r, printable, is, answer, kept, more) =
     (mid, replied-one limits s e r printable is answer, subst (λ (n : ℕ). Replied Edits limits mid (map log_record es) (done_replies n es) t) longer others)
 
 answered-all : (limits : Limits) (s : State) (es : List Edit) (t : State) (old : Text) → Redone limits s es t → length es ≤ max_records
-    → AnswersAll [] Edits limits (log_text es) s t (Some old) (Some (old ++ lines_of (done_replies (length s.done) es))) (tally_of (done_replies (length s.done) es))
+    → AnswersAll [] Edits limits (edits_text es) s t (Some old) (Some (old ++ lines_of (done_replies (length s.done) es))) (tally_of (done_replies (length s.done) es))
 answered-all limits s es t old h few =
     let all = of-commands limits s es t h in
     let as-many = length-map es log_record in
@@ -73,7 +73,7 @@ makes-again limits s es t h few = record {
   every_run = λ together old run runs.
       let replies = done_replies (length s.done) es in
       let one : sheet.Outcome = record { state = t; written = [] ++ lines_of replies; tally = tally_of replies } in
-      let same = sheet_determines_reply Edits together 1 limits (log_text es) s old [] run one runs (answered-all limits s es t [] h few) in
+      let same = sheet_determines_reply Edits together 1 limits (edits_text es) s old [] run one runs (answered-all limits s es t [] h few) in
       (same.state, same.tally);
 }
 
@@ -81,7 +81,7 @@ pub part_goes_on : PartGoesOn
 part_goes_on limits commands before after all is few =
     let h : IsRedone limits before after = subst (IsRedone limits before) (sym is) (made-again limits commands before all) in
     let size : (length before.done + 1) - 1 ≡ length before.done = omega arith in
-    let part : edits_from (length before.done + 1) after.done ≡ h.beyond =
+    let part : edits_between (length before.done + 1) None after.done ≡ h.beyond =
     ap (λ (n : ℕ). drop n after.done) size ∙ ap (drop (length before.done)) h.all ∙ drop_at before.done h.beyond (length before.done) refl in
     let whole : length after.done ≡ length before.done + length h.beyond = ap (λ (d : List Edit). length d) h.all ∙ length-append before.done h.beyond in
     subst (λ (es : List Edit). MakesAgain limits before es after) (sym part) (makes-again limits before h.beyond after h.redone (omega (arith, whole, few)))

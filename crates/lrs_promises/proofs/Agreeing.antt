@@ -28,13 +28,18 @@ use Rattle.lrs_report_answers.specs.declared.fault.AskFault.{AskFault}
 use Rattle.lrs_report_answers.specs.declared.fault.AskFault.TheVariants as why
 use Rattle.lrs_report_answers.specs.declared.told.Told.{Told}
 use Rattle.lrs_report_answers.specs.declared.told.Told.TheVariants as told
-use Rattle.lrs_machine.specs.declared.question.RowsWanted.{RowsWanted}
+use Rattle.lrs_machine.specs.PlaceTexts.{SaysPlace}
+use Rattle.lrs_machine.specs.declared.question.GoneWanted.{GoneWanted}
+use Rattle.lrs_machine.specs.declared.question.Place.{Place as PlaceOfRoute}
+use Rattle.lrs_machine.specs.declared.question.RowsAsked.{RowsAsked}
+use Rattle.lrs_report_answers.specs.Stretches.{OnStretch, end_of}
+use Rattle.lrs_report_answers.specs.declared.stretch.End.TheVariants.{From, To}
 use Rattle.lrs_report_answers.specs.Place.Answers.{IsThere, IsWhereabouts}
-use Rattle.lrs_report_answers.specs.Place.Places.{Place, place_of}
+use Rattle.lrs_report_answers.specs.Place.Places.{Spot, place_of}
 use Rattle.lrs_report_answers.specs.declared.places.answer.Whereabouts.{Whereabouts}
 use Rattle.lrs_machine.specs.declared.question.AskedPlace.{AskedPlace}
 use Rattle.lrs_machine.specs.declared.question.AskedPlace.TheVariants as spot
-use Rattle.lrs_sheet_log.specs.Log.{edits_from, log_text}
+use Rattle.lrs_sheet_log.specs.Log.{edits_between, edits_text}
 use Rattle.lrs_web_requests.specs.Request.{query as asked}
 use Rattle.lrs_web_requests.specs.Text.{Answer}
 use Rattle.lrs_web_requests.specs.declared.paths.Format.{Format}
@@ -43,20 +48,20 @@ use Rattle.lrs_web_requests.specs.declared.paths.Resource.TheVariants as path
 use Rattle.lrs_web_requests.specs.Query.{parameter}
 use Rattle.lrs_web_replies.specs.QuestionAnswers.{AnswersQuestion}
 use Rattle.lrs_web_replies.specs.Answers.{health_data, totals_data}
-use Rattle.lrs_web_replies.specs.Questions.{AsksOf, CannotAsk, GivesAsset, GivesEditOrAll, GivesFirstEdit, GivesRows, IsGiven, SaysChainage, SaysDestination, SaysEdit, SaysRoute, SaysSide, parameters_of, unknown_in}
+use Rattle.lrs_web_replies.specs.Questions.{AsksOf, CannotAsk, GivesAsset, GivesExact, GivesFirstEdit, GivesGone, GivesRouteOrAll, GivesRows, GivesUntil, IsGiven, SaysDestination, SaysEdit, SaysRoute, SaysSide, parameters_of, unknown_in}
 use Rattle.lrs_web_replies.specs.Replies.{csv_answer, json_answer, unknown_answer}
-use Rattle.lrs_web_replies.specs.Listings.{listing_answer}
+use Rattle.lrs_web_replies.specs.Listings.{listing_answer, rows_answer}
 use Rattle.lrs_machine.specs.declared.absence.Missing.{Missing}
 use Rattle.lrs_web_replies.specs.declared.question.QueryFault.TheVariants.{NoRoute}
 use Rattle.lrs_web.specs.QueryAnswers.{AnswersAsked, AnswersKnown}
 use Rattle.lrs_promises.specs.Determinism.{IsOfState}
-use Rattle.lrs_promises.proofs.Once.{at_once, segmented_once, told_once}
+use Rattle.lrs_promises.proofs.Once.{at_once, same_some, segmented_once, stretch_once, told_once}
 use Rattle.lrs_promises.proofs.OneInventory.{same_inventories}
-use Rattle.lrs_promises.proofs.Parameters.{one_first, one_if_given, one_number, one_position, one_route, one_said, one_side, one_spot, one_wanted}
+use Rattle.lrs_promises.proofs.Parameters.{one_first, one_if_given, one_number, one_asked, one_gone, one_place, one_position, one_route, one_said, one_side, one_spot}
 use Rattle.lrs_promises.proofs.Pictured.{drawn_once, named_once, route_once}
 use Rattle.lrs_promises.proofs.Places.{lengths_once, where_once}
 use Rattle.lrs_promises.proofs.Translated.{TellsTranslated, one_destination, position_above, translated_once}
-use Rattle.lrs_promises.proofs.Asked.{AtTold, DiagramTold, LengthsTold, RouteTold, SegmentsTold, TranslateTold, WhereTold, at_told, diagram_told, find_reply, find_told, gone_told, health_told, lengths_told, list_reply, list_told, log_told, one_split, route_told, rows_told, segments_told, splits, totals_told, translate_told, where_given, where_told}
+use Rattle.lrs_promises.proofs.Asked.{AtTold, DiagramTold, LengthsTold, RouteTold, SegmentsTold, TranslateTold, WhereTold, at_told, diagram_told, find_reply, find_told, gone_told, health_told, history_told, lengths_told, list_told, log_told, marks_told, named_reply, one_split, pieces_told, refs_told, route_told, rows_reply, rows_told, segments_told, splits, totals_told, translate_told, where_given, where_told}
 
 -- whether what a resource is answered is read off the state itself, and not off the rows of the image
 abbrev is_read : Resource → Bool
@@ -74,18 +79,18 @@ abbrev with_ledgers : Image → Image → Image
 with_ledgers i j = record j { entered = i.entered; gone = i.gone }
 
 -- who holds a place does not hang on the ledgers
-place_moved : (i j : Image) → state_of i ≡ state_of j → (o : Result Place Missing) (r : Result Whereabouts AskFault)
-    → MatchResult o (λ at. UnlessMemory (IsThere i at.0 at.1) r) (λ what. r ≡ Err (why.Missing what)) → MatchResult o (λ at. UnlessMemory (IsThere j at.0 at.1) r) (λ what. r ≡ Err (why.Missing what))
+place_moved : (i j : Image) → state_of i ≡ state_of j → (o : Result Spot AskFault) (r : Result Whereabouts AskFault)
+    → MatchResult o (λ at. UnlessMemory (IsThere i at.0 at.1) r) (λ fault. r ≡ Err fault) → MatchResult o (λ at. UnlessMemory (IsThere j at.0 at.1) r) (λ fault. r ≡ Err fault)
 place_moved i j e (Ok (r, chainage)) (Ok w) h = record {
   on = h.on;
   stands = subst (λ s. StandsAt s (alignment_of r.route) (chainage, 1) w.found) e h.stands;
   by_targets = h.by_targets;
 }
 place_moved i j e (Ok at) (Err fault) h = h
-place_moved i j e (Err what) r h = h
+place_moved i j e (Err fault) r h = h
 
 where_moved : (i j : Image) → state_of (with_ledgers i j) ≡ state_of j → (s : AskedPlace) (r : Result Whereabouts AskFault) → IsWhereabouts (with_ledgers i j) s r → IsWhereabouts j s r
-where_moved i j e (spot.OnRoute route chainage) r h = place_moved (with_ledgers i j) j e (place_of j (spot.OnRoute route chainage)) r h
+where_moved i j e (spot.OnRoute route place) r h = place_moved (with_ledgers i j) j e (place_of j (spot.OnRoute route place)) r h
 where_moved i j e (spot.OnLink link mm) r h = place_moved (with_ledgers i j) j e (place_of j (spot.OnLink link mm)) r h
 
 -- what passes by one test passes by another
@@ -120,6 +125,18 @@ module _ (i j : Image) where
       by None none = none
       by (Some e) on = drawn_on_moved e names (unwrap_or from 0) (unwrap_or to (length e.route.course)) drawn on
 
+  drawn_between_moved : (name : Name) (names : List Name) (from to : Option PlaceOfRoute) (said : Result Told AskFault)
+      → OnStretch (with_ledgers i j) (Some name) from to (λ first last. Tells (IsDrawn (with_ledgers i j) name names first last) told.Diagram) said
+      → OnStretch j (Some name) from to (λ first last. Tells (IsDrawn j name names first last) told.Diagram) said
+  drawn_between_moved name names from to said h = by (end_of j (Some name) From from) (end_of j (Some name) To to) h
+    where
+      by : (f t : Result (Option ℕ) AskFault)
+          → MatchResult f (λ first. MatchResult t (λ last. Tells (IsDrawn (with_ledgers i j) name names first last) told.Diagram said) (λ fault. said ≡ Err fault)) (λ fault. said ≡ Err fault)
+          → MatchResult f (λ first. MatchResult t (λ last. Tells (IsDrawn j name names first last) told.Diagram said) (λ fault. said ≡ Err fault)) (λ fault. said ≡ Err fault)
+      by (Err fault) t x = x
+      by (Ok first) (Err fault) x = x
+      by (Ok first) (Ok last) x = tells_moved (IsDrawn (with_ledgers i j) name names first last) (IsDrawn j name names first last) told.Diagram (drawn_moved name names first last) said x
+
 module _ (i j : Image) (e : state_of i ≡ state_of j) where
   edits_same : length i.edits ≡ length j.edits
   unfolding state_of
@@ -143,9 +160,12 @@ module _ (format : Format) (query : Text) (one two : Answer) (served : one.statu
 
     module _ (e : state_of i ≡ state_of j) where
       log_alike : AnswersKnown i format path.Log query one → AnswersKnown j format path.Log query two → one ≡ two
-      log_alike = alike path.Log (λ k a. (from : ℕ) × GivesFirstEdit query from × (a ≡ list_reply (missing_of k (listing.Log from)) (listing_answer format k (listing.Log from)))) (λ x. x) (λ k a s. log_told format k query a s)
-          (λ a b h g. h.2 ∙ (λ k. csv_answer (log_text (edits_from (one_first (parameter (codes "from") query) h.0 g.0 h.1 g.1 k) (e k).done))) ∙ sym g.2)
-          (λ k a h. ((h.0, h.1), tt))
+      log_alike = alike path.Log (λ k a. (from : ℕ) × (until : Option ℕ) × GivesFirstEdit query from × GivesUntil query until × (a ≡ named_reply format k (listing.Log from until))) (λ x. x) (λ k a s. log_told format k query a s)
+          (λ a b h g.
+          let from = one_first (parameter (codes "from") query) h.0 g.0 h.2 g.2 in
+          let until = one_if_given SaysEdit (one_number _ _) (parameter (codes "until") query) h.1 g.1 h.3 g.3 in
+          h.4 ∙ (λ k. csv_answer (edits_text (edits_between (from k) (until k) (e k).done))) ∙ sym g.4)
+          (λ k a h. ((h.0, h.2), ((h.1, h.3), tt)))
 
       find_alike : AnswersKnown i format path.Find query one → AnswersKnown j format path.Find query two → one ≡ two
       find_alike = alike path.Find (λ k a. (asset : ℕ) × GivesAsset query asset × (a ≡ find_reply (get (state_of k).assets asset) (all_rows_of (state_of k) asset))) (λ x. x)
@@ -201,6 +221,8 @@ module _ (format : Format) (query : Text) (one two : Answer) (served : one.statu
       state_tells path.Classes read = absurd (false≢true read)
       state_tells path.Refs read = absurd (false≢true read)
       state_tells path.Marks read = absurd (false≢true read)
+      state_tells path.Pieces read = absurd (false≢true read)
+      state_tells path.History read = absurd (false≢true read)
       state_tells path.Rows read = absurd (false≢true read)
       state_tells path.Lengths read = absurd (false≢true read)
       state_tells path.Gone read = absurd (false≢true read)
@@ -213,9 +235,27 @@ module _ (format : Format) (query : Text) (one two : Answer) (served : one.statu
 
   module _ (i j : Image) (e : state_of (with_ledgers i j) ≡ state_of j) where
     rows_alike : AnswersKnown (with_ledgers i j) format path.Rows query one → AnswersKnown j format path.Rows query two → one ≡ two
-    rows_alike = alike (with_ledgers i j) j path.Rows (λ k a. (w : RowsWanted) × GivesRows query w × (a ≡ list_reply (missing_of k (listing.Rows w)) (listing_answer format k (listing.Rows w)))) (λ x. x) (λ k a s. rows_told format k query a s)
-        (λ a b h g. h.2 ∙ ap (λ w. list_reply (missing_of j (listing.Rows w)) (listing_answer format j (listing.Rows w))) (one_wanted query h.0 g.0 h.1 g.1) ∙ sym g.2)
-        (λ k a h. ((h.0.route, h.1.0), ((h.0.from, h.1.1), ((h.0.to, h.1.2), ((h.0.class, h.1.3), ((h.0.asset, h.1.4), tt))))))
+    rows_alike = alike (with_ledgers i j) j path.Rows (λ k a. (w : RowsAsked) × GivesRows query w × (a ≡ rows_reply format k w)) (λ x. x) (λ k a s. rows_told format k query a s)
+        (λ a b h g. h.2 ∙ ap (rows_reply format j) (one_asked query h.0 g.0 h.1 g.1) ∙ sym g.2)
+        (λ k a h. ((h.0.route, h.1.0), ((h.0.from, h.1.1), ((h.0.to, h.1.2), ((h.0.class, h.1.3), ((h.0.asset, h.1.4), ((h.1.5.0, h.1.5.2), ((h.0.form, h.1.5), tt))))))))
+
+    refs_alike : AnswersKnown (with_ledgers i j) format path.Refs query one → AnswersKnown j format path.Refs query two → one ≡ two
+    refs_alike = alike (with_ledgers i j) j path.Refs (λ k a. (route : Option Name) × (exact : Bool) × GivesRouteOrAll query route × GivesExact query exact × (a ≡ named_reply format k (listing.Refs route exact))) (λ x. x) (λ k a s. refs_told format k query a s)
+        (λ a b h g.
+        let route = one_if_given SaysRoute one_route (parameter (codes "route") query) h.0 g.0 h.2 g.2 in
+        let exact = same_some h.1 g.1 (sym h.3 ∙ g.3) in
+        h.4 ∙ (λ k. named_reply format j (listing.Refs (route k) (exact k))) ∙ sym g.4)
+        (λ k a h. ((h.0, h.2), ((h.1, h.3), tt)))
+
+    marks_alike : AnswersKnown (with_ledgers i j) format path.Marks query one → AnswersKnown j format path.Marks query two → one ≡ two
+    marks_alike = alike (with_ledgers i j) j path.Marks (λ k a. (route : Option Name) × GivesRouteOrAll query route × (a ≡ named_reply format k (listing.Marks route))) (λ x. x) (λ k a s. marks_told format k query a s)
+        (λ a b h g. h.2 ∙ ap (λ route. named_reply format j (listing.Marks route)) (one_if_given SaysRoute one_route (parameter (codes "route") query) h.0 g.0 h.1 g.1) ∙ sym g.2)
+        (λ k a h. ((h.0, h.1), tt))
+
+    pieces_alike : AnswersKnown (with_ledgers i j) format path.Pieces query one → AnswersKnown j format path.Pieces query two → one ≡ two
+    pieces_alike = alike (with_ledgers i j) j path.Pieces (λ k a. (route : Option Name) × GivesRouteOrAll query route × (a ≡ named_reply format k (listing.Pieces route))) (λ x. x) (λ k a s. pieces_told format k query a s)
+        (λ a b h g. h.2 ∙ ap (λ route. named_reply format j (listing.Pieces route)) (one_if_given SaysRoute one_route (parameter (codes "route") query) h.0 g.0 h.1 g.1) ∙ sym g.2)
+        (λ k a h. ((h.0, h.1), tt))
 
     lengths_alike : AnswersKnown (with_ledgers i j) format path.Lengths query one → AnswersKnown j format path.Lengths query two → one ≡ two
     lengths_alike = alike (with_ledgers i j) j path.Lengths (λ k a. LengthsTold format query k a) (λ x. x) (λ k a s. lengths_told format k query a s)
@@ -239,11 +279,11 @@ module _ (format : Format) (query : Text) (one two : Answer) (served : one.statu
         (λ a b h g.
         let route = one_said SaysRoute one_route (parameter (codes "route") query) g.route h.route g.gives_route h.gives_route in
         let classes : g.classes ≡ h.classes = g.gives_classes.0 ∙ sym h.gives_classes.0 in
-        let from = one_if_given SaysChainage (one_number _ _) (parameter (codes "from") query) g.from h.from g.gives_from h.gives_from in
-        let to = one_if_given SaysChainage (one_number _ _) (parameter (codes "to") query) g.to h.to g.gives_to h.gives_to in
-        told_once format (IsDrawn j h.route h.classes h.from h.to) told.Diagram (drawn_once j h.route h.classes h.from h.to) (λ x c d p q. p ∙ sym q) a b h.served g.served h.tells.0 g.tells.0
-        (tells_moved (IsDrawn (with_ledgers i j) h.route h.classes h.from h.to) (IsDrawn j h.route h.classes h.from h.to) told.Diagram (drawn_moved i j h.route h.classes h.from h.to) h.tells.0 h.tells.1)
-        (coe 0 1 (k. Tells (IsDrawn j (route k) (classes k) (from k) (to k)) told.Diagram g.tells.0) g.tells.1) h.tells.2 g.tells.2)
+        let from = one_if_given SaysPlace one_place (parameter (codes "from") query) g.from h.from g.gives_from h.gives_from in
+        let to = one_if_given SaysPlace one_place (parameter (codes "to") query) g.to h.to g.gives_to h.gives_to in
+        stretch_once format j (Some h.route) h.from h.to (IsDrawn j h.route h.classes) told.Diagram (drawn_once j h.route h.classes) (λ x c d p q. p ∙ sym q) a b h.served g.served h.tells.0 g.tells.0
+        (drawn_between_moved i j h.route h.classes h.from h.to h.tells.0 h.tells.1)
+        (coe 0 1 (k. OnStretch j (Some (route k)) (from k) (to k) (λ first last. Tells (IsDrawn j (route k) (classes k) first last) told.Diagram) g.tells.0) g.tells.1) h.tells.2 g.tells.2)
         (λ k a h. ((h.route, h.gives_route), ((h.classes, h.gives_classes), ((h.from, h.gives_from), ((h.to, h.gives_to), tt)))))
 
     route_alike : AnswersKnown (with_ledgers i j) format path.Route query one → AnswersKnown j format path.Route query two → one ≡ two
@@ -276,11 +316,13 @@ module _ (format : Format) (query : Text) (one two : Answer) (served : one.statu
     rows_tell path.Health read = state_tells (with_ledgers i j) j e path.Health refl
     rows_tell path.Links read = told_alike (with_ledgers i j) j path.Links (λ k. listing_answer format k listing.Links) (λ x. x) (λ k a s. list_told format k query a s listing.Links refl) tt refl
     rows_tell path.Classes read = told_alike (with_ledgers i j) j path.Classes (λ k. listing_answer format k listing.Classes) (λ x. x) (λ k a s. list_told format k query a s listing.Classes refl) tt refl
-    rows_tell path.Refs read = told_alike (with_ledgers i j) j path.Refs (λ k. listing_answer format k listing.Refs) (λ x. x) (λ k a s. list_told format k query a s listing.Refs refl) tt refl
-    rows_tell path.Marks read = told_alike (with_ledgers i j) j path.Marks (λ k. listing_answer format k listing.Marks) (λ x. x) (λ k a s. list_told format k query a s listing.Marks refl) tt refl
+    rows_tell path.Refs read = refs_alike
+    rows_tell path.Marks read = marks_alike
+    rows_tell path.Pieces read = pieces_alike
     rows_tell path.Rows read = rows_alike
     rows_tell path.Lengths read = lengths_alike
     rows_tell path.Gone read = absurd read
+    rows_tell path.History read = absurd read
     rows_tell path.Where read = where_alike
     rows_tell path.Edits read = nothing_alike path.Edits (λ x. x) (λ q asks. asks) (λ k a none. absurd none)
     rows_tell path.Surveys read = nothing_alike path.Surveys (λ x. x) (λ q asks. asks) (λ k a none. absurd none)
@@ -309,8 +351,13 @@ module _ (format : Format) (query : Text) (one two : Answer) (served : one.statu
 
   module _ (i : Image) where
     gone_alike : AnswersKnown i format path.Gone query one → AnswersKnown i format path.Gone query two → one ≡ two
-    gone_alike = alike i i path.Gone (λ k a. (edit : Option ℕ) × GivesEditOrAll query edit × (a ≡ list_reply (missing_of k (listing.Gone edit)) (listing_answer format k (listing.Gone edit)))) (λ x. x) (λ k a s. gone_told format k query a s)
-        (λ a b h g. h.2 ∙ ap (λ edit. list_reply (missing_of i (listing.Gone edit)) (listing_answer format i (listing.Gone edit))) (one_if_given SaysEdit (one_number _ _) (parameter (codes "edit") query) h.0 g.0 h.1 g.1) ∙ sym g.2)
+    gone_alike = alike i i path.Gone (λ k a. (w : GoneWanted) × GivesGone query w × (a ≡ named_reply format k (listing.Gone w))) (λ x. x) (λ k a s. gone_told format k query a s)
+        (λ a b h g. h.2 ∙ ap (λ w. named_reply format i (listing.Gone w)) (one_gone query h.0 g.0 h.1 g.1) ∙ sym g.2)
+        (λ k a h. ((h.0.edit, h.1.0), ((h.0.since, h.1.1), ((h.0.until, h.1.2), ((h.0.class, h.1.3), tt)))))
+
+    history_alike : AnswersKnown i format path.History query one → AnswersKnown i format path.History query two → one ≡ two
+    history_alike = alike i i path.History (λ k a. (asset : ℕ) × GivesAsset query asset × (a ≡ named_reply format k (listing.History asset))) (λ x. x) (λ k a s. history_told format k query a s)
+        (λ a b h g. h.2 ∙ ap (λ asset. named_reply format i (listing.History asset)) (one_said _ (one_number _ _) (parameter (codes "asset") query) h.0 g.0 h.1 g.1) ∙ sym g.2)
         (λ k a h. ((h.0, h.1), tt))
 
     image_known : (resource : Resource) → AnswersKnown i format resource query one → AnswersKnown i format resource query two → one ≡ two
@@ -328,6 +375,8 @@ module _ (format : Format) (query : Text) (one two : Answer) (served : one.statu
     image_known path.Classes = rows_tell i i refl path.Classes tt
     image_known path.Refs = rows_tell i i refl path.Refs tt
     image_known path.Marks = rows_tell i i refl path.Marks tt
+    image_known path.Pieces = rows_tell i i refl path.Pieces tt
+    image_known path.History = history_alike
     image_known path.Rows = rows_tell i i refl path.Rows tt
     image_known path.Lengths = rows_tell i i refl path.Lengths tt
     image_known path.Gone = gone_alike

@@ -1,6 +1,6 @@
 -- What is asked for is answered by one answer.
 use Rattle.std.proofs.Common.{◌≡◌, ◌⊎◌, inl, inr, ℕ, List, [], ◌∷◌, length, Option, Some, None, Result, Ok, Err, sym, ap, subst, ◌∙◌}
-use Rattle.std.specs.Prelude.{IsTrue, MatchOption, MatchResult, if◌then◌else◌}
+use Rattle.std.specs.Prelude.{Bool, IsTrue, MatchOption, MatchResult, if◌then◌else◌}
 use Rattle.std.specs.List.{AllByRecursion}
 use Rattle.lrs_measure.specs.Texts.{Name}
 use Rattle.lrs_position.specs.Names.{is_route_name}
@@ -17,7 +17,10 @@ use Rattle.lrs_machine.specs.declared.question.Listing.{Listing}
 use Rattle.lrs_machine.specs.declared.question.Listing.TheVariants as listing
 use Rattle.lrs_machine.specs.declared.question.Question.TheVariants as question
 use Rattle.lrs_report_answers.specs.Answers.{UnlessMemory, UnlessMissing, asset_missing}
-use Rattle.lrs_report_answers.specs.Listings.{missing_of}
+use Rattle.lrs_report_answers.specs.Listings.{IsInventory, missing_of, wanted_of}
+use Rattle.lrs_report_answers.specs.Stretches.{OnStretch, end_of}
+use Rattle.lrs_report_answers.specs.declared.stretch.End.TheVariants.{From, To}
+use Rattle.lrs_report_lists.specs.Absence.{missing_row}
 use Rattle.lrs_report_answers.specs.AssetStretches.{all_rows_of}
 use Rattle.lrs_report_answers.specs.ToldAnswers.{IsTold, Tells}
 use Rattle.lrs_report_answers.specs.Totals.{totals_of}
@@ -27,7 +30,9 @@ use Rattle.lrs_report_answers.specs.declared.fault.AskFault.TheVariants as asked
 use Rattle.lrs_report_answers.specs.declared.rows.FoundRow.{FoundRow}
 use Rattle.lrs_report_answers.specs.declared.told.Told.{Told}
 use Rattle.lrs_report_answers.specs.declared.told.Told.TheVariants as told
-use Rattle.lrs_machine.specs.declared.question.RowsWanted.{RowsWanted}
+use Rattle.lrs_machine.specs.declared.question.GoneWanted.{GoneWanted}
+use Rattle.lrs_machine.specs.declared.question.Place.{Place}
+use Rattle.lrs_machine.specs.declared.question.RowsAsked.{RowsAsked}
 use Rattle.lrs_machine.specs.declared.question.AskedPlace.{AskedPlace}
 use Rattle.lrs_machine.specs.declared.question.AskedPlace.TheVariants as spot
 use Rattle.lrs_web_requests.specs.Text.{Answer}
@@ -36,8 +41,8 @@ use Rattle.lrs_web_requests.specs.declared.paths.Resource.{Resource}
 use Rattle.lrs_web_requests.specs.declared.paths.Resource.TheVariants as path
 use Rattle.lrs_web_replies.specs.QuestionAnswers.{AnswersQuestion, IsReplyTo, ShowsTold}
 use Rattle.lrs_web_replies.specs.Answers.{found_data, health_data, totals_data}
-use Rattle.lrs_web_replies.specs.Listings.{listing_answer}
-use Rattle.lrs_web_replies.specs.Questions.{AsksOf, CannotAsk, GivesAsset, GivesClasses, GivesClassesOrAll, GivesDestination, GivesEditOrAll, GivesFirstEdit, GivesFrom, GivesPosition, GivesRoute, GivesRouteOrAll, GivesRows, GivesSide, GivesSpot, GivesUpTo, IsFirstMalformed, IsGiven, SaysRoute, parameters_of}
+use Rattle.lrs_web_replies.specs.Listings.{listing_answer, rows_answer}
+use Rattle.lrs_web_replies.specs.Questions.{AsksOf, CannotAsk, GivesAsset, GivesClasses, GivesClassesOrAll, GivesDestination, GivesExact, GivesFirstEdit, GivesFrom, GivesGone, GivesPosition, GivesRoute, GivesRouteOrAll, GivesRows, GivesSide, GivesSpot, GivesUntil, GivesUpTo, IsFirstMalformed, IsGiven, SaysRoute, parameters_of}
 use Rattle.lrs_web_replies.specs.Replies.{json_answer, refusal, unasked}
 use Rattle.lrs_machine.specs.declared.absence.Missing.{Missing}
 use Rattle.lrs_web_replies.specs.declared.question.Parameter.{Parameter}
@@ -79,8 +84,8 @@ one_split query ps Shows Tells one given given' a b (inr (p, first, is)) (inr (q
 pub where_given : (query : Text) (s : AskedPlace) → GivesSpot query s → AllByRecursion (IsGiven query) (parameters_of path.Where query)
 where_given query (spot.OnLink link mm) (on, l, m) =
     subst (λ b. AllByRecursion (IsGiven query) (if b then wanted.OnLink ∷ wanted.Millimetre ∷ [] else wanted.Route ∷ wanted.Chainage ∷ [])) (sym on) ((link, l), ((mm, m), tt))
-where_given query (spot.OnRoute route chainage) (on, r, c) =
-    subst (λ b. AllByRecursion (IsGiven query) (if b then wanted.OnLink ∷ wanted.Millimetre ∷ [] else wanted.Route ∷ wanted.Chainage ∷ [])) (sym on) ((route, r), ((chainage, c), tt))
+where_given query (spot.OnRoute route place) (on, r, c) =
+    subst (λ b. AllByRecursion (IsGiven query) (if b then wanted.OnLink ∷ wanted.Millimetre ∷ [] else wanted.Route ∷ wanted.Chainage ∷ [])) (sym on) ((route, r), ((place, c), tt))
 
 -- ---- what is shown
 
@@ -93,6 +98,20 @@ find_reply (Some a) rows = json_answer 200 (found_data rows)
 abbrev pub list_reply : Option Missing → Answer → Answer
 list_reply None shown = shown
 list_reply (Some what) shown = refusal (asked.Missing what)
+
+-- a list of the inventory; or what it names, and is not there
+abbrev pub named_reply : Format → Image → Listing → Answer
+named_reply format i l = list_reply (missing_of i l) (listing_answer format i l)
+
+-- the rows between two ends; or the first fault of an end
+abbrev between_reply : Format → Image → RowsAsked → Result (Option ℕ) AskFault → Result (Option ℕ) AskFault → Answer
+between_reply format i a (Ok first) (Ok last) = rows_answer format i (wanted_of a first last)
+between_reply format i a (Ok first) (Err fault) = refusal fault
+between_reply format i a (Err fault) to = refusal fault
+
+-- the rows that are asked for; or what they name, and is not there
+abbrev pub rows_reply : Format → Image → RowsAsked → Answer
+rows_reply format i a = list_reply (missing_row i (wanted_of a None None)) (between_reply format i a (end_of i a.route From a.from) (end_of i a.route To a.to))
 
 -- a position was asked for, and told
 pub record AtTold (format : Format) (query : Text) (i : Image) (answer : Answer) : Type 0 where
@@ -149,8 +168,8 @@ pub record LengthsTold (format : Format) (query : Text) (i : Image) (answer : An
 pub record DiagramTold (format : Format) (query : Text) (i : Image) (answer : Answer) : Type 0 where
   pub route : Name
   pub classes : List Name
-  pub from : Option ℕ
-  pub to : Option ℕ
+  pub from : Option Place
+  pub to : Option Place
   pub gives_route : GivesRoute query route
   pub gives_classes : GivesClassesOrAll query classes
   pub gives_from : GivesFrom query from
@@ -218,14 +237,45 @@ module _ (format : Format) (i : Image) (query : Text) (answer : Answer) (served 
   pub totals_told : (q : Question) → q ≡ question.Totals → AnswersQuestion format i q answer → answer ≡ json_answer 200 (totals_data (totals_of (state_of i)))
   totals_told q is h = let (said, tells, shows) = asked_of q question.Totals is h in totals_said said tells shows
 
-  pub rows_told : (q : Question) → AsksOf path.Rows query q → AnswersQuestion format i q answer → (wanted : RowsWanted) × GivesRows query wanted × (answer ≡ list_reply (missing_of i (listing.Rows wanted)) (listing_answer format i (listing.Rows wanted)))
-  rows_told q (wanted, gives, is) h = (wanted, gives, listed (listing.Rows wanted) q is h)
+  -- rows between two ends
+  between_said : (said : Result Told AskFault) (a : RowsAsked) (from to : Result (Option ℕ) AskFault)
+      → MatchResult from (λ first. MatchResult to (λ last. Tells (IsInventory i) (told.Rows (wanted_of a first last)) said) (λ fault. said ≡ Err fault)) (λ fault. said ≡ Err fault)
+      → IsReplyTo format said answer → answer ≡ between_reply format i a from to
+  between_said said a (Err fault) to h shows = subst (λ r. IsReplyTo format r answer) h shows
+  between_said said a (Ok first) (Err fault) h shows = subst (λ r. IsReplyTo format r answer) h shows
+  between_said (Ok t) a (Ok first) (Ok last) (inventory, same, is) shows = subst (λ u. ShowsTold format u answer) is shows ∙ ap (λ (j : Image). rows_answer format j (wanted_of a first last)) same
+  between_said (Err fault) a (Ok first) (Ok last) never shows = absurd never
 
-  pub gone_told : (q : Question) → AsksOf path.Gone query q → AnswersQuestion format i q answer → (edit : Option ℕ) × GivesEditOrAll query edit × (answer ≡ list_reply (missing_of i (listing.Gone edit)) (listing_answer format i (listing.Gone edit)))
-  gone_told q (edit, gives, is) h = (edit, gives, listed (listing.Gone edit) q is h)
+  rows_said : (said : Result Told AskFault) (a : RowsAsked) (o : Option Missing)
+      → UnlessMissing o (OnStretch i a.route a.from a.to (λ first last. Tells (IsInventory i) (told.Rows (wanted_of a first last)))) said
+      → IsReplyTo format said answer → answer ≡ list_reply o (between_reply format i a (end_of i a.route From a.from) (end_of i a.route To a.to))
+  rows_said said a None tells shows = between_said said a (end_of i a.route From a.from) (end_of i a.route To a.to) tells shows
+  rows_said said a (Some what) tells shows = subst (λ r. IsReplyTo format r answer) tells shows
 
-  pub log_told : (q : Question) → AsksOf path.Log query q → AnswersQuestion format i q answer → (from : ℕ) × GivesFirstEdit query from × (answer ≡ list_reply (missing_of i (listing.Log from)) (listing_answer format i (listing.Log from)))
-  log_told q (from, gives, is) h = (from, gives, listed (listing.Log from) q is h)
+  pub rows_told : (q : Question) → AsksOf path.Rows query q → AnswersQuestion format i q answer → (a : RowsAsked) × GivesRows query a × (answer ≡ rows_reply format i a)
+  rows_told q (a, gives, is) h =
+      let (said, tells, shows) = asked_of q (question.Rows a) is h in
+      (a, gives, rows_said said a (missing_row i (wanted_of a None None)) tells shows)
+
+  pub refs_told : (q : Question) → AsksOf path.Refs query q → AnswersQuestion format i q answer
+      → (route : Option Name) × (exact : Bool) × GivesRouteOrAll query route × GivesExact query exact × (answer ≡ named_reply format i (listing.Refs route exact))
+  refs_told q (route, exact, gives, told, is) h = (route, exact, gives, told, listed (listing.Refs route exact) q is h)
+
+  pub marks_told : (q : Question) → AsksOf path.Marks query q → AnswersQuestion format i q answer → (route : Option Name) × GivesRouteOrAll query route × (answer ≡ named_reply format i (listing.Marks route))
+  marks_told q (route, gives, is) h = (route, gives, listed (listing.Marks route) q is h)
+
+  pub pieces_told : (q : Question) → AsksOf path.Pieces query q → AnswersQuestion format i q answer → (route : Option Name) × GivesRouteOrAll query route × (answer ≡ named_reply format i (listing.Pieces route))
+  pieces_told q (route, gives, is) h = (route, gives, listed (listing.Pieces route) q is h)
+
+  pub gone_told : (q : Question) → AsksOf path.Gone query q → AnswersQuestion format i q answer → (w : GoneWanted) × GivesGone query w × (answer ≡ named_reply format i (listing.Gone w))
+  gone_told q (w, gives, is) h = (w, gives, listed (listing.Gone w) q is h)
+
+  pub history_told : (q : Question) → AsksOf path.History query q → AnswersQuestion format i q answer → (asset : ℕ) × GivesAsset query asset × (answer ≡ named_reply format i (listing.History asset))
+  history_told q (asset, gives, is) h = (asset, gives, listed (listing.History asset) q is h)
+
+  pub log_told : (q : Question) → AsksOf path.Log query q → AnswersQuestion format i q answer
+      → (from : ℕ) × (until : Option ℕ) × GivesFirstEdit query from × GivesUntil query until × (answer ≡ named_reply format i (listing.Log from until))
+  log_told q (from, until, gives, ends, is) h = (from, until, gives, ends, listed (listing.Log from until) q is h)
 
   pub find_told : (q : Question) → AsksOf path.Find query q → AnswersQuestion format i q answer → (asset : ℕ) × GivesAsset query asset × (answer ≡ find_reply (get (state_of i).assets asset) (all_rows_of (state_of i) asset))
   find_told q (asset, gives, is) h =

@@ -22,6 +22,10 @@ use Rattle.lrs_machine.specs.declared.segment.Segment.{Segment}
 use Rattle.lrs_report.specs.Sweep.{run_of}
 use Rattle.lrs_report_answers.specs.Answers.{IsAt, OnRoute, StandsAt, UnlessMemory, route_missing}
 use Rattle.lrs_report_answers.specs.RouteSegments.{IsSegmented, class_list}
+use Rattle.lrs_machine.specs.declared.image.Image.{Image}
+use Rattle.lrs_machine.specs.declared.question.Place.{Place as PlaceOfRoute}
+use Rattle.lrs_report_answers.specs.Stretches.{OnStretch, end_of}
+use Rattle.lrs_report_answers.specs.declared.stretch.End.TheVariants.{From, To}
 use Rattle.lrs_report_answers.specs.ToldAnswers.{Tells}
 use Rattle.lrs_report_answers.specs.declared.fault.AskFault.{AskFault}
 use Rattle.lrs_report_answers.specs.declared.fault.AskFault.TheVariants.{Memory, Place, Seg}
@@ -185,3 +189,21 @@ module _ (format : Format) where
       let y = replied Passes told_of b also other more g in
       let same = once x.found y.found x.passes y.passes x.some y.some in
       one_reply told_of one x.found a b x.shows (subst (λ r. Replies told_of r b) (sym same) y.shows)
+
+  -- so are two that are told of a stretch between two ends
+  pub stretch_once : {A : Type 0} (i : Image) (route : Option Name) (from to : Option PlaceOfRoute) (Passes : Option ℕ → Option ℕ → Result A AskFault → Type 0) (told_of : A → Told)
+      → ((first last : Option ℕ) → OneUnlessMemory (Passes first last)) → ((x : A) (a b : Answer) → ShowsTold format (told_of x) a → ShowsTold format (told_of x) b → a ≡ b)
+      → (a b : Answer) → (a.status ≡ 503 → ⊥) → (b.status ≡ 503 → ⊥) → (said other : Result Told AskFault)
+      → OnStretch i route from to (λ first last. Tells (Passes first last) told_of) said → OnStretch i route from to (λ first last. Tells (Passes first last) told_of) other
+      → IsReplyTo format said a → IsReplyTo format other b → a ≡ b
+  stretch_once {A} i route from to Passes told_of once one a b served also said other tells more h g = by (end_of i route From from) (end_of i route To to) tells more
+    where
+      refused : (fault : AskFault) → said ≡ Err fault → other ≡ Err fault → a ≡ b
+      refused fault x y = subst (λ r. IsReplyTo format r a) x h ∙ sym (subst (λ r. IsReplyTo format r b) y g)
+
+      by : (f t : Result (Option ℕ) AskFault)
+          → MatchResult f (λ first. MatchResult t (λ last. Tells (Passes first last) told_of said) (λ fault. said ≡ Err fault)) (λ fault. said ≡ Err fault)
+          → MatchResult f (λ first. MatchResult t (λ last. Tells (Passes first last) told_of other) (λ fault. other ≡ Err fault)) (λ fault. other ≡ Err fault) → a ≡ b
+      by (Err fault) t x y = refused fault x y
+      by (Ok first) (Err fault) x y = refused fault x y
+      by (Ok first) (Ok last) x y = told_once (Passes first last) told_of (once first last) one a b served also said other x y h g

@@ -38,7 +38,7 @@ use Rattle.lrs_report.specs.declared.diagrams.diagram.Diagram.{Diagram}
 use Rattle.lrs_report.specs.declared.diagrams.diagram.DrawnPiece.{DrawnPiece}
 use Rattle.lrs_report.specs.declared.diagrams.diagram.DrawnRow.{DrawnRow}
 use Rattle.lrs_report.specs.declared.diagrams.scale.Scale.{Scale}
-use Rattle.lrs_sheet_log.proofs.Pieces.{fewest-same}
+use Rattle.lrs_report_lists.proofs.FewestPieces.{fewest-same}
 use Rattle.lrs_report_answers.proofs.Naming.{along_ranks}
 use Rattle.lrs_report_answers.specs.DrawnRows.{AreAlong, AreBands, AreChosen, ArePlaced, IsBand, IsDrawing, IsDrawn, IsDrawnOn, IsFirstUnknown, IsStretch, along, class_named, drawn_row, is_point, placed, stands_before}
 use Rattle.lrs_report_answers.specs.Answers.{UnlessMemory, route_missing}

@@ -21,8 +21,8 @@ use Rattle.lrs_report_lists.proofs.Length.Unique.{are_unique}
 use Rattle.lrs_report_answers.specs.Answers.{UnlessMemory, UnlessMissing}
 use Rattle.lrs_report_answers.specs.Listings.{AreLengthsOf, missing_route}
 use Rattle.lrs_report_answers.specs.Place.Answers.{IsPosition, IsThere, IsWhereabouts, targets_of}
-use Rattle.lrs_report_answers.specs.Place.Places.{Place, place_of}
-use Rattle.lrs_report_answers.specs.declared.fault.AskFault.TheVariants as why
+use Rattle.lrs_report_answers.specs.Place.Places.{Spot, place_of}
+use Rattle.lrs_report_answers.specs.declared.fault.AskFault.{AskFault}
 use Rattle.lrs_report_answers.specs.declared.places.answer.Whereabouts.{Whereabouts}
 use Rattle.lrs_promises.proofs.Once.{OneUnlessMemory, stands_once, unless_memory}
 
@@ -51,9 +51,9 @@ there_once i e chainage v w h g =
     (targets_of e.route.refs) v.positions w.positions h.by_targets g.by_targets in
     λ k. record { route = route k; found = found k; positions = positions k }
 
-there_once_or : (i : Image) (place : Result Place Missing) → OneUnlessMemory (λ result. MatchResult place (λ at. UnlessMemory (IsThere i at.0 at.1) result) (λ what. result ≡ Err (why.Missing what)))
+there_once_or : (i : Image) (place : Result Spot AskFault) → OneUnlessMemory (λ result. MatchResult place (λ at. UnlessMemory (IsThere i at.0 at.1) result) (λ fault. result ≡ Err fault))
 there_once_or i (Ok (e, chainage)) = unless_memory (IsThere i e chainage) (there_once i e chainage)
-there_once_or i (Err what) = λ r q h g some also. h ∙ sym g
+there_once_or i (Err fault) = λ r q h g some also. h ∙ sym g
 
 -- what is at the place of a spot
 pub where_once : (i : Image) (s : AskedPlace) → OneUnlessMemory (IsWhereabouts i s)

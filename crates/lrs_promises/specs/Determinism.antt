@@ -71,9 +71,10 @@ InventoriesAreOne = (i j : Image) → IsSound i → IsSound j → state_of i ≡
 
 -- ---- what is asked
 
--- whether a request asks for anything but what is gone, which is listed by the rows of the ledgers: it may be refused, and post any sheet
+-- whether a request asks for anything but what is gone and what became of an asset, which are listed by the rows of the ledgers: it may be refused, and post any sheet
 abbrev pub IsOfState : Asked → Type 0
 IsOfState (query path.Gone format argument) = ⊥
+IsOfState (query path.History format argument) = ⊥
 IsOfState _ = ⊤
 
 -- whether a request changes nothing: it may be refused, and ask for anything, but post no sheet other than of questions

@@ -1,5 +1,5 @@
 -- Why questions are refused, as texts.
-use Rattle.std.specs.Prelude.{Option, Some, None, ◌++◌, codes}
+use Rattle.std.specs.Prelude.{Option, Some, None, ◌∷◌, ◌++◌, codes}
 use Rattle.std.specs.Fmt.{decimal}
 use Rattle.lrs_position.specs.declared.location.PlaceFault.{PlaceFault}
 use Rattle.lrs_position.specs.declared.location.PlaceFault.TheVariants as place
@@ -10,14 +10,28 @@ use Rattle.lrs_machine.specs.Lines.{Text}
 use Rattle.lrs_report_answers.specs.declared.fault.AskFault.{AskFault}
 use Rattle.lrs_report_answers.specs.declared.fault.AskFault.TheVariants as asked
 use Rattle.lrs_report_answers.specs.declared.cause.AskCause.{AskCause}
-use Rattle.lrs_report_answers.specs.declared.cause.AskCause.TheVariants.{Missing, NoRef, TooFine, OffRoute, NoClass, NotExclusive, SideB}
+use Rattle.lrs_report_answers.specs.declared.cause.AskCause.TheVariants.{Missing, NoRef, TooFine, OffRoute, End, NoClass, NotExclusive, SideB}
+use Rattle.lrs_report_answers.specs.declared.stretch.End.{End as EndOfStretch}
+use Rattle.lrs_report_answers.specs.declared.stretch.End.TheVariants as end
 
--- the name of a cause, and behind a colon the index of the class that was asked for
+-- why a position is refused
+abbrev pub place_text : PlaceFault → Text
+place_text place.NoRef = codes "NoRef"
+place_text place.TooFine = codes "TooFine"
+place_text place.OffRoute = codes "OffRoute"
+
+-- which end of a stretch
+abbrev pub end_text : EndOfStretch → Text
+end_text end.From = codes "from"
+end_text end.To = codes "to"
+
+-- the name of a cause, and behind a colon the index of the class that was asked for, or the end of the stretch
 abbrev pub cause_text : AskCause → Text
 cause_text (Missing what) = missing_text what
 cause_text NoRef = codes "NoRef"
 cause_text TooFine = codes "TooFine"
 cause_text OffRoute = codes "OffRoute"
+cause_text (End e fault) = place_text fault ++ 58 ∷ end_text e
 cause_text (NoClass i) = codes "NoClass:" ++ decimal i
 cause_text (NotExclusive i) = codes "NotExclusive:" ++ decimal i
 cause_text SideB = codes "SideB"
@@ -39,6 +53,7 @@ cause_of_segments segments.Memory = None
 abbrev pub cause_of : AskFault → Option AskCause
 cause_of (asked.Missing what) = Some (Missing what)
 cause_of (asked.Place fault) = Some (cause_of_place fault)
+cause_of (asked.End e fault) = Some (End e fault)
 cause_of (asked.Seg fault) = cause_of_segments fault
 cause_of asked.MustReopen = None
 cause_of asked.Memory = None

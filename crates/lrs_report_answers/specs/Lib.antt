@@ -8,6 +8,7 @@ pub mod NamedRows
 pub mod ToldAnswers
 pub mod Causes
 pub mod DrawnRows
+pub mod Stretches
 pub mod Listings
 pub mod Tally
 pub mod Place

@@ -1,5 +1,5 @@
 -- What is told to a question that is asked of an inventory.
-use Rattle.std.specs.Prelude.{◌≡◌, ℕ, List, length, Result, Ok, Err, MatchOption}
+use Rattle.std.specs.Prelude.{◌≡◌, ℕ, List, length, Some, None, Result, Ok, Err, MatchOption}
 use Rattle.std.specs.List.{find}
 use Rattle.std.specs.Option.{option_map_or}
 use Rattle.lrs_measure.specs.Fraction.{Fraction}
@@ -13,18 +13,21 @@ use Rattle.lrs_machine.specs.declared.image.Image.{Image}
 use Rattle.lrs_machine.specs.declared.question.Destination.TheVariants as destination
 use Rattle.lrs_machine.specs.declared.question.Question.{Question}
 use Rattle.lrs_machine.specs.declared.question.Question.TheVariants as question
+use Rattle.lrs_machine.specs.declared.question.RowsAsked.{RowsAsked}
 use Rattle.lrs_machine.specs.declared.total.Total.{Total}
 use Rattle.lrs_machine.specs.Image.{state_of}
 use Rattle.lrs_machine.specs.Register.{get}
 use Rattle.lrs_machine.specs.State.{State}
 use Rattle.lrs_image.specs.Change.{is_named}
+use Rattle.lrs_report_lists.specs.Absence.{missing_row}
 use Rattle.lrs_report_answers.specs.declared.fault.AskFault.{AskFault}
 use Rattle.lrs_report_answers.specs.declared.told.Told.{Told}
 use Rattle.lrs_report_answers.specs.declared.told.Told.TheVariants as told
-use Rattle.lrs_report_answers.specs.Answers.{AsksRoute, IsAt, UnlessMemory, route_missing}
+use Rattle.lrs_report_answers.specs.Answers.{AsksRoute, IsAt, UnlessMemory, UnlessMissing, route_missing}
 use Rattle.lrs_report_answers.specs.DrawnRows.{IsDrawn}
 use Rattle.lrs_report_answers.specs.AssetStretches.{IsFound}
-use Rattle.lrs_report_answers.specs.Listings.{AreLengthsOf, IsListing}
+use Rattle.lrs_report_answers.specs.Listings.{AreLengthsOf, IsInventory, IsListing, wanted_of}
+use Rattle.lrs_report_answers.specs.Stretches.{OnStretch}
 use Rattle.lrs_report_answers.specs.Place.Answers.{IsWhereabouts}
 use Rattle.lrs_report_answers.specs.RouteSegments.{IsSegmented}
 use Rattle.lrs_report_answers.specs.Totals.{totals_of}
@@ -54,6 +57,12 @@ abbrev pub Tells : {A : Type 0} → (Result A AskFault → Type 0) → (A → To
 Tells {A} Passes told_of (Ok t) = (answer : A) × Passes (Ok answer) × (t ≡ told_of answer)
 Tells Passes told_of (Err fault) = Passes (Err fault)
 
+-- The answer is the rows of the inventory between the ends that are asked for; or what is missing, or the fault of an end.
+abbrev pub AreRows : Image → RowsAsked → Result Told AskFault → Type 0
+AreRows i asked =
+    UnlessMissing (missing_row i (wanted_of asked None None))
+    (OnStretch i asked.route asked.from asked.to (λ first last. Tells (IsInventory i) (told.Rows (wanted_of asked first last))))
+
 -- What an inventory tells to each question.
 abbrev pub IsTold : Image → Question → Result Told AskFault → Type 0
 IsTold i (question.At route e) = Tells (IsAt (state_of i) route e) (told.At route)
@@ -61,10 +70,11 @@ IsTold i (question.Route route) = Tells (IsNamedRoute i route) told.Route
 IsTold i (question.Segments route side classes) = Tells (IsSegmented (state_of i) route classes side) (told.Segments route side (length_on (state_of i) route) classes)
 IsTold i (question.Translate route e (destination.Method target)) = Tells (IsTranslated (state_of i) route e target) (told.Translated route)
 IsTold i (question.Translate route e destination.Link) = Tells (IsOnLink (state_of i) route e) (λ on. told.OnLink route on.0 on.1)
-IsTold i (question.Diagram route classes from to) = Tells (IsDrawn i route classes from to) told.Diagram
+IsTold i (question.Diagram route classes from to) = OnStretch i (Some route) from to (λ first last. Tells (IsDrawn i route classes first last) told.Diagram)
 IsTold i question.Totals = Tells (AreTotals (state_of i)) told.Totals
 IsTold i (question.Find asset) = Tells (IsFound (state_of i) asset) told.Found
 IsTold i (question.Where spot) = Tells (IsWhereabouts i spot) told.Where
 IsTold i (question.Lengths route) = Tells (AreLengthsOf i route) told.Lengths
+IsTold i (question.Rows asked) = AreRows i asked
 IsTold i (question.List l) = Tells (IsListing i l) (told.Listing l)
 IsTold i question.Health = λ result. result ≡ Ok (told.Health (length i.edits))

@@ -1,5 +1,6 @@
 //! Why a question is refused.
 
+use crate::stretch::End;
 use lrs_machine::{Missing, SegFault};
 use lrs_position::PlaceFault;
 use std::alloc::AllocError;
@@ -11,6 +12,8 @@ pub enum AskFault {
     Missing(Missing),
     /// The position expression locates nothing on the route.
     Place(PlaceFault),
+    /// The position expression at this end of a stretch locates nothing on the route.
+    End(End, PlaceFault),
     /// Segments of these classes on this side are refused; lack of memory is `Memory`, never this.
     Seg(SegFault),
     /// What is kept has to be opened again. Only a desk answers so, once a commit has failed.

@@ -19,6 +19,7 @@ mod route_diagram;
 mod rows;
 mod search;
 mod segmentation;
+mod stretch;
 mod tallies;
 mod told;
 
@@ -34,5 +35,6 @@ pub use route_diagram::diagram;
 pub use rows::{FoundRow, push_rows};
 pub use search::find;
 pub use segmentation::{RouteSegments, segments};
+pub use stretch::{End, end_of};
 pub use tallies::Counts;
 pub use told::Told;

@@ -1,29 +1,38 @@
 //! Questions of every kind, by one call: the command line, sheets of questions and HTTP ask the same way.
 
-ghost use Rattle.std.specs.Prelude.{◌≡◌, Err};
+ghost use Rattle.std.specs.Prelude.{◌≡◌, Err, None, Some};
+ghost use Rattle.lrs_image.specs.OpenLists.{image_of};
 ghost use Rattle.lrs_machine.specs.Image.{state_of};
+ghost use Rattle.lrs_machine.specs.Sound.{IsSound};
+ghost use Rattle.lrs_report_answers.specs.Stretches.{OnStretch};
 ghost use Rattle.lrs_report_answers.specs.declared.told.Told.TheVariants as told;
 ghost use Rattle.lrs_report_answers.specs.Answers.{IsAt};
 ghost use Rattle.lrs_report_answers.specs.AssetStretches.{IsFound};
 ghost use Rattle.lrs_report_answers.specs.DrawnRows.{IsDrawn};
-ghost use Rattle.lrs_report_answers.specs.Listings.{AreLengthsOf, IsListing, has_key};
+ghost use Rattle.lrs_report_answers.specs.Listings.{AreLengthsOf, IsInventory, IsListing, has_key};
 ghost use Rattle.lrs_report_answers.specs.Listings as spec;
 ghost use Rattle.lrs_report_answers.specs.Place.Answers.{IsWhereabouts};
 ghost use Rattle.lrs_report_answers.specs.RouteSegments.{IsSegmented};
 ghost use Rattle.lrs_report_answers.specs.Tally.RunningCounts.{IsCounted};
-ghost use Rattle.lrs_report_answers.specs.ToldAnswers.{AreTotals, IsNamedRoute, IsOnLink, IsTold, IsTranslated, Tells, length_on};
+ghost use Rattle.lrs_report_answers.specs.ToldAnswers.{AreRows, AreTotals, IsNamedRoute, IsOnLink, IsTold, IsTranslated, Tells, length_on};
 
 use crate::tallies::Counts;
 use crate::{
-    AskFault, Told, at, diagram, find, length_of, named_route, segments, to_link, translate,
-    whereabouts,
+    AskFault, End, Told, at, diagram, end_of, find, length_of, named_route, segments, to_link,
+    translate, whereabouts,
 };
 use lrs_events::{ClassName, Side};
+use lrs_image::ImageLists;
 use lrs_inventory::Inventory;
-use lrs_machine::{AskedPlace, Destination, Key, Listing, Missing, Question};
+use lrs_machine::{
+    AskedPlace, Destination, GoneWanted, Key, Listing, Missing, Place, Question, RowsAsked,
+    RowsWanted,
+};
 use lrs_measure::Rows;
 use lrs_position::{Expr, RouteName, Target};
-use lrs_report_lists::{ValueLength, lacks_edit, lacks_route, lengths, missing_row};
+use lrs_report_lists::{
+    ValueLength, lacks_asset, lacks_class, lacks_edit, lacks_route, lengths, missing_row,
+};
 use std::alloc::Global;
 
 fn tell_at<'a>(
@@ -133,6 +142,23 @@ fn tell_diagram<'a>(
     Ok(Told::Diagram(drawn))
 }
 
+fn tell_diagram_between<'a>(
+    alloc: Global,
+    inventory: &'a Inventory,
+    route: RouteName,
+    classes: Rows<ClassName>,
+    from: Option<Place>,
+    to: Option<Place>,
+) -> Result<Told<'a>, AskFault>
+    ensures answer { OnStretch inventory.now (Some route) from to (λ first last.
+        Tells (IsDrawn inventory.now route classes first last) told.Diagram) result }
+    ensures never { result ≡ Err AskFault.MustReopen → ⊥ }
+{
+    let from = end_of(inventory, Some(route), End::From, from)?;
+    let to = end_of(inventory, Some(route), End::To, to)?;
+    tell_diagram(alloc, inventory, route, classes, from, to)
+}
+
 fn tell_totals<'a>(
     alloc: Global,
     inventory: &'a Inventory,
@@ -200,22 +226,55 @@ fn has_key(inventory: &Inventory, key: &Key) -> bool
     inventory.edit_of_key(key).is_some()
 }
 
+fn missing_route(kept: &ImageLists, route: Option<RouteName>) -> Option<Missing>
+    requires sound { IsSound (image_of kept.now) }
+    ensures { result ≡ spec.missing_route (image_of kept.now) route }
+{
+    if lacks_route(kept, route) {
+        return Some(Missing::Route);
+    }
+    None
+}
+
+fn missing_gone(kept: &ImageLists, wanted: &GoneWanted) -> Option<Missing>
+    requires sound { IsSound (image_of kept.now) }
+    ensures { result ≡ spec.missing_gone (image_of kept.now) wanted.now }
+{
+    if lacks_edit(kept, wanted.edit) {
+        return Some(Missing::Edit);
+    }
+    if lacks_class(kept, wanted.class) {
+        return Some(Missing::Class);
+    }
+    None
+}
+
+fn missing_asset(kept: &ImageLists, asset: u64) -> Option<Missing>
+    requires sound { IsSound (image_of kept.now) }
+    ensures { result ≡ spec.missing_asset (image_of kept.now) asset }
+{
+    if lacks_asset(kept, Some(asset)) {
+        return Some(Missing::Asset);
+    }
+    None
+}
+
 /// What a listing names first that the inventory does not have.
 fn missing_of(inventory: &Inventory, listing: &Listing) -> Option<Missing>
     ensures { result ≡ spec.missing_of inventory.now listing.now }
 {
     match listing {
-        Listing::Rows(wanted) => missing_row(inventory.kept(), wanted),
-        Listing::Gone(edit) if lacks_edit(inventory.kept(), *edit) => Some(Missing::Edit),
+        Listing::Refs { route, .. } | Listing::Marks(route) | Listing::Pieces(route) => {
+            missing_route(inventory.kept(), *route)
+        }
+        Listing::Gone(wanted) => missing_gone(inventory.kept(), wanted),
+        Listing::History(asset) => missing_asset(inventory.kept(), *asset),
         Listing::LogOfKey(key) if !has_key(inventory, key) => Some(Missing::Key),
-        Listing::Gone(_)
-        | Listing::LogOfKey(_)
-        | Listing::Log(_)
+        Listing::LogOfKey(_)
+        | Listing::Log { .. }
         | Listing::Routes
         | Listing::Links
-        | Listing::Classes
-        | Listing::Refs
-        | Listing::Marks => None,
+        | Listing::Classes => None,
     }
 }
 
@@ -238,12 +297,48 @@ fn tell_listing<'a>(inventory: &'a Inventory, listing: Listing) -> Result<Told<'
     Ok(Told::Listing { listing, inventory })
 }
 
+/// The rows that are asked for, where the ends of the stretch are found.
+fn wanted_of(asked: &RowsAsked, from: Option<u64>, to: Option<u64>) -> RowsWanted
+    ensures { result ≡ spec.wanted_of asked.now from to }
+{
+    RowsWanted {
+        route: asked.route,
+        from,
+        to,
+        class: asked.class,
+        asset: asked.asset,
+        form: asked.form,
+    }
+}
+
+fn tell_rows_between<'a>(inventory: &'a Inventory, asked: &RowsAsked) -> Result<Told<'a>, AskFault>
+    ensures answer { OnStretch inventory.now asked.now.route asked.now.from asked.now.to
+        (λ first last. Tells (IsInventory inventory.now)
+        (told.Rows (spec.wanted_of asked.now first last))) result }
+    ensures never { result ≡ Err AskFault.MustReopen → ⊥ }
+{
+    let from = end_of(inventory, asked.route, End::From, asked.from)?;
+    let to = end_of(inventory, asked.route, End::To, asked.to)?;
+    let wanted = wanted_of(asked, from, to);
+    Ok(Told::Rows { wanted, inventory })
+}
+
+fn tell_rows<'a>(inventory: &'a Inventory, asked: &RowsAsked) -> Result<Told<'a>, AskFault>
+    ensures answer { AreRows inventory.now asked.now result }
+    ensures never { result ≡ Err AskFault.MustReopen → ⊥ }
+{
+    if let Some(missing) = missing_row(inventory.kept(), &wanted_of(asked, None, None)) {
+        return Err(AskFault::Missing(missing));
+    }
+    tell_rows_between(inventory, asked)
+}
+
 /// Answers a question of any kind. `counts` are those of the inventory.
 ///
 /// # Errors
 /// Those of the function for its kind: `at`, `named_route`, `segments`, `translate`, `to_link`, `diagram`, `Counts::totals`,
-/// `find` or `whereabouts`; `Missing` of the first thing that lengths or a listing name and the inventory does not have; never
-/// `MustReopen`.
+/// `find` or `whereabouts`; `Missing` of the first thing that lengths, rows or a listing name and the inventory does not have;
+/// then those of `end_of`, of the start of a stretch before those of its end; never `MustReopen`.
 pub fn tell<'a>(
     alloc: Global,
     inventory: &'a Inventory,
@@ -275,11 +370,12 @@ pub fn tell<'a>(
             classes,
             from,
             to,
-        } => tell_diagram(alloc, inventory, route, classes, from, to),
+        } => tell_diagram_between(alloc, inventory, route, classes, from, to),
         Question::Totals => tell_totals(alloc, inventory, counts),
         Question::Find { asset } => tell_found(alloc, inventory, asset),
         Question::Where(spot) => tell_where(alloc, inventory, spot),
         Question::Lengths(route) => tell_lengths(alloc, inventory, route),
+        Question::Rows(asked) => tell_rows(inventory, &asked),
         Question::List(listing) => tell_listing(inventory, listing),
         Question::Health => Ok(Told::Health(inventory.edits())),
     }

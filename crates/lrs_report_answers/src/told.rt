@@ -3,7 +3,7 @@
 use crate::{AtAnswer, FoundRow, RouteSegments, Whereabouts};
 use lrs_events::{ClassName, Side};
 use lrs_inventory::Inventory;
-use lrs_machine::{Listing, Total};
+use lrs_machine::{Listing, RowsWanted, Total};
 use lrs_measure::{Frac, Rows};
 use lrs_position::{Expr, Route, RouteName};
 use lrs_report::Diagram;
@@ -49,6 +49,11 @@ pub enum Told<'a> {
     Where(Whereabouts),
     /// How long each value of each class is.
     Lengths(Rows<ValueLength>),
+    /// The rows of this inventory that are wanted, which has all that they name. Each row is made where it is written.
+    Rows {
+        wanted: RowsWanted,
+        inventory: &'a Inventory,
+    },
     /// What is listed of this inventory, which has all that the listing names. Each entry is made where it is written.
     Listing {
         listing: Listing,

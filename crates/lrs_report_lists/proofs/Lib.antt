@@ -4,3 +4,7 @@ pub mod Chosen
 pub mod Plain
 pub mod Stretch
 pub mod Length
+pub mod FewestPieces
+pub mod CoursePieces
+pub mod Placed
+pub mod LinkLines

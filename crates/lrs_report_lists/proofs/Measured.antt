@@ -1,22 +1,23 @@
 -- What is read off the marks at a chainage is the measure that its definition names.
 use Rattle.std.proofs.Common.{◌≡◌, ℕ, zero, suc, ◌+◌, ◌-◌, ◌*◌, ◌/◌, ◌%◌, ◌<◌, ◌≤◌, Bool, true, false, cond, nat_le, nat_eq, inl, inr, List, [], ◌∷◌, length, ℤ, pos, Option, Some, None, refl, sym, ap, subst, ◌∙◌, arith, eq-eqb}
-use Rattle.std.specs.Prelude.{◌↔◌, IfSome, IsSome}
+use Rattle.std.specs.Prelude.{◌↔◌, IfSome, IsSome, is_some, unsigned_abs}
 use Rattle.std.specs.Int.{◌∣◌}
 use Rattle.std.specs.Option.{option_map}
-use Rattle.std.proofs.Math.Nat.{dvd-mul_left, eq_of_mul-eq-mul_right, div-mul_cancel}
+use Rattle.std.proofs.Math.Nat.{dvd-mul_left, eq_of_mul-eq-mul_right, div-mul_cancel, le_trans, mul-div-mul_right, mul-le-mul_right}
 use Rattle.std.proofs.lemmas.Bool.{both_ways, false≢true, eqb-true, leb-true, le-leb}
 use Rattle.std.proofs.lemmas.Int.{ints}
 use Rattle.std.proofs.lemmas.Nat.Gcd.{dvd_of_mod-eq-zero, mod-eq-zero_of_dvd, le_of_dvd}
 use Rattle.lrs_measure.specs.Fraction.{Fraction, IsLowest, IsQuotient}
-use Rattle.lrs_measure.specs.Limits.{longest_route}
+use Rattle.std.proofs.lemmas.Option.{same_Some}
+use Rattle.lrs_measure.specs.Limits.{greatest_measure, longest_route}
 use Rattle.lrs_measure.proofs.Lowest.{den_divides}
 use Rattle.lrs_element.specs.declared.marks.Mark.{Mark}
 use Rattle.lrs_element.specs.Marks.{IsOnLine, last_mark, last_of}
 use Rattle.lrs_element.specs.Line.{HasMeasure, IsReadable}
 use Rattle.lrs_position.specs.declared.route.Route.{Route}
-use Rattle.lrs_position.proofs.Line.{Climb, after_first}
+use Rattle.lrs_position.proofs.Line.{Climb, after_first, before_last}
 use Rattle.lrs_position.proofs.Answering.{IsSound-from_route}
-use Rattle.lrs_report_lists.specs.Measures.{first_passing, least_denominator, lowest_terms, measure_between, measure_on, measure_pair, whole}
+use Rattle.lrs_report_lists.specs.Measures.{decimal_measure, first_passing, least_denominator, lowest_terms, measure_between, measure_on, measure_pair, thousandths, whole}
 
 -- ---- lowest terms
 
@@ -63,7 +64,7 @@ module _ (m : Fraction) (r n d : ℕ) (low : IsLowest m) (num : m.num ≡ pos r)
   before : (e : ℕ) → 1 ≤ e → e < m.den → nat_eq (n * e % d) 0 ≡ false
   before e one l = is_false (nat_eq (n * e % d) 0) (λ t. let k : m.den ≤ e = least e (omega arith) t in omega arith)
 
-  fits : m.den ≤ d
+  pub fits : m.den ≤ d
   fits = le_of_dvd wide (den_divides m (pos n) d low (quotient n d same))
 
   denominator_is : least_denominator n d ≡ m.den
@@ -193,3 +194,74 @@ told_on route c x o is on some =
 
 pub none_behind : (c len : ℕ) → len < c → IsSome {T = Fraction} None ↔ (c ≤ len)
 none_behind c len h = (λ t. absurd (false≢true t), λ l. let no : ⊥ = omega arith in absurd no)
+
+-- ---- thousandths
+
+-- a value has one number of thousandths, however it is written
+same_thousandths : (r e n d : ℕ) → 0 < e → 0 < d → r * d ≡ n * e → thousandths r e ≡ thousandths n d
+same_thousandths r e n d above wide same =
+    let top : (2000 * r + e) * d ≡ (2000 * n + d) * e = omega (arith, ap (λ (k : ℕ). 2000 * k) same) in
+    let bottom : 2 * e * d ≡ 2 * d * e = omega arith in
+    sym (mul-div-mul_right (2000 * r + e) (2 * e) wide) ∙ (λ i. top i / bottom i) ∙ mul-div-mul_right (2000 * n + d) (2 * d) above
+
+-- the measure on a route is on the line of its marks
+on_line : (route : Route) (c : ℕ) (m : Fraction) → (has : HasMeasure route.marks (whole c) m) → IsOnLine route.marks (c, 1) (has.reading, m.den)
+on_line route c m has =
+    let along : has.along ≡ c = ap unsigned_abs (sym has.chainage) in
+    subst (λ (k : ℕ). IsOnLine route.marks (k, 1) (has.reading, m.den)) along has.line
+
+-- in thousandths it is what its definition names
+pub thousandths_told : (route : Route) (c : ℕ) (m : Fraction) → HasMeasure route.marks (whole c) m → IsLowest m → Some (thousandths (unsigned_abs m.num) m.den) ≡ decimal_measure route.marks c
+unfolding decimal_measure
+thousandths_told route c m has low =
+    let found = pair_is route.marks c has.reading m.den (IsSound-from_route route).climb (on_line route c m has) in
+    let size : unsigned_abs m.num ≡ has.reading = ap unsigned_abs has.measure in
+    ap (λ k. Some (thousandths k m.den)) size
+    ∙ ap (λ k. Some k) (same_thousandths has.reading m.den found.0.0 found.0.1 low.positive found.2 found.3)
+    ∙ sym (ap (option_map (λ m. thousandths m.0 m.1)) found.1)
+
+-- where there is no measure, there are no thousandths
+pub no_thousandths : (marks : List Mark) (c : ℕ) → None ≡ measure_on marks c → None ≡ decimal_measure marks c
+unfolding measure_on decimal_measure
+no_thousandths marks c h = by (measure_pair marks c) h
+  where
+    by : (o : Option (ℕ × ℕ)) → None ≡ option_map (λ m. lowest_terms m.0 m.1) o → None ≡ option_map (λ m. thousandths m.0 m.1) o
+    by None h = refl
+    by (Some m) h = absurd (false≢true (ap is_some h))
+
+below_top : (marks : List Mark) (c r e : ℕ) → Climb marks → IsOnLine marks (c, 1) (r, e) → r ≤ (last_mark marks).measure * e
+below_top [] c r e climb h = absurd h
+below_top (p ∷ rest) c r e climb h = (before_last p rest c 1 r e climb (omega arith) h).1
+
+-- a measure on a route is at most the greatest
+pub measure_small : (route : Route) (c : ℕ) (m : Fraction) → HasMeasure route.marks (whole c) m → unsigned_abs m.num ≤ greatest_measure * m.den
+measure_small route c m has =
+    let sound = IsSound-from_route route in
+    let size : unsigned_abs m.num ≡ has.reading = ap unsigned_abs has.measure in
+    let below = below_top route.marks c has.reading m.den sound.climb (on_line route c m has) in
+    let high = mul-le-mul_right m.den sound.highest in
+    let whole : has.reading ≤ greatest_measure * m.den = le_trans below high in
+    omega (arith, size, whole)
+
+pair_step : (p q : Mark) (rest : List Mark) (c last : ℕ) (m : ℕ × ℕ) → q.chainage ≤ last → (measure_pair (q ∷ rest) c ≡ Some m → m.1 ≤ last) → (b : Bool)
+    → cond b (Some (measure_between p q c)) (measure_pair (q ∷ rest) c) ≡ Some m → m.1 ≤ last
+pair_step p q rest c last m within behind true e =
+    let wide : q.chainage - p.chainage ≡ m.1 = ap (λ (k : ℕ × ℕ). k.1) (same_Some _ _ e) in
+    omega arith
+pair_step p q rest c last m within behind false e = behind e
+
+pair_wide : (marks : List Mark) (c : ℕ) (m : ℕ × ℕ) → Climb marks → measure_pair marks c ≡ Some m → m.1 ≤ (last_mark marks).chainage
+pair_wide [] c m climb e = absurd (false≢true (ap is_some e))
+pair_wide (p ∷ []) c m climb e = absurd (false≢true (ap is_some e))
+pair_wide (p ∷ q ∷ rest) c m climb e = pair_step p q rest c (last_of q rest).chainage m (highest q rest climb.1) (pair_wide (q ∷ rest) c m climb.1) (nat_le c q.chainage) e
+
+-- its denominator is at most the length of the longest route
+pub measure_fine : (route : Route) (c : ℕ) (m : Fraction) → HasMeasure route.marks (whole c) m → IsLowest m → m.den ≤ longest_route
+measure_fine route c m has low =
+    let sound = IsSound-from_route route in
+    let end : (last_mark route.marks).chainage ≡ length route.course = sound.end in
+    let longest : length route.course ≤ 10_000_000_000 = sound.longest in
+    let found = pair_is route.marks c has.reading m.den sound.climb (on_line route c m has) in
+    let wide : found.0.1 ≤ (last_mark route.marks).chainage = pair_wide route.marks c found.0 sound.climb found.1 in
+    let fine : m.den ≤ found.0.1 = fits m has.reading found.0.0 found.0.1 low has.measure found.2 found.3 in
+    omega (arith, end, longest, wide, fine)

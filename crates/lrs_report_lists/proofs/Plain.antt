@@ -1,5 +1,5 @@
 -- No name, value, number or measure has a byte that means something in CSV.
-use Rattle.std.proofs.Common.{◌≡◌, ℕ, ◌+◌, ◌%◌, ◌<◌, ◌^◌, ◌∙◌, Bool, true, false, List, [], ◌∷◌, ◌++◌, refl, ap, cond, arith}
+use Rattle.std.proofs.Common.{◌≡◌, ℕ, ◌+◌, ◌/◌, ◌%◌, ◌<◌, ◌^◌, ◌∙◌, Bool, true, false, List, [], ◌∷◌, ◌++◌, refl, ap, cond, arith}
 use Rattle.std.specs.Prelude.{◌&&◌, ◌==◌, nat_eq}
 use Rattle.std.specs.List.{list_all}
 use Rattle.std.specs.Fmt.{decimal}
@@ -8,7 +8,9 @@ use Rattle.std.proofs.lemmas.Fmt.{decimal_by_steps_wide}
 use Rattle.std.proofs.lemmas.List.Folds.{list_all-append}
 use Rattle.lrs_measure.specs.Alphabets.{is_capital, is_word_byte}
 use Rattle.lrs_position.specs.Names.{is_route_byte}
-use Rattle.lrs_report_lists.specs.Laws.{IsPlain, MeasuresArePlain, NamesArePlain, NumbersArePlain, is_plain_byte}
+use Rattle.lrs_machine.specs.Keys.{is_key_byte}
+use Rattle.lrs_machine.specs.declared.command.Command.TheVariants as verb
+use Rattle.lrs_report_lists.specs.Laws.{DecimalsArePlain, IsPlain, KeysArePlain, MeasuresArePlain, NamesArePlain, NumbersArePlain, VerbsArePlain, is_plain_byte}
 
 -- ---- names and values
 
@@ -43,6 +45,26 @@ names_are_plain text = (
   λ h. all_plain is_word_byte refl refl refl refl text (both _ _ (both _ _ h).0).1,
 )
 
+pub keys_are_plain : KeysArePlain
+keys_are_plain text h = all_plain is_key_byte refl refl refl refl text (both _ _ (both _ _ h).0).1
+
+pub verbs_are_plain : VerbsArePlain
+verbs_are_plain (verb.Link l) = refl
+verbs_are_plain (verb.Class c) = refl
+verbs_are_plain (verb.Route name pieces marks) = refl
+verbs_are_plain (verb.Ref name route at) = refl
+verbs_are_plain (verb.Unref name) = refl
+verbs_are_plain (verb.Enter e) = refl
+verbs_are_plain (verb.Retire asset route location) = refl
+verbs_are_plain (verb.Split route at name) = refl
+verbs_are_plain (verb.Join first second) = refl
+verbs_are_plain (verb.Renumber route name) = refl
+verbs_are_plain (verb.Recalibrate route marks) = refl
+verbs_are_plain (verb.Realign route first end pieces marks) = refl
+verbs_are_plain (verb.Close route) = refl
+verbs_are_plain (verb.Supersede e) = refl
+verbs_are_plain (verb.Turn route) = refl
+
 -- ---- numbers
 
 far : (d k : ℕ) → k < 48 → nat_eq (48 + d) k ≡ false
@@ -71,3 +93,18 @@ measures_are_plain n d small low = by (d == 1)
     by : (b : Bool) → IsPlain (cond b (decimal n) (decimal n ++ 47 ∷ decimal d))
     by true = wide_plain n small
     by false = list_all-append is_plain_byte (decimal n) (47 ∷ decimal d) ∙ and_from (list_all is_plain_byte (decimal n)) (list_all is_plain_byte (47 ∷ decimal d)) (wide_plain n small) (wide_plain d low)
+
+both_plain : (xs ys : List ℕ) → IsPlain xs → IsPlain ys → IsPlain (xs ++ ys)
+both_plain xs ys x y = list_all-append is_plain_byte xs ys ∙ and_from (list_all is_plain_byte xs) (list_all is_plain_byte ys) x y
+
+pub decimals_are_plain : DecimalsArePlain
+decimals_are_plain n h =
+    let whole : n / 1000 < 10 ^ 64 = omega arith in
+    let tenths : n / 100 % 10 < 10 ^ 64 = omega arith in
+    let hundredths : n / 10 % 10 < 10 ^ 64 = omega arith in
+    let thousandths : n % 10 < 10 ^ 64 = omega arith in
+    let a = decimal (n / 100 % 10) in
+    let b = decimal (n / 10 % 10) in
+    let c = decimal (n % 10) in
+    both_plain (decimal (n / 1000) ++ 46 ∷ a ++ b) c
+    (both_plain (decimal (n / 1000) ++ 46 ∷ a) b (both_plain (decimal (n / 1000)) (46 ∷ a) (wide_plain _ whole) (wide_plain _ tenths)) (wide_plain _ hundredths)) (wide_plain _ thousandths)

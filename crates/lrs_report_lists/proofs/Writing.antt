@@ -79,9 +79,16 @@ pub row_parts : (a b c d e f g h i j k : List ℕ)
     → (((a ++ 44 ∷ (b ++ 44 ∷ (c ++ 44 ∷ []))) ++ (d ++ 44 ∷ e)) ++ 44 ∷ (f ++ 44 ∷ (g ++ 44 ∷ (h ++ 44 ∷ [])))) ++ (i ++ 44 ∷ (j ++ 44 ∷ (k ++ 10 ∷ []))) ≡ csv_line (a ∷ b ∷ c ∷ d ∷ e ∷ f ∷ g ∷ h ∷ i ∷ j ∷ k ∷ [])
 row_parts a b c d e f g h i j k = simp append_assoc
 
-pub gone_parts : (a b c d e f g h i : List ℕ)
-    → ((a ++ 44 ∷ (b ++ 44 ∷ (c ++ 44 ∷ []))) ++ (d ++ 44 ∷ (e ++ 44 ∷ []))) ++ (f ++ 44 ∷ (g ++ 44 ∷ (h ++ 44 ∷ (i ++ 10 ∷ [])))) ≡ csv_line (a ∷ b ∷ c ∷ d ∷ e ∷ f ∷ g ∷ h ∷ i ∷ [])
-gone_parts a b c d e f g h i = simp append_assoc
+pub piece_parts : (a b c d e f g : List ℕ) → (a ++ 44 ∷ (b ++ 44 ∷ (c ++ 44 ∷ []))) ++ (d ++ 44 ∷ (e ++ 44 ∷ (f ++ 44 ∷ (g ++ 10 ∷ [])))) ≡ csv_line (a ∷ b ∷ c ∷ d ∷ e ∷ f ∷ g ∷ [])
+piece_parts a b c d e f g = simp append_assoc
+
+pub gone_parts : (a b c d e f g h i j k : List ℕ)
+    → ((((a ++ 44 ∷ []) ++ (b ++ 44 ∷ (c ++ 44 ∷ []))) ++ (d ++ 44 ∷ (e ++ 44 ∷ []))) ++ (f ++ 44 ∷ (g ++ 44 ∷ []))) ++ (h ++ 44 ∷ (i ++ 44 ∷ (j ++ 44 ∷ (k ++ 10 ∷ [])))) ≡ csv_line (a ∷ b ∷ c ∷ d ∷ e ∷ f ∷ g ∷ h ∷ i ∷ j ∷ k ∷ [])
+gone_parts a b c d e f g h i j k = simp append_assoc
+
+pub event_parts : (a b c d e f g h : List ℕ)
+    → (((a ++ 44 ∷ []) ++ (b ++ 44 ∷ (c ++ 44 ∷ []))) ++ (d ++ 44 ∷ [])) ++ (e ++ 44 ∷ (f ++ 44 ∷ (g ++ 44 ∷ (h ++ 10 ∷ [])))) ≡ csv_line (a ∷ b ∷ c ∷ d ∷ e ∷ f ∷ g ∷ h ∷ [])
+event_parts a b c d e f g h = simp append_assoc
 
 -- ---- marks
 

@@ -1,5 +1,8 @@
 pub mod Measures
+pub mod CoursePieces
+pub mod PlacedPieces
 pub mod Lines
+pub mod LinkRows
 pub mod WantedRows
 pub mod Lists
 pub mod Parts

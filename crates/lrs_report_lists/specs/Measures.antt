@@ -2,7 +2,7 @@
 use Rattle.std.specs.Prelude.{ℕ, zero, suc, ◌+◌, ◌-◌, ◌*◌, ◌/◌, ◌%◌, pos, Bool, nat_eq, nat_le, if◌then◌else◌, List, [], ◌∷◌, Option, Some, None}
 use Rattle.std.specs.Option.{option_map, option_map_or}
 use Rattle.lrs_measure.specs.Fraction.{Fraction}
-use Rattle.lrs_measure.specs.FractionTexts.{fraction_text}
+use Rattle.lrs_measure.specs.FractionTexts.{fraction_text, metres_text}
 use Rattle.lrs_element.specs.declared.marks.Mark.{Mark}
 use Rattle.lrs_machine.specs.Lines.{Text}
 
@@ -40,3 +40,19 @@ whole n = record { num = pos n; den = 1 }
 -- as it is printed: n, or n/d where it is not whole; an empty field behind the last mark
 abbrev pub measure_text : List Mark → ℕ → Text
 measure_text marks c = option_map_or fraction_text (measure_on marks c) []
+
+-- n/d in thousandths, a half going up
+abbrev pub thousandths : ℕ → ℕ → ℕ
+thousandths n d = (2000 * n + d) / (2 * d)
+
+-- the measure at the chainage c in thousandths, where that is not behind the last mark
+unfoldable pub decimal_measure : List Mark → ℕ → Option ℕ
+decimal_measure marks c = option_map (λ m. thousandths m.0 m.1) (measure_pair marks c)
+
+-- as it is printed, a decimal with three places; an empty field behind the last mark
+abbrev pub decimal_measure_text : List Mark → ℕ → Text
+decimal_measure_text marks c = option_map_or metres_text (decimal_measure marks c) []
+
+-- a measure as it is asked for
+abbrev pub measure_field : Bool → List Mark → ℕ → Text
+measure_field exact marks c = if exact then measure_text marks c else decimal_measure_text marks c

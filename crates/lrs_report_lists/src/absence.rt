@@ -22,7 +22,8 @@ pub fn lacks_route(kept: &ImageLists, route: Option<RouteName>) -> bool
     }
 }
 
-fn lacks_class(kept: &ImageLists, class: Option<ClassName>) -> bool
+/// Whether a class is named, and there is none of the name.
+pub fn lacks_class(kept: &ImageLists, class: Option<ClassName>) -> bool
     requires sound { IsSound (image_of kept.now) }
     ensures { result ≡ lacks (has_class (image_of kept.now)) class }
 {
@@ -32,7 +33,8 @@ fn lacks_class(kept: &ImageLists, class: Option<ClassName>) -> bool
     }
 }
 
-fn lacks_asset(kept: &ImageLists, asset: Option<u64>) -> bool
+/// Whether an asset is named, and there is none of the number.
+pub fn lacks_asset(kept: &ImageLists, asset: Option<u64>) -> bool
     requires sound { IsSound (image_of kept.now) }
     ensures { result ≡ lacks (has_asset (image_of kept.now)) asset }
 {

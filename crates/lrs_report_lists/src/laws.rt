@@ -1,13 +1,24 @@
-//! Laws of lists: a row of a stretch has a millimetre of it, and no field has to be quoted.
+//! Laws of lists: a row of a stretch has a millimetre of it, a row holds the same on the links under it, and no field has to
+//! be quoted.
 
-ghost use Rattle.lrs_report_lists.specs.Laws.{NoFieldNeedsQuotes, RowsHaveAMillimetre};
+ghost use Rattle.lrs_report_lists.specs.Laws.{NoFieldNeedsQuotes, RowsHaveAMillimetre, RowsHoldTheSameOnLinks, SidesAreSeenAlongLinks};
 
 /// A row passes for a stretch exactly where it has a millimetre at or behind the start, and before the end.
 pub fn rows_have_a_millimetre()
     ensures { RowsHaveAMillimetre }
 {}
 
-/// No name, value, number or measure has a comma, a quotation mark or an end of a line.
+/// What a row has of a piece of its route, on the link, are those millimetres of the piece whose chainages it holds.
+pub fn rows_hold_the_same_on_links()
+    ensures { RowsHoldTheSameOnLinks }
+{}
+
+/// A side of the link is told exactly where the row holds the side of the route that lies there.
+pub fn sides_are_seen_along_links()
+    ensures { SidesAreSeenAlongLinks }
+{}
+
+/// No name, value, key, verb, number or measure has a comma, a quotation mark or an end of a line.
 pub fn no_field_needs_quotes()
     ensures { NoFieldNeedsQuotes }
 {}

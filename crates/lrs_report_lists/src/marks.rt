@@ -2,16 +2,17 @@
 
 ghost use Rattle.std.specs.Prelude.{OnOk};
 ghost use Rattle.std.specs.List.{flat_map};
+ghost use Rattle.std.specs.Option.{option_map};
 ghost use Rattle.std.specs.Io.KnownBytes.{Appends};
 ghost use Rattle.lrs_image.specs.OpenLists.{image_of};
 ghost use Rattle.lrs_report_lists.specs.Lines.{mark_line};
-ghost use Rattle.lrs_report_lists.specs.Lists.{marks_of, marks_text};
+ghost use Rattle.lrs_report_lists.specs.Lists.{marks_text};
 
+use crate::route_lines::{RouteLines, write_route_lines};
 use lrs_element::Mark;
 use lrs_image::ImageLists;
 use lrs_machine::RouteRow;
-use lrs_ordered::Chunked;
-use lrs_position::Route;
+use lrs_position::{Route, RouteName};
 use std::io;
 use std::io::Write;
 
@@ -35,33 +36,33 @@ fn write_marks_on<W: Write>(writer: &mut W, route: &Route, marks: &[Mark]) -> io
     Ok(())
 }
 
-fn write_marks_of<W: Write>(writer: &mut W, route_row: &RouteRow) -> io::Result<()>
-    ensures { OnOk result (Appends (W.contents writer.old) (W.contents writer.new)
-        (marks_of route_row.now)) }
-{
-    let route = &route_row.route;
-    write_marks_on(writer, route, route.marks.list())
-}
+#[derive(Drop)]
+struct MarkLines;
 
-fn write_each_mark<W: Write>(writer: &mut W, routes: &Chunked<RouteRow>) -> io::Result<()>
-    ensures { OnOk result (Appends (W.contents writer.old) (W.contents writer.new)
-        (flat_map marks_of routes.now.rows)) }
-{
-    for route_row in routes.iter() {
-        write_marks_of(writer, route_row)?;
+impl RouteLines for MarkLines {
+    ghost use Rattle.lrs_report_lists.specs.Lists.{marks_of};
+
+    ghost lines = { λ _ e. marks_of e };
+
+    fn write<W: Write>(&self, writer: &mut W, route_row: &RouteRow) -> io::Result<()> {
+        let route = &route_row.route;
+        write_marks_on(writer, route, route.marks.list())
     }
-    Ok(())
 }
 
-/// Writes each mark of each route, by route and then by chainage: `route,chainage,measure`, the chainage in
-/// millimetres. It takes no memory beyond the writer's, and does not flush the writer.
+/// Writes each mark of each route, or of the route of a name, by route and then by chainage: `route,chainage,measure`, the
+/// chainage in millimetres. It takes no memory beyond the writer's, and does not flush the writer.
 ///
 /// # Errors
-/// That of the writer. Part of the list may be written then.
-pub fn write_marks<W: Write>(writer: &mut W, kept: &ImageLists) -> io::Result<()>
+/// That of the writer. Part of the list may be written then. A route that is not known has no marks.
+pub fn write_marks<W: Write>(
+    writer: &mut W,
+    kept: &ImageLists,
+    route: Option<&RouteName>,
+) -> io::Result<()>
     ensures { OnOk result (Appends (W.contents writer.old) (W.contents writer.new)
-        (marks_text (image_of kept.now))) }
+        (marks_text (option_map (λ n. n.now) route.entry) (image_of kept.now))) }
 {
     writer.write_all(b"route,chainage,measure\n")?;
-    write_each_mark(writer, &kept.routes)
+    write_route_lines(writer, &MarkLines, route, &kept.routes)
 }

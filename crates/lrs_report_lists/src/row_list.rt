@@ -7,17 +7,19 @@ ghost use Rattle.std.specs.Io.KnownBytes.{Appends};
 ghost use Rattle.lrs_measure.specs.Lists.{each_two};
 ghost use Rattle.lrs_machine.specs.Sound.{IsSound, asset_before, route_before};
 ghost use Rattle.lrs_image.specs.OpenLists.{image_of};
-ghost use Rattle.lrs_report_lists.specs.Lines.{row_line, row_line_with};
-ghost use Rattle.lrs_report_lists.specs.Lists.{rows_of, rows_text};
-ghost use Rattle.lrs_report_lists.specs.Parts.{asset_part, holder_part, measures_part, place_part, wanted_line};
+ghost use Rattle.lrs_report_lists.specs.Lines.{row_line_with};
+ghost use Rattle.lrs_report_lists.specs.LinkRows.{row_text, row_text_with};
+ghost use Rattle.lrs_report_lists.specs.Lists.{rows_header, rows_of, rows_text};
+ghost use Rattle.lrs_report_lists.specs.Parts.{asset_part, holder_part, measures_part, place_part, wanted_text};
 ghost use Rattle.lrs_report_lists.specs.WantedRows.{is_of_route};
 
 use crate::assets::asset_numbered;
+use crate::link_rows::write_on_links;
 use crate::measures::write_measure;
 use crate::wanted::is_wanted;
 use lrs_events::{Asset, Span};
 use lrs_image::ImageLists;
-use lrs_machine::{RouteRow, RowsWanted};
+use lrs_machine::{RouteRow, RowForm, RowsWanted};
 use lrs_ordered::Chunked;
 use lrs_position::{Route, RouteName};
 use std::io;
@@ -33,13 +35,18 @@ fn write_place<W: Write>(writer: &mut W, route: &RouteName, row: &Span) -> io::R
     write!(writer, ",{from},{to},")
 }
 
-fn write_measures<W: Write>(writer: &mut W, route: &Route, row: &Span) -> io::Result<()>
+fn write_measures<W: Write>(
+    writer: &mut W,
+    route: &Route,
+    row: &Span,
+    exact: bool,
+) -> io::Result<()>
     ensures { OnOk result (Appends (W.contents writer.old) (W.contents writer.new)
-        (measures_part route.now row.now)) }
+        (measures_part exact route.now row.now)) }
 {
-    write_measure(writer, route, row.from)?;
+    write_measure(writer, route, row.from, exact)?;
     writer.write_all(b",")?;
-    write_measure(writer, route, row.to)
+    write_measure(writer, route, row.to, exact)
 }
 
 fn write_holder<W: Write>(writer: &mut W, row: &Span) -> io::Result<()>
@@ -67,36 +74,56 @@ fn write_asset<W: Write>(writer: &mut W, asset: Option<&Asset>) -> io::Result<()
     }
 }
 
-/// Writes the line of a row of a known asset, or of none.
-fn write_row_of<W: Write>(
+/// Writes the line of a row of a known asset, or of none, on its route.
+fn write_on_route<W: Write>(
     writer: &mut W,
+    asset: Option<&Asset>,
+    route: &Route,
+    row: &Span,
+    exact: bool,
+) -> io::Result<()>
+    ensures { OnOk result (Appends (W.contents writer.old) (W.contents writer.new)
+        (row_line_with exact (option_map (λ a. a.now) asset.entry) route.now row.now)) }
+{
+    write_place(writer, &route.name, row)?;
+    write_measures(writer, route, row, exact)?;
+    write_holder(writer, row)?;
+    write_asset(writer, asset)
+}
+
+/// Writes a row of a known asset, or of none, in a form.
+fn write_in_form<W: Write>(
+    writer: &mut W,
+    form: RowForm,
     asset: Option<&Asset>,
     route: &Route,
     row: &Span,
 ) -> io::Result<()>
     ensures { OnOk result (Appends (W.contents writer.old) (W.contents writer.new)
-        (row_line_with (option_map (λ a. a.now) asset.entry) route.now row.now)) }
+        (row_text_with form (option_map (λ a. a.now) asset.entry) route.now row.now)) }
 {
-    write_place(writer, &route.name, row)?;
-    write_measures(writer, route, row)?;
-    write_holder(writer, row)?;
-    write_asset(writer, asset)
+    match form {
+        RowForm::Decimal => write_on_route(writer, asset, route, row, false),
+        RowForm::Exact => write_on_route(writer, asset, route, row, true),
+        RowForm::OnLinks => write_on_links(writer, asset, route, row),
+    }
 }
 
 fn write_row<W: Write>(
     writer: &mut W,
+    form: RowForm,
     assets: &Chunked<Asset>,
     route: &Route,
     row: &Span,
 ) -> io::Result<()>
     requires order { each_two asset_before assets.now.rows ≡ true }
     ensures { OnOk result (Appends (W.contents writer.old) (W.contents writer.new)
-        (row_line assets.now.rows route.now row.now)) }
+        (row_text form assets.now.rows route.now row.now)) }
 {
-    write_row_of(writer, asset_numbered(assets, row.asset), route, row)
+    write_in_form(writer, form, asset_numbered(assets, row.asset), route, row)
 }
 
-/// Writes the line of a row where the row is asked for.
+/// Writes a row where it is asked for.
 fn write_wanted_row<W: Write>(
     writer: &mut W,
     wanted: &RowsWanted,
@@ -106,10 +133,10 @@ fn write_wanted_row<W: Write>(
 ) -> io::Result<()>
     requires order { each_two asset_before assets.now.rows ≡ true }
     ensures { OnOk result (Appends (W.contents writer.old) (W.contents writer.new)
-        (wanted_line wanted.now assets.now.rows route.now row.now)) }
+        (wanted_text wanted.now assets.now.rows route.now row.now)) }
 {
     if is_wanted(wanted, row) {
-        return write_row(writer, assets, route, row);
+        return write_row(writer, wanted.form, assets, route, row);
     }
     Ok(())
 }
@@ -123,7 +150,7 @@ fn write_rows_on<W: Write>(
 ) -> io::Result<()>
     requires order { each_two asset_before assets.now.rows ≡ true }
     ensures { OnOk result (Appends (W.contents writer.old) (W.contents writer.new)
-        (flat_map (wanted_line wanted.now assets.now.rows route.now) rows.now)) }
+        (flat_map (wanted_text wanted.now assets.now.rows route.now) rows.now)) }
 {
     for row in rows {
         write_wanted_row(writer, wanted, assets, route, row)?;
@@ -203,10 +230,32 @@ fn write_asked<W: Write>(
     }
 }
 
-/// Writes each row that is asked for, by route, and then as the route keeps them, by class, asset and start. The header says
-/// what a line has: `route,from,to,from_measure,to_measure,side,asset,class,value,offset,entered_by`. From and to are chainages
-/// in millimetres; a point's `to` is `from + 1`. The measures there are exact. The lateral offset is in millimetres, and
-/// `entered_by` is the number of an edit. It takes no memory beyond the writer's, and does not flush the writer.
+fn write_header<W: Write>(writer: &mut W, form: RowForm) -> io::Result<()>
+    ensures { OnOk result (Appends (W.contents writer.old) (W.contents writer.new)
+        (rows_header form)) }
+{
+    match form {
+        RowForm::Decimal | RowForm::Exact => writer.write_all(
+            b"route,from,to,from_measure,to_measure,side,asset,class,value,offset,entry\n",
+        ),
+        RowForm::OnLinks => {
+            writer.write_all(b"asset,class,value,offset,link,from,to,side,route\n")
+        }
+    }
+}
+
+/// Writes each row that is asked for, by route, and then as the route keeps them, by class, asset and start, in the form that
+/// is asked for. The header says what a line has.
+///
+/// On routes: `route,from,to,from_measure,to_measure,side,asset,class,value,offset,entry`. From and to are chainages in
+/// millimetres; a point's `to` is `from + 1`. The measures there are exact, or decimals of three places, a half going up. The
+/// lateral offset is in millimetres, the side is seen along the route, and `entry` is the number of an edit.
+///
+/// On links: `asset,class,value,offset,link,from,to,side,route`, a line for each piece of the route's course that the row has
+/// a millimetre of, in the order of the route. From and to are millimetres of the link, from below to, and the side is seen
+/// along the link.
+///
+/// It takes no memory beyond the writer's, and does not flush the writer.
 ///
 /// # Errors
 /// That of the writer. Part of the list may be written then. A route, a class or an asset that is not known has no rows.
@@ -219,8 +268,6 @@ pub fn write_rows<W: Write>(
     ensures { OnOk result (Appends (W.contents writer.old) (W.contents writer.new)
         (rows_text wanted.now (image_of kept.now))) }
 {
-    writer.write_all(
-        b"route,from,to,from_measure,to_measure,side,asset,class,value,offset,entered_by\n",
-    )?;
+    write_header(writer, wanted.form)?;
     write_asked(writer, wanted, &kept.assets, &kept.routes)
 }

@@ -4,10 +4,9 @@ pub mod Plain
 pub mod Padding
 pub mod Reading
 pub mod Redoing
-pub mod Pieces
 pub mod Each
 pub mod Tables
-pub mod CoursePieces
 pub mod RouteTexts
 pub mod SetReferents
 pub mod RouteRecords
+pub mod Parts

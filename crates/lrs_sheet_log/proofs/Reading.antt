@@ -20,7 +20,7 @@ use Rattle.lrs_sheet_records.specs.declared.sheet.Sheet.TheVariants.{Edits}
 use Rattle.lrs_sheet_log.proofs.Padding.{record-is}
 use Rattle.lrs_sheet_log.proofs.Plain.{comma-outside, feed-outside, lacks-padded, quote-outside, return-outside}
 use Rattle.lrs_sheet_log.specs.Laws.{IsOfCommand, IsPrintable, LogReadsAsRecords, edit_of}
-use Rattle.lrs_sheet_log.specs.Log.{log_record, log_text, record_text}
+use Rattle.lrs_sheet_log.specs.Log.{edits_text, log_record, record_text}
 
 -- ---- texts that need no quotes
 
@@ -121,7 +121,7 @@ record-lines [] all = tt
 record-lines (e ∷ edits) ((r, printable, is), more) = (subst (λ (d : Edit). IsLine (log_record d)) (sym is) (record-line r printable), record-lines edits more)
 
 -- a log has no byte order mark
-no-mark : (edits : List Edit) → strip_bom (log_text edits) ≡ log_text edits
+no-mark : (edits : List Edit) → strip_bom (edits_text edits) ≡ edits_text edits
 unfolding strip_bom
 no-mark edits = refl
 
@@ -132,6 +132,6 @@ none-left = refl
 pub log_reads_as_records : LogReadsAsRecords
 log_reads_as_records edits all =
     let rows = edit_header ∷ map log_record edits in
-    let same : flat_map record_text rows ≡ strip_bom (log_text edits) = ap (λ (t : Text). record_text edit_header ++ t) (flat_map-map record_text log_record edits) ∙ sym (no-mark edits) in
+    let same : flat_map record_text rows ≡ strip_bom (edits_text edits) = ap (λ (t : Text). record_text edit_header ++ t) (flat_map-map record_text log_record edits) ∙ sym (no-mark edits) in
     let read = lines-read rows (header-line, record-lines edits all) in
     (st.StartRecord, [], subst (λ (t : Text). Reached default_config st.StartRecord t rows st.StartRecord []) same read, none-left)

@@ -24,7 +24,7 @@ use Rattle.lrs_sheet_records.specs.Rows.{AreAll}
 use Rattle.lrs_sheet_log.proofs.Padding.{log_records_say, record-is}
 use Rattle.lrs_sheet_log.proofs.Reading.{log_reads_as_records}
 use Rattle.lrs_sheet_log.specs.Laws.{IsEnteredReferent, IsEnteredRoute, IsOfCommand, IsPrintable, RouteSheetsRead, edit_of}
-use Rattle.lrs_sheet_log.specs.Log.{log_line, log_record, log_text, record_text}
+use Rattle.lrs_sheet_log.specs.Log.{edits_text, log_line, log_record, record_text}
 use Rattle.lrs_sheet_log.specs.RouteSheets.{calibrated, chainage_marks, command_line, laid, laid_with_referents, makes_route, route_sheet, set_on}
 
 -- ---- keys
@@ -136,7 +136,7 @@ pub route_sheets_read : RouteSheetsRead
 route_sheets_read r h =
     let all = all-printable r h in
     let cs = makes_route r in
-    let is : route_sheet r ≡ log_text (map edit_of cs) = ap (λ (t : Text). record_text edit_header ++ t) (same-lines cs all) in
+    let is : route_sheet r ≡ edits_text (map edit_of cs) = ap (λ (t : Text). record_text edit_header ++ t) (same-lines cs all) in
     record {
       log = is;
       read = subst (λ (t : Text). AreAll t (edit_header ∷ map log_record (map edit_of cs))) (sym is) (log_reads_as_records (map edit_of cs) (are-of-commands cs all));

@@ -3,16 +3,17 @@ use Rattle.std.proofs.Common.{◌≡◌, ℕ, suc, zero, ◌+◌, ◌-◌, ◌<�
 use Rattle.std.specs.Prelude.{◌==◌, ◌||◌, OnOk, IfOk, codes, count_by, if◌then◌else◌}
 use Rattle.std.specs.List.{flat_map, join_with_byte, list_any}
 use Rattle.std.specs.Io.KnownBytes.{Appends}
-use Rattle.std.proofs.lemmas.List.{drop-map, drop-replicate}
+use Rattle.std.proofs.lemmas.List.{drop-map, drop-replicate, take-map}
 use Rattle.std.proofs.lemmas.List.Folds.{flat_map-map, list_any_more}
 use Rattle.std.proofs.lemmas.List.Splits.{join_with_byte-slice_split, length-slice_split}
 use Rattle.lrs_measure.specs.Texts.{Name, same_name}
 use Rattle.lrs_machine.specs.Image.{state_of}
 use Rattle.lrs_machine.specs.Lines.{Text, fields}
+use Rattle.lrs_machine.specs.State.{Edit}
 use Rattle.lrs_machine.specs.declared.image.Edit.{Edit as EditRow}
 use Rattle.lrs_machine.specs.declared.image.Image.{Image}
 use Rattle.lrs_sheet_records.specs.Words.{parts_of}
-use Rattle.lrs_sheet_log.specs.Log.{edit_of_row, edits_from, edits_under, log_line, padded, row_line}
+use Rattle.lrs_sheet_log.specs.Log.{edit_of_row, edits_between, edits_under, log_line, padded, row_line, up_to}
 
 -- one write after another
 pub appends-more : (a b c : Option (List ℕ)) (xs ys : List ℕ) → Appends a b xs → Appends b c ys → Appends a c (xs ++ ys)
@@ -80,9 +81,15 @@ pub row-written : (row : EditRow) → row.key ++ 44 ∷ (row.line ++ (replicate 
 row-written row = sym (line-at 11 row.key row.line refl)
 
 -- the lines of rows are those of the edits that they stand for
-pub rows-from : (i : Image) (number : ℕ) → flat_map row_line (drop (number - 1) i.edits) ≡ flat_map log_line (edits_from number (state_of i).done)
+up_to-map : (until : Option ℕ) (rows : List EditRow) → up_to until (map edit_of_row rows) ≡ map edit_of_row (up_to until rows)
+up_to-map None rows = refl
+up_to-map (Some number) rows = take-map edit_of_row number rows
+
+pub rows-between : (i : Image) (from : ℕ) (until : Option ℕ) → flat_map row_line (drop (from - 1) (up_to until i.edits)) ≡ flat_map log_line (edits_between from until (state_of i).done)
 unfolding state_of
-rows-from i number = sym (ap (flat_map log_line) (drop-map edit_of_row (number - 1) i.edits) ∙ flat_map-map log_line edit_of_row (drop (number - 1) i.edits))
+rows-between i from until =
+    let rows = up_to until i.edits in
+    sym (ap (λ (es : List Edit). flat_map log_line (drop (from - 1) es)) (up_to-map until i.edits) ∙ ap (flat_map log_line) (drop-map edit_of_row (from - 1) rows) ∙ flat_map-map log_line edit_of_row (drop (from - 1) rows))
 
 -- the line of a row if it has this key
 abbrev pub line_under : Name → EditRow → Text

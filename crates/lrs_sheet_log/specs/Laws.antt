@@ -1,5 +1,5 @@
 -- The laws of the log: it reads as its records, and each of them says the command of its edit; and the sheet of a route is such a log.
-use Rattle.std.specs.Prelude.{◌≡◌, ℕ, ◌<◌, List, ◌∷◌, Option, Some, IsTrue, length, map}
+use Rattle.std.specs.Prelude.{◌≡◌, ℕ, ◌+◌, ◌<◌, List, ◌∷◌, ◌++◌, Option, Some, None, IsTrue, length, map}
 use Rattle.std.specs.List.{AllByRecursion}
 use Rattle.std.specs.Option.{option_map}
 use Rattle.lrs_measure.specs.Texts.{Name}
@@ -12,16 +12,18 @@ use Rattle.lrs_position.specs.declared.route.Route.{Route}
 use Rattle.lrs_machine.specs.EnteredNumbers.{are_entered_marks, are_entered_pieces, is_chainage}
 use Rattle.lrs_machine.specs.Keys.{is_key}
 use Rattle.lrs_machine.specs.Lines.{line_of}
-use Rattle.lrs_machine.specs.Machine.{Record}
-use Rattle.lrs_machine.specs.State.{Edit}
+use Rattle.lrs_machine.specs.Machine.{Record, state_after}
+use Rattle.lrs_machine.specs.State.{Edit, State}
 use Rattle.lrs_machine.specs.WellFormedCommands.{IsWellFormed}
+use Rattle.lrs_machine.specs.declared.answer.Limits.{Limits}
 use Rattle.lrs_sheet_records.specs.Rows.{AreAll}
 use Rattle.lrs_sheet_records.specs.CanonicalRecords.{IsInLowestTerms}
 use Rattle.lrs_sheet_records.specs.Kinds.{edit_header}
 use Rattle.lrs_sheet_records.specs.Records.{SaysCommand}
 use Rattle.lrs_sheet_records.specs.Verbs.{arguments_of}
-use Rattle.lrs_sheet_log.specs.Log.{log_record, log_text}
-use Rattle.lrs_sheet_log.specs.RouteSheets.{at_chainage, chainage_marks, makes_route, pieces_of, route_sheet}
+use Rattle.lrs_report_lists.specs.CoursePieces.{pieces_of}
+use Rattle.lrs_sheet_log.specs.Log.{edits_between, edits_text, log_record}
+use Rattle.lrs_sheet_log.specs.RouteSheets.{at_chainage, chainage_marks, makes_route, route_sheet}
 
 -- A well formed command under a key; a proportion in it is in lowest terms, as fractions are kept.
 pub record IsPrintable (r : Record) : Type 0 where
@@ -43,7 +45,12 @@ LogRecordsSay = (r : Record) → IsPrintable r → SaysCommand (log_record (edit
 
 -- By the rules of `csv`, the records of a log are the header and the record of each edit.
 abbrev pub LogReadsAsRecords : Type 0
-LogReadsAsRecords = (edits : List Edit) → AllByRecursion IsOfCommand edits → AreAll (log_text edits) (edit_header ∷ map log_record edits)
+LogReadsAsRecords = (edits : List Edit) → AllByRecursion IsOfCommand edits → AreAll (edits_text edits) (edit_header ∷ map log_record edits)
+
+-- Part of a log is the log of an earlier state: edits up to one and those from the next one on are all edits; and up to the last edit of a state they are its own, whatever commands came then.
+pub record LogsHaveParts : Type 0 where
+  pub parts : (edits : List Edit) (number : ℕ) → edits_between 1 (Some number) edits ++ edits_between (number + 1) None edits ≡ edits
+  pub earlier : (limits : Limits) (commands : List Record) (s : State) → edits_between 1 (Some (length s.done)) (state_after limits commands s).done ≡ s.done
 
 -- A course has the pieces of it, and no list of fewer.
 abbrev pub PiecesMakeCourses : Type 0
@@ -68,7 +75,7 @@ pub record IsEnteredRoute (r : Route) : Type 0 where
 
 -- The sheet of a route is the log of the commands that make it: it reads as their records, and each of these says its command, under its key.
 pub record ReadsAsMade (r : Route) : Type 0 where
-  pub log : route_sheet r ≡ log_text (map edit_of (makes_route r))
+  pub log : route_sheet r ≡ edits_text (map edit_of (makes_route r))
   pub read : AreAll (route_sheet r) (edit_header ∷ map log_record (map edit_of (makes_route r)))
   pub said : AllByRecursion (λ c. SaysCommand (log_record (edit_of c)) c.key c.command) (makes_route r)
 

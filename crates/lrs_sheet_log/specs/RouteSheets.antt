@@ -1,13 +1,9 @@
--- A route as an edit sheet: the pieces of its course, the commands that make it, and the text of their records.
-use Rattle.std.specs.Prelude.{ℕ, ◌+◌, pos, if◌then◌else◌, List, [], ◌∷◌, ◌++◌, length, map}
+-- A route as an edit sheet: the commands that make it, and the text of their records.
+use Rattle.std.specs.Prelude.{ℕ, pos, if◌then◌else◌, List, [], ◌∷◌, ◌++◌, length, map}
 use Rattle.std.specs.List.{flat_map}
 use Rattle.lrs_measure.specs.Lists.{is_nothing}
 use Rattle.lrs_measure.specs.Texts.{Name}
-use Rattle.lrs_element.specs.declared.link.Ground.{Ground}
-use Rattle.lrs_element.specs.declared.link.Piece.{Piece}
 use Rattle.lrs_element.specs.declared.marks.Mark.{Mark}
-use Rattle.lrs_element.specs.Course.{continues}
-use Rattle.lrs_element.specs.Pieces.{ground_of}
 use Rattle.lrs_position.specs.declared.expression.Expr.{Expr}
 use Rattle.lrs_position.specs.declared.expression.Expr.TheVariants.{Abs}
 use Rattle.lrs_position.specs.declared.route.Referent.{Referent}
@@ -20,27 +16,8 @@ use Rattle.lrs_sheet_records.specs.CanonicalRecords.{record_of}
 use Rattle.lrs_sheet_records.specs.Kinds.{edit_header, width_of}
 use Rattle.lrs_sheet_records.specs.Verbs.{verb_of}
 use Rattle.lrs_sheet_records.specs.declared.sheet.Sheet.TheVariants.{Edits}
+use Rattle.lrs_report_lists.specs.CoursePieces.{pieces_of}
 use Rattle.lrs_sheet_log.specs.Log.{padded, record_text}
-
--- ---- the pieces of a course
-
--- a millimetre as a piece
-abbrev pub piece_at : Ground → Piece
-piece_at g = record { link = g.link; from = g.mm; to = g.mm + 1; forward = g.forward }
-
--- a piece with the millimetre before it, in the direction in which it is run
-abbrev pub lengthened : Ground → Piece → Piece
-lengthened g p = if g.forward then record { link = g.link; from = g.mm; to = p.to; forward = g.forward } else record { link = g.link; from = p.from; to = g.mm + 1; forward = g.forward }
-
--- pieces with a millimetre before them: the first piece has it too if it goes on from it
-abbrev pub led_by : Ground → List Piece → List Piece
-led_by g [] = piece_at g ∷ []
-led_by g (p ∷ ps) = if continues g (ground_of p 0) then lengthened g p ∷ ps else piece_at g ∷ p ∷ ps
-
--- The pieces of a course.
-abbrev pub pieces_of : List Ground → List Piece
-pieces_of [] = []
-pieces_of (g ∷ rest) = led_by g (pieces_of rest)
 
 -- ---- the commands that make a route
 

@@ -1,7 +1,7 @@
 //! The laws of the log.
 
 ghost use Rattle.lrs_sheet_log.specs.Differences.{TablesMakeImages};
-ghost use Rattle.lrs_sheet_log.specs.Laws.{LogReadsAsRecords, LogRecordsSay, PiecesMakeCourses, ReferentsAreSetExactly, RouteSheetsRead};
+ghost use Rattle.lrs_sheet_log.specs.Laws.{LogReadsAsRecords, LogRecordsSay, LogsHaveParts, PiecesMakeCourses, ReferentsAreSetExactly, RouteSheetsRead};
 ghost use Rattle.lrs_sheet_log.specs.Sums.{SumsFollow};
 
 /// The record of an edit says the command that was accepted, under its key.
@@ -12,6 +12,12 @@ pub fn log_records_say_their_commands()
 /// By the rules of `csv`, the records of a log are the header and the record of each edit.
 pub fn a_log_reads_as_its_records()
     ensures { LogReadsAsRecords }
+{}
+
+/// A log up to an edit and the one from the next edit on are the whole log; and up to the last edit of an earlier state it
+/// is the log of that state.
+pub fn logs_have_parts()
+    ensures { LogsHaveParts }
 {}
 
 /// Images that have the same rows in all tables are the same.

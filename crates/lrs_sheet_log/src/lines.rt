@@ -1,13 +1,14 @@
 //! The log, written without taking memory.
 
-ghost use Rattle.std.specs.Prelude.{◌≡◌, ◌==◌, ◌||◌, ◌-◌, ◌++◌, ◌∷◌, [], OnOk, IfOk, count_by, drop, replicate, if◌then◌else◌};
+ghost use Rattle.std.specs.Prelude.{◌≡◌, ◌==◌, ◌||◌, ◌-◌, ◌++◌, ◌∷◌, [], OnOk, IfOk, count_by, drop, replicate, take, if◌then◌else◌};
 ghost use Rattle.std.specs.List.{flat_map, list_any};
 ghost use Rattle.std.specs.Io.KnownBytes.{Appends};
 ghost use Rattle.lrs_measure.specs.Texts.{same_name};
 ghost use Rattle.lrs_machine.specs.Image.{state_of};
 ghost use Rattle.lrs_image.specs.OpenLists.{image_of};
 ghost use Rattle.lrs_sheet_records.specs.Kinds.{edit_header};
-ghost use Rattle.lrs_sheet_log.specs.Log.{edits_from, edits_under, log_text, record_text, row_line};
+ghost use Rattle.lrs_sheet_log.specs.Log as spec;
+ghost use Rattle.lrs_sheet_log.specs.Log.{edits_text, edits_under, log_text, record_text, row_line};
 
 use lrs_image::ImageLists;
 use lrs_machine::{Edit, Key};
@@ -77,17 +78,40 @@ fn rest_from(edits: &[Edit], number: u64) -> &[Edit]
     &edits[passed as usize..]
 }
 
-/// Writes the edits from a number on as an edit sheet; 0 and 1 both mean all. It takes no memory beyond the writer's,
-/// and does not flush the writer.
+/// The first edits, so many of them, or all.
+pub(crate) fn first_edits(edits: &[Edit], count: u64) -> &[Edit]
+    ensures { result.now ≡ take count edits.now }
+{
+    let count = count.min(edits.len() as u64);
+    &edits[..count as usize]
+}
+
+/// The edits up to this number, or all.
+fn up_to(edits: &[Edit], until: Option<u64>) -> &[Edit]
+    ensures { result.now ≡ spec.up_to until edits.now }
+{
+    match until {
+        Some(number) => first_edits(edits, number),
+        None => edits,
+    }
+}
+
+/// Writes the edits from a number on, and up to another, or to the last one, as an edit sheet; `from` 0 and 1 both mean
+/// from the first. It takes no memory beyond the writer's, and does not flush the writer.
 ///
 /// # Errors
 /// That of the writer. Part of the sheet may be written then.
-pub fn write_log<W: Write>(writer: &mut W, kept: &ImageLists, from: u64) -> io::Result<()>
+pub fn write_log<W: Write>(
+    writer: &mut W,
+    kept: &ImageLists,
+    from: u64,
+    until: Option<u64>,
+) -> io::Result<()>
     ensures { OnOk result (Appends (W.contents writer.old) (W.contents writer.new)
-        (log_text (edits_from from (state_of (image_of kept.now)).done))) }
+        (log_text from until (image_of kept.now))) }
 {
     write_header(writer)?;
-    write_edits(writer, rest_from(&kept.edits, from))
+    write_edits(writer, rest_from(up_to(&kept.edits, until), from))
 }
 
 fn has_key(edit: &Edit, key: &Key) -> bool
@@ -137,7 +161,7 @@ fn write_edits_under<W: Write>(writer: &mut W, edits: &[Edit], key: &Key) -> io:
 /// That of the writer. Part of the sheet may be written then.
 pub fn write_log_of_key<W: Write>(writer: &mut W, kept: &ImageLists, key: &Key) -> io::Result<bool>
     ensures written { OnOk result (Appends (W.contents writer.old) (W.contents writer.new)
-        (log_text (edits_under key.now (state_of (image_of kept.now)).done))) }
+        (edits_text (edits_under key.now (state_of (image_of kept.now)).done))) }
     ensures found { IfOk result (λ found. found ≡ list_any (λ e.
         same_name e.key key.now) (state_of (image_of kept.now)).done) }
 {

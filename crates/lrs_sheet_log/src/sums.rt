@@ -9,7 +9,7 @@ ghost use Rattle.lrs_sheet_log.specs.Log.{edit_of_row};
 ghost use Rattle.lrs_sheet_log.specs.Sums as spec;
 ghost use Rattle.lrs_sheet_log.specs.Sums.{next_sum, no_sum, sum_of};
 
-use crate::lines::empty_fields;
+use crate::lines::{empty_fields, first_edits};
 use itoa::Buffer;
 use lrs_image::ImageLists;
 use lrs_machine::Edit;
@@ -71,14 +71,6 @@ fn sum_of(edits: &[Edit]) -> [u8; 64]
         sum = next_sum(&sum, place as u64 + 1, &edits[place]);
     }
     sum
-}
-
-// The first edits, so many of them, or all.
-fn first_edits(edits: &[Edit], count: u64) -> &[Edit]
-    ensures { result.now ≡ take count edits.now }
-{
-    let count = count.min(edits.len() as u64);
-    &edits[..count as usize]
 }
 
 /// The sum of the first edits of a log, so many of them, or all. It takes no memory.

@@ -1,4 +1,4 @@
--- The lines of answers to the questions of a sheet: fields between commas, the key first. The first line of an answer says how many follow it.
+-- The lines of answers to the questions of a sheet: fields between commas, the key first. Before the lines of a list stands how many they are.
 use Rattle.std.specs.Prelude.{ℕ, Option, List, [], ◌∷◌, ◌++◌, codes, length}
 use Rattle.std.specs.List.{flat_map}
 use Rattle.std.specs.Fmt.{decimal}
@@ -6,6 +6,7 @@ use Rattle.lrs_measure.specs.Fraction.{Fraction}
 use Rattle.lrs_measure.specs.FractionTexts.{fraction_text}
 use Rattle.lrs_measure.specs.Texts.{Name}
 use Rattle.lrs_position.specs.Readings.{expression_text}
+use Rattle.lrs_position.specs.declared.expression.Expr.{Expr}
 use Rattle.lrs_events.specs.Names.{side_text}
 use Rattle.lrs_events.specs.declared.side.Side.{Side}
 use Rattle.lrs_machine.specs.Lines.{Text, fields, method_text}
@@ -14,6 +15,7 @@ use Rattle.lrs_machine.specs.declared.segment.Segment.{Segment}
 use Rattle.lrs_report.specs.Drawings.Strips.{value_text}
 use Rattle.lrs_report_answers.specs.Answers.{direction_text}
 use Rattle.lrs_report_answers.specs.declared.hits.AtAnswer.{AtAnswer}
+use Rattle.lrs_report_answers.specs.declared.places.answer.Whereabouts.{Whereabouts}
 use Rattle.lrs_report_answers.specs.declared.rows.FoundRow.{FoundRow}
 use Rattle.lrs_report_answers.specs.declared.told.Told.{Told}
 use Rattle.lrs_report_answers.specs.declared.told.Told.TheVariants as told
@@ -43,6 +45,15 @@ at_lines key route found = place_line key route found ++ flat_map (hit_line key)
 -- a route, a method or `link`, and the position
 abbrev pub position_line : Text → Name → Text → Text → Text
 position_line key route method position = fields_line (key ∷ codes "position" ∷ route ∷ method ∷ position ∷ [])
+
+-- the same of a position as it is expressed
+abbrev pub expression_line : Text → Name → Expr → Text
+expression_line key route e = position_line key route (method_text e) (expression_text e)
+
+-- what is at a place: the millimetre and who holds it, and then the place by every method
+abbrev pub where_lines : Text → Whereabouts → Text
+where_lines key w =
+    at_lines key w.route w.found ++ fields_line (key ∷ codes "positions" ∷ decimal (length w.positions) ∷ []) ++ flat_map (expression_line key w.route) w.positions
 
 -- a link, and behind a colon the distance from its start
 abbrev pub link_position : ℕ → Fraction → Text
@@ -77,9 +88,10 @@ segment_count _ = 0
 -- What is told to a question of a sheet, under its key; a sheet asks nothing that is told in another way.
 abbrev pub told_lines : Text → Told → Text
 told_lines key (told.At route found) = at_lines key route found
-told_lines key (told.Translated route e) = position_line key route (method_text e) (expression_text e)
+told_lines key (told.Translated route e) = expression_line key route e
 told_lines key (told.OnLink route link distance) = position_line key route (codes "link") (link_position link distance)
 told_lines key (told.Found rows) = found_lines key rows
+told_lines key (told.Where w) = where_lines key w
 told_lines key (told.Segments route side len classes segments) = segments_lines key route side segments
 told_lines key _ = []
 

@@ -6,13 +6,13 @@ ghost use Rattle.std.specs.Fmt.{decimal};
 ghost use Rattle.std.specs.Io.KnownBytes.{Appends};
 ghost use Rattle.lrs_events.specs.Names.{side_text};
 ghost use Rattle.lrs_machine.specs.Lines.{fields, method_text};
-ghost use Rattle.lrs_sheet_questions.specs.Lines.{at_lines, fields_line, found_lines, hit_line, place_line, row_line, segment_count, segment_line, segments_lines, told_lines, value_field};
+ghost use Rattle.lrs_sheet_questions.specs.Lines.{at_lines, expression_line, fields_line, found_lines, hit_line, place_line, row_line, segment_count, segment_line, segments_lines, told_lines, value_field, where_lines};
 
 use lrs_events::{Side, Value};
 use lrs_machine::{Hit, Key, Segment};
 use lrs_measure::Frac;
 use lrs_position::{Expr, RouteName};
-use lrs_report_answers::{AtAnswer, FoundRow, RouteSegments, Told};
+use lrs_report_answers::{AtAnswer, FoundRow, RouteSegments, Told, Whereabouts};
 use std::alloc::AllocError;
 use std::io;
 use std::io::Write;
@@ -97,19 +97,52 @@ fn method_of(expression: &Expr) -> &'static str
     }
 }
 
-fn write_translated<W: Write>(
+fn write_expression<W: Write>(
     writer: &mut W,
     key: Key,
     route: &RouteName,
     expression: &Expr,
 ) -> io::Result<()>
     ensures { OnOk result (Appends (W.contents writer.old) (W.contents writer.new)
-        (told_lines key (Told.Translated route.now expression.now))) }
+        (expression_line key route.now expression.now)) }
 {
     let name = name_of(route);
     let method = method_of(expression);
     let position = *expression;
     writeln!(writer, "{key},position,{name},{method},{position}")
+}
+
+fn write_expressions<W: Write>(
+    writer: &mut W,
+    key: Key,
+    route: &RouteName,
+    expressions: &[Expr],
+) -> io::Result<()>
+    ensures { OnOk result (Appends (W.contents writer.old) (W.contents writer.new)
+        (flat_map (expression_line key route.now) expressions.now)) }
+{
+    for expression in expressions {
+        write_expression(writer, key, route, expression)?;
+    }
+    Ok(())
+}
+
+/// Writes how many positions follow.
+fn write_position_count<W: Write>(writer: &mut W, key: Key, count: usize) -> io::Result<()>
+    ensures { OnOk result (Appends (W.contents writer.old) (W.contents writer.new)
+        (fields_line (key ∷ codes "positions" ∷ decimal count ∷ []))) }
+{
+    writeln!(writer, "{key},positions,{count}")
+}
+
+/// Writes what is at a place: the millimetre and who holds it, and then the place by every method.
+fn write_where<W: Write>(writer: &mut W, key: Key, found: &Whereabouts) -> io::Result<()>
+    ensures { OnOk result (Appends (W.contents writer.old) (W.contents writer.new)
+        (where_lines key found.now)) }
+{
+    write_at(writer, key, &found.route, &found.found)?;
+    write_position_count(writer, key, found.positions.len())?;
+    write_expressions(writer, key, &found.route, found.positions.as_slice())
 }
 
 fn write_on_link<W: Write>(
@@ -260,6 +293,7 @@ pub(crate) fn count_segments(told: &Told<'_>) -> Result<usize, AllocError>
         | Told::Totals(_)
         | Told::Where(_)
         | Told::Lengths(_)
+        | Told::Rows { .. }
         | Told::Listing { .. }
         | Told::Health(_) => Ok(0),
     }
@@ -278,13 +312,14 @@ pub(crate) fn write_told<W: Write>(
 {
     match told {
         Told::At { route, found } => write_at(writer, key, &route, &found),
-        Told::Translated { route, position } => write_translated(writer, key, &route, &position),
+        Told::Translated { route, position } => write_expression(writer, key, &route, &position),
         Told::OnLink {
             route,
             link,
             distance,
         } => write_on_link(writer, key, &route, link, distance),
         Told::Found(rows) => write_found(writer, key, rows.as_slice()),
+        Told::Where(found) => write_where(writer, key, &found),
         Told::Segments {
             route,
             side,
@@ -294,8 +329,8 @@ pub(crate) fn write_told<W: Write>(
         Told::Route(_)
         | Told::Diagram(_)
         | Told::Totals(_)
-        | Told::Where(_)
         | Told::Lengths(_)
+        | Told::Rows { .. }
         | Told::Listing { .. }
         | Told::Health(_) => Ok(()),
     }

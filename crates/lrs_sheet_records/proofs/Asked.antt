@@ -1,7 +1,8 @@
 -- Records that ask questions.
-use Rattle.std.proofs.Common.{Ok, Err, Result, sym, ◌≡◌, ℕ, ◌≤◌, ◌∙◌, List, length, inl, inr, lit<, refl, Some}
-use Rattle.std.specs.Prelude.{Contains, IsTrue}
+use Rattle.std.proofs.Common.{Ok, Err, Result, Bool, true, false, ap, sym, ◌≡◌, ℕ, ◌≤◌, ◌∙◌, List, length, inl, inr, lit<, refl, Some}
+use Rattle.std.specs.Prelude.{◌||◌, Contains, IsTrue}
 use Rattle.lrs_measure.specs.Texts.{Name}
+use Rattle.lrs_position.specs.Names.{is_route_name}
 use Rattle.lrs_machine.specs.Keys.{is_key}
 use Rattle.lrs_machine.specs.Lines.{Text}
 use Rattle.lrs_machine.specs.declared.answer.Field.{Field}
@@ -16,7 +17,7 @@ use Rattle.lrs_sheet_records.specs.declared.fault.ReadFault.TheVariants as fault
 use Rattle.lrs_sheet_records.specs.Fields.{ReadsAsked, ReadsQuestion}
 use Rattle.lrs_sheet_records.specs.Questions.{RefusesQuestion, all_questions, name_of, question_shapes}
 use Rattle.lrs_sheet_records.specs.Records.{place_of, text_at}
-use Rattle.lrs_sheet_records.specs.Shapes.{ClassNames, DestinationName, Fits, IsReachable, destination_text}
+use Rattle.lrs_sheet_records.specs.Shapes.{ClassNames, DestinationName, Fits, IsReachable, LinkOrRoute, Word, destination_text, is_link_word}
 use Rattle.lrs_sheet_records.specs.Words.{AreSaid, IsClassWord, words_of}
 
 -- a fault of the fields after a well formed key
@@ -37,6 +38,7 @@ is-asked asked.At = (0, lit< tt, refl)
 is-asked asked.Translate = (1, lit< tt, refl)
 is-asked asked.Find = (2, lit< tt, refl)
 is-asked asked.Segments = (3, lit< tt, refl)
+is-asked asked.Where = (4, lit< tt, refl)
 
 -- no destination is said where none is found
 pub no-destination-there : (texts : Field → Text) (text : Text) → ((to : Destination) → text ≡ destination_text to → IsReachable to → ⊥) → Fits texts (Some DestinationName) text → ⊥
@@ -45,3 +47,11 @@ no-destination-there texts text none fits = let (to, is, said, named) = destinat
 -- nor classes
 pub no-classes-there : (texts : Field → Text) (text : Text) → ((names : List Name) → AreSaid IsClassWord (words_of text) names → length names ≤ 1_000 → ⊥) → Fits texts (Some ClassNames) text → ⊥
 no-classes-there texts text none fits = let (names, is, said, few) = classes-said texts text fits.0 fits.1 in none names said few
+
+pub or-second : (a b : Bool) → b ≡ true → (a || b) ≡ true
+or-second true b h = refl
+or-second false b h = h
+
+-- `link` stands where a route could
+pub link-fits : (texts : Field → Text) (text : Text) → is_link_word text ≡ true → Fits texts (Some LinkOrRoute) text
+link-fits texts text is = let passes : (is_link_word text || is_route_name text) ≡ true = ap (λ (b : Bool). b || is_route_name text) is in (Word text, (passes, refl))

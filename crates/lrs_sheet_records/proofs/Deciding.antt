@@ -1,5 +1,5 @@
 -- Whether a text is of a shape, and what it then says, as tests that can be computed.
-use Rattle.std.proofs.Common.{◌≡◌, ℕ, zero, suc, ◌<◌, ◌≤◌, Bool, true, false, List, [], ◌∷◌, length, drop, refl, sym, ap, ◌∙◌, arith, inl, inr}
+use Rattle.std.proofs.Common.{◌≡◌, ℕ, zero, suc, ◌<◌, ◌≤◌, Bool, true, false, List, [], ◌∷◌, ◌++◌, length, take, drop, refl, sym, ap, subst, ◌∙◌, arith, inl, inr, append_assoc}
 use Rattle.std.specs.Prelude.{◌%◌, ◌&&◌, ◌||◌, nat_le, nat_eq, codes, map, pos, if◌then◌else◌}
 use Rattle.std.specs.Char.{digit_value}
 use Rattle.std.specs.Int.{IsGcd}
@@ -10,13 +10,14 @@ use Rattle.std.proofs.Math.Dec.{ltb}
 use Rattle.std.proofs.Math.Nat.{mod-lt}
 use Rattle.std.proofs.lemmas.Bool.{false≢true, and_parts, and_from, eqb-true, ltb-true, lt-ltb}
 use Rattle.std.proofs.lemmas.Bool.Decides.{nat_tests}
+use Rattle.std.proofs.lemmas.List.{take-append-drop}
 use Rattle.std.proofs.lemmas.Nat.Gcd.{IsGcd-from_zero, IsGcd-from_mod}
 use Rattle.std.proofs.lemmas.Slice.Eq.{bytes_eq-Decides}
 use Rattle.lrs_measure.specs.Lists.{is_from_to, is_nothing}
 use Rattle.lrs_measure.specs.Texts.{Name}
 use Rattle.lrs_measure.specs.Numerals.{has_sign, numerator_text, denominator_text, signed_value}
 use Rattle.lrs_measure.proofs.Lowest.{reduced, IsQuotient-reduced, IsLowest-reduced}
-use Rattle.lrs_measure.specs.Limits.{longest_link, longest_route, greatest_measure}
+use Rattle.lrs_measure.specs.Limits.{greatest_link, longest_link, longest_route, greatest_measure}
 use Rattle.lrs_element.specs.declared.link.Piece.{Piece}
 use Rattle.lrs_element.specs.declared.marks.Mark.{Mark}
 use Rattle.lrs_position.specs.Expressions.{greatest_denominator}
@@ -33,11 +34,14 @@ use Rattle.lrs_machine.specs.Lines.{Text}
 use Rattle.lrs_machine.specs.declared.answer.Field.{Field}
 use Rattle.lrs_machine.specs.declared.question.Destination.{Destination}
 use Rattle.lrs_machine.specs.declared.question.Destination.TheVariants as destination
-use Rattle.lrs_sheet_records.proofs.OneArgument.{kind_from, kind-back, side_from, side-back, method_from, method-back, destination_from, destination-back}
+use Rattle.lrs_machine.specs.declared.question.Place.{Place}
+use Rattle.lrs_machine.specs.declared.question.Place.TheVariants.{Chainage, Position}
+use Rattle.lrs_machine.specs.PlaceTexts.{SaysPlace}
+use Rattle.lrs_sheet_records.proofs.OneArgument.{kind_from, kind-back, side_from, side-back, method_from, method-back, destination_from, destination-back, no-letters}
 use Rattle.lrs_sheet_records.proofs.PrintedTexts.{below, from-to}
-use Rattle.lrs_sheet_records.proofs.Said.{number-said, class-said, route-said, referent-said, value-said, kind-said, side-said, method-said, position-said, pieces-said, marks-said, classes-said, destination-said, nothing-or-said}
+use Rattle.lrs_sheet_records.proofs.Said.{number-said, class-said, route-said, referent-said, value-said, kind-said, side-said, method-said, position-said, pieces-said, marks-said, classes-said, destination-said, link-or-route-said, place-said, millimetre-said, nothing-or-said}
 use Rattle.lrs_sheet_records.proofs.Wording.{one-mark, one-piece}
-use Rattle.lrs_sheet_records.specs.Shapes.{Argument, Nothing, Number, Word, KindOf, SideOf, MethodOf, At, PiecesOf, MarksOf, ClassesOf, DestinationOf, Shape, Whole, ClassName, RouteName, ReferentName, AssetValue, ClassKind, RouteSide, MethodName, PositionBy, Pieces, Marks, ClassNames, DestinationName, OrNothing, Says, IsReachable, destination_text}
+use Rattle.lrs_sheet_records.specs.Shapes.{Argument, Nothing, Number, Word, KindOf, SideOf, MethodOf, At, PiecesOf, MarksOf, ClassesOf, DestinationOf, PlaceOf, Shape, Whole, ClassName, RouteName, ReferentName, AssetValue, ClassKind, RouteSide, MethodName, PositionBy, Pieces, Marks, ClassNames, DestinationName, LinkOrRoute, LinkOrPlace, MillimetreOrNothing, OrNothing, Says, IsReachable, destination_text, is_link_word}
 use Rattle.lrs_sheet_records.specs.Words.{AreSaid, IsClassWord, IsMarkText, IsPieceText, SaysNumber, most_words, part, parts_of, sign_text, words_of}
 
 -- numbers
@@ -86,7 +90,7 @@ number-is low high text n h =
 
 -- texts
 
-same-text : (a b : Text) → bytes_eq a b ≡ true → a ≡ b
+pub same-text : (a b : Text) → bytes_eq a b ≡ true → a ≡ b
 same-text a b h = (bytes_eq-Decides a b).0 h
 
 text-same : (a b : Text) → a ≡ b → bytes_eq a b ≡ true
@@ -295,6 +299,52 @@ stated-is method.Int text (Int p) h =
     (number-is 1 greatest_denominator (denominator_text text) (digits_value 10 (denominator_text text)) (record { digits = h.fraction.denominator; value = refl; least = omega (arith, some); most = h.fraction.denominator_fits })))
     (at-most (digits_value 10 (numerator_text text)) (digits_value 10 (denominator_text text)) h.at_most_whole)
 
+-- places
+
+-- whether a text begins with the name of a method and a colon
+abbrev pub is_position : Text → Bool
+is_position text = bytes_eq (take 4 text) (method_text (method_from text) ++ 58 ∷ [])
+
+position-text : (text : Text) → is_position text ≡ true → text ≡ method_text (method_from text) ++ 58 ∷ drop 4 text
+position-text text h =
+    sym (take-append-drop 4 text) ∙ ap (λ (t : Text). t ++ drop 4 text) (same-text (take 4 text) (method_text (method_from text) ++ 58 ∷ []) h)
+    ∙ append_assoc (method_text (method_from text)) (58 ∷ []) (drop 4 text)
+
+digits-no-position : (text : Text) → IsNumeral 10 text → is_position text ≡ false
+digits-no-position text h = by (is_position text) refl
+  where
+    by : (b : Bool) → is_position text ≡ b → b ≡ false
+    by true e = absurd (no-letters (method_from text) (drop 4 text) (subst (IsNumeral 10) (position-text text e) h))
+    by false e = refl
+
+abbrev pub is_place : Text → Bool
+is_place text = if is_position text then states (method_from text) (drop 4 text) else is_number 0 longest_route text
+
+abbrev pub place_in : Text → Place
+place_in text = if is_position text then Position (expression_in (method_from text) (drop 4 text)) else Chainage (digits_value 10 text)
+
+place-from : (text : Text) → is_place text ≡ true → SaysPlace text (place_in text)
+place-from text h = elim (is_position text)
+    as (λ t. is_position text ≡ t → (if t then states (method_from text) (drop 4 text) else is_number 0 longest_route text) ≡ true
+    → SaysPlace text (if t then Position (expression_in (method_from text) (drop 4 text)) else Chainage (digits_value 10 text))) [
+      | true ↦ λ e passes. (method_from text, drop 4 text, position-text text e, stated-from (method_from text) (drop 4 text) passes)
+      | false ↦ λ e passes. let said = number-from 0 longest_route text passes in record { digits = said.digits; limit = said.most; value = refl }
+    ] refl h
+
+position-is : (m : Method) (position : Text) (e : Expr) → States m position e → is_place (method_text m ++ 58 ∷ position) ≡ true
+position-is method.Abs position e h = stated-is method.Abs position e h
+position-is method.Rel position e h = stated-is method.Rel position e h
+position-is method.Int position e h = stated-is method.Int position e h
+
+place-is : (text : Text) (p : Place) → SaysPlace text p → is_place text ≡ true
+place-is text (Chainage c) h =
+    rw (digits-no-position text h.digits) (number-is 0 longest_route text (digits_value 10 text) (record { digits = h.digits; value = refl; least = omega arith; most = h.limit }))
+place-is text (Position e) (m, position, is, said) = subst (λ (t : Text). is_place t ≡ true) (sym is) (position-is m position e said)
+
+nothing-from : (text : Text) → is_nothing text ≡ true → text ≡ []
+nothing-from [] h = refl
+nothing-from (c ∷ text) h = absurd (false≢true h)
+
 -- shapes
 
 -- whether a text is of a shape
@@ -312,6 +362,9 @@ fits texts Pieces text = list_all is_piece (words_of text) && are_entered_pieces
 fits texts Marks text = list_all is_mark (words_of text) && are_entered_marks (map mark_in (words_of text))
 fits texts ClassNames text = list_all is_class_name (words_of text) && nat_le (length (map class_in (words_of text))) most_words
 fits texts DestinationName text = bytes_eq text (destination_text (destination_from text)) && is_reachable (destination_from text)
+fits texts LinkOrRoute text = is_link_word text || is_route_name text
+fits texts (LinkOrPlace field) text = if is_link_word (texts field) then is_number 1 greatest_link text else is_place text
+fits texts (MillimetreOrNothing field) text = if is_link_word (texts field) then is_number 0 longest_link text else is_nothing text
 fits texts (OrNothing shape) text = is_nothing text || fits texts shape text
 
 -- what it then says
@@ -329,11 +382,15 @@ argument_in texts Pieces text = PiecesOf (map piece_in (words_of text))
 argument_in texts Marks text = MarksOf (map mark_in (words_of text))
 argument_in texts ClassNames text = ClassesOf (map class_in (words_of text))
 argument_in texts DestinationName text = DestinationOf (destination_from text)
+argument_in texts LinkOrRoute text = Word text
+argument_in texts (LinkOrPlace field) text = if is_link_word (texts field) then Number (digits_value 10 text) else PlaceOf (place_in text)
+argument_in texts (MillimetreOrNothing field) text = if is_link_word (texts field) then Number (digits_value 10 text) else Nothing
 argument_in texts (OrNothing shape) text = if is_nothing text then Nothing else argument_in texts shape text
 
 -- a shape says nothing only by an empty text
 said-nothing : (texts : Field → Text) (shape : Shape) (text : Text) → Says texts shape text Nothing → text ≡ []
 said-nothing texts (OrNothing shape) text h = h
+said-nothing texts (MillimetreOrNothing field) text h = h.1
 said-nothing texts shape text h = absurd h
 
 -- what a shape says may be there
@@ -366,6 +423,17 @@ fits-says texts ClassNames text h =
 fits-says texts DestinationName text h =
     let both = and_parts (bytes_eq text (destination_text (destination_from text))) (is_reachable (destination_from text)) h in
     (same-text text (destination_text (destination_from text)) both.0, reachable-from (destination_from text) both.1)
+fits-says texts LinkOrRoute text h = (h, refl)
+fits-says texts (LinkOrPlace field) text h = elim (is_link_word (texts field))
+    as (λ t. is_link_word (texts field) ≡ t → (if t then is_number 1 greatest_link text else is_place text) ≡ true → Says texts (LinkOrPlace field) text (if t then Number (digits_value 10 text) else PlaceOf (place_in text))) [
+      | true ↦ λ e passes. (e, number-from 1 greatest_link text passes)
+      | false ↦ λ e passes. (e, place-from text passes)
+    ] refl h
+fits-says texts (MillimetreOrNothing field) text h = elim (is_link_word (texts field))
+    as (λ t. is_link_word (texts field) ≡ t → (if t then is_number 0 longest_link text else is_nothing text) ≡ true → Says texts (MillimetreOrNothing field) text (if t then Number (digits_value 10 text) else Nothing)) [
+      | true ↦ λ e passes. (e, number-from 0 longest_link text passes)
+      | false ↦ λ e passes. (e, nothing-from text passes)
+    ] refl h
 fits-says texts (OrNothing shape) [] h = refl
 fits-says texts (OrNothing shape) (c ∷ text) h = said-there texts shape (c ∷ text) (argument_in texts shape (c ∷ text)) (fits-says texts shape (c ∷ text) h)
 
@@ -403,6 +471,15 @@ says-fits texts DestinationName text a h =
     let (to, is, said, named) = destination-said texts text a h in
     let back : destination_from text ≡ to = ap destination_from said ∙ destination-back to in
     and_from (bytes_eq text (destination_text (destination_from text))) (is_reachable (destination_from text)) (rw back (text-same text (destination_text to) said)) (rw back (reachable-is to named))
+says-fits texts LinkOrRoute text a h = (link-or-route-said texts text a h).2
+says-fits texts (LinkOrPlace field) text a h = elim (place-said texts field text a h) [
+  | inl on ↦ rw on.2 (number-is 1 greatest_link text on.0 on.3)
+  | inr on ↦ rw on.2 (place-is text on.0 on.3)
+]
+says-fits texts (MillimetreOrNothing field) text a h = elim (millimetre-said texts field text a h) [
+  | inl on ↦ rw on.2 (number-is 0 longest_link text on.0 on.3)
+  | inr none ↦ rw (none.1, none.2) refl
+]
 says-fits texts (OrNothing shape) [] a h = refl
 says-fits texts (OrNothing shape) (c ∷ text) a h = elim (nothing-or-said texts shape (c ∷ text) a h) [
   | inl none ↦ absurd (full none.1)

@@ -1,5 +1,5 @@
 -- A text of a shape says one argument.
-use Rattle.std.proofs.Common.{◌≡◌, ℕ, ◌+◌, List, [], ◌∷◌, drop, refl, sym, ap, ◌∙◌, inl, inr, arith}
+use Rattle.std.proofs.Common.{◌≡◌, ℕ, ◌+◌, ◌<◌, List, [], ◌∷◌, ◌++◌, drop, refl, sym, ap, subst, ◌∙◌, inl, inr, arith}
 use Rattle.std.specs.Prelude.{codes, if◌then◌else◌}
 use Rattle.std.specs.Str.Parse.{IsNumeral, digits_value}
 use Rattle.std.proofs.lemmas.Bool.{false≢true}
@@ -23,11 +23,14 @@ use Rattle.lrs_machine.specs.Lines.{Text}
 use Rattle.lrs_machine.specs.declared.answer.Field.{Field}
 use Rattle.lrs_machine.specs.declared.question.Destination.{Destination}
 use Rattle.lrs_machine.specs.declared.question.Destination.TheVariants as destination
+use Rattle.lrs_machine.specs.declared.question.Place.{Place}
+use Rattle.lrs_machine.specs.declared.question.Place.TheVariants.{Chainage, Position}
+use Rattle.lrs_machine.specs.PlaceTexts.{SaysPlace}
 use Rattle.lrs_machine.proofs.Joined.{differ, starts_with}
-use Rattle.lrs_sheet_records.proofs.Said.{number-said, class-said, route-said, referent-said, value-said, kind-said, side-said, method-said, position-said, pieces-said, marks-said, classes-said, destination-said, nothing-or-said}
+use Rattle.lrs_sheet_records.proofs.Said.{number-said, class-said, route-said, referent-said, value-said, kind-said, side-said, method-said, position-said, pieces-said, marks-said, classes-said, destination-said, link-or-route-said, place-said, millimetre-said, nothing-or-said}
 use Rattle.lrs_sheet_records.proofs.Wording.{one-mark, one-piece, one-said}
 use Rattle.lrs_sheet_records.specs.Records.{SayAll, text_at, texts_of}
-use Rattle.lrs_sheet_records.specs.Shapes.{Argument, Nothing, Number, Word, KindOf, SideOf, MethodOf, At, PiecesOf, MarksOf, ClassesOf, DestinationOf, Shape, Whole, ClassName, RouteName, ReferentName, AssetValue, ClassKind, RouteSide, MethodName, PositionBy, Pieces, Marks, ClassNames, DestinationName, OrNothing, Says, StatesBy, destination_text}
+use Rattle.lrs_sheet_records.specs.Shapes.{Argument, Nothing, Number, Word, KindOf, SideOf, MethodOf, At, PiecesOf, MarksOf, ClassesOf, DestinationOf, PlaceOf, Shape, Whole, ClassName, RouteName, ReferentName, AssetValue, ClassKind, RouteSide, MethodName, PositionBy, Pieces, Marks, ClassNames, DestinationName, LinkOrRoute, LinkOrPlace, MillimetreOrNothing, OrNothing, Says, StatesBy, destination_text}
 use Rattle.lrs_sheet_records.specs.Words.{AreSaid, IsClassWord, IsMarkText, IsPieceText, words_of}
 
 -- the kind of a text, by its first byte
@@ -165,6 +168,40 @@ no-classes-said : (names : List Name) → AreSaid IsClassWord (words_of []) name
 no-classes-said [] h = h
 no-classes-said (name ∷ names) h = false≢true h.0.0
 
+-- a position behind its method and a colon
+pub method-front : (m : Method) (position : Text) → method_from (method_text m ++ 58 ∷ position) ≡ m
+method-front method.Abs position = refl
+method-front method.Rel position = refl
+method-front method.Int position = refl
+
+position-behind : (m : Method) (position : Text) → drop 4 (method_text m ++ 58 ∷ position) ≡ position
+position-behind method.Abs position = refl
+position-behind method.Rel position = refl
+position-behind method.Int position = refl
+
+-- is no number
+pub no-letters : (m : Method) (position : Text) → IsNumeral 10 (method_text m ++ 58 ∷ position) → ⊥
+no-letters method.Abs position h = let less : 10 < 10 = h.1.0 in omega (arith, less)
+no-letters method.Rel position h = let less : 27 < 10 = h.1.0 in omega (arith, less)
+no-letters method.Int position h = let less : 18 < 10 = h.1.0 in omega (arith, less)
+
+-- a text says one place
+pub one-place : (text : Text) (p q : Place) → SaysPlace text p → SaysPlace text q → p ≡ q
+one-place text (Chainage c) (Chainage d) h g = ap Chainage (h.value ∙ sym g.value)
+one-place text (Chainage c) (Position f) h (m, position, is, said) = absurd (no-letters m position (subst (IsNumeral 10) is h.digits))
+one-place text (Position e) (Chainage d) (m, position, is, said) g = absurd (no-letters m position (subst (IsNumeral 10) is g.digits))
+one-place text (Position e) (Position f) (m, position, is, said) (n, other, is', said') =
+    let same : method_text n ++ 58 ∷ other ≡ method_text m ++ 58 ∷ position = sym is' ∙ is in
+    let by : n ≡ m = sym (method-front n other) ∙ ap method_from same ∙ method-front m position in
+    let at : other ≡ position = sym (position-behind n other) ∙ ap (drop 4) same ∙ position-behind m position in
+    ap Position (one-stated m position e f said (subst (λ (k : Method). States k position f) by (subst (λ (t : Text). States n t f) at said')))
+
+no-place : (p : Place) → SaysPlace [] p → ⊥
+no-place (Chainage c) h = no-digits h.digits
+no-place (Position e) (method.Abs, position, is, said) = cc is
+no-place (Position e) (method.Rel, position, is, said) = cc is
+no-place (Position e) (method.Int, position, is, said) = cc is
+
 -- an empty text says at most that there is nothing
 empty-said : (texts : Field → Text) (shape : Shape) (a : Argument) → Says texts shape [] a → a ≡ Nothing
 empty-said texts (Whole low high) a h = absurd (no-digits (number-said texts low high [] a h).2.digits)
@@ -180,6 +217,15 @@ empty-said texts Pieces a h = let (ps, is, said, entered) = pieces-said texts []
 empty-said texts Marks a h = let (ms, is, said, entered) = marks-said texts [] a h in absurd (no-marks-said ms said)
 empty-said texts ClassNames a h = let (names, is, said, few) = classes-said texts [] a h in absurd (no-classes-said names said)
 empty-said texts DestinationName a h = let (to, is, said, named) = destination-said texts [] a h in absurd (no-destination to said)
+empty-said texts LinkOrRoute a h = absurd (false≢true (link-or-route-said texts [] a h).2)
+empty-said texts (LinkOrPlace field) a h = elim (place-said texts field [] a h) [
+  | inl on ↦ absurd (no-digits on.3.digits)
+  | inr on ↦ absurd (no-place on.0 on.3)
+]
+empty-said texts (MillimetreOrNothing field) a h = elim (millimetre-said texts field [] a h) [
+  | inl on ↦ absurd (no-digits on.3.digits)
+  | inr none ↦ none.0
+]
 empty-said texts (OrNothing shape) a h = elim (nothing-or-said texts shape [] a h) [
   | inl none ↦ none.0
   | inr said ↦ empty-said texts shape a said
@@ -239,6 +285,30 @@ one-argument texts DestinationName text a b h g =
     let (to, is, said, named) = destination-said texts text a h in
     let (other, is', said', named') = destination-said texts text b g in
     is ∙ ap DestinationOf (one-destination text to other said said') ∙ sym is'
+one-argument texts LinkOrRoute text a b h g =
+    let (name, is, test, said) = link-or-route-said texts text a h in
+    let (other, is', test', said') = link-or-route-said texts text b g in
+    is ∙ ap Word (said ∙ sym said') ∙ sym is'
+one-argument texts (LinkOrPlace field) text a b h g = elim (place-said texts field text a h) [
+  | inl one ↦ elim (place-said texts field text b g) [
+    | inl other ↦ one.1 ∙ ap Number (one.3.value ∙ sym other.3.value) ∙ sym other.1
+    | inr other ↦ absurd (false≢true (sym other.2 ∙ one.2))
+  ]
+  | inr one ↦ elim (place-said texts field text b g) [
+    | inl other ↦ absurd (false≢true (sym one.2 ∙ other.2))
+    | inr other ↦ one.1 ∙ ap PlaceOf (one-place text one.0 other.0 one.3 other.3) ∙ sym other.1
+  ]
+]
+one-argument texts (MillimetreOrNothing field) text a b h g = elim (millimetre-said texts field text a h) [
+  | inl one ↦ elim (millimetre-said texts field text b g) [
+    | inl other ↦ one.1 ∙ ap Number (one.3.value ∙ sym other.3.value) ∙ sym other.1
+    | inr other ↦ absurd (false≢true (sym other.1 ∙ one.2))
+  ]
+  | inr one ↦ elim (millimetre-said texts field text b g) [
+    | inl other ↦ absurd (false≢true (sym one.1 ∙ other.2))
+    | inr other ↦ one.0 ∙ sym other.0
+  ]
+]
 one-argument texts (OrNothing shape) text a b h g = elim (nothing-or-said texts shape text a h) [
   | inl none ↦ none.0 ∙ sym (empty-said texts (OrNothing shape) b (rw none.1 at g))
   | inr said ↦ elim (nothing-or-said texts shape text b g) [

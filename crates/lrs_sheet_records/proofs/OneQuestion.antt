@@ -1,28 +1,42 @@
 -- A record of a sheet of questions asks one question under one key, or has one first malformed field.
-use Rattle.std.proofs.Common.{◌≡◌, ◌⊎◌, ℕ, zero, suc, List, [], ◌∷◌, Option, Some, None, refl, sym, ap, subst, ◌∙◌, arith, inl, inr}
-use Rattle.std.specs.Prelude.{Contains, codes, map}
+use Rattle.std.proofs.Common.{◌≡◌, ◌⊎◌, ℕ, zero, suc, Bool, true, false, List, [], ◌∷◌, Option, Some, None, refl, sym, ap, subst, ◌∙◌, arith, inl, inr}
+use Rattle.std.specs.Prelude.{Contains, codes, if◌then◌else◌, map}
 use Rattle.std.specs.Str.Parse.{digits_value}
 use Rattle.lrs_measure.specs.Texts.{same_name}
 use Rattle.lrs_position.specs.declared.expression.Expr.{Expr}
 use Rattle.lrs_machine.specs.Lines.{Text}
+use Rattle.lrs_machine.specs.declared.question.AskedPlace.{AskedPlace}
+use Rattle.lrs_machine.specs.declared.question.AskedPlace.TheVariants.{OnLink, OnRoute}
 use Rattle.lrs_machine.specs.declared.question.Question.{Question}
 use Rattle.lrs_machine.specs.declared.question.Question.TheVariants as question
 use Rattle.lrs_machine.proofs.Joined.{differ}
 use Rattle.lrs_sheet_records.proofs.Complete.{read-method}
-use Rattle.lrs_sheet_records.proofs.Deciding.{class_in, expression_in}
+use Rattle.lrs_sheet_records.proofs.Deciding.{class_in, expression_in, place_in, same-text}
 use Rattle.lrs_sheet_records.proofs.Judging.{among, arguments_in, fitting-say, malformed-by, malformed_by, misfit_in, none-malformed}
 use Rattle.lrs_sheet_records.proofs.Misfits.{not-among}
 use Rattle.lrs_sheet_records.proofs.OneArgument.{destination_from, method_from, one-list, side_from}
 use Rattle.lrs_sheet_records.proofs.OneCommand.{one-place, say-fits}
 use Rattle.lrs_sheet_records.specs.Laws.{QuestionsAreJudged}
-use Rattle.lrs_sheet_records.specs.Questions.{FirstMalformedQuestion, SaysQuestion, all_questions, asked_by, question_of, question_shapes}
+use Rattle.lrs_sheet_records.specs.Questions.{FirstMalformedQuestion, SaysQuestion, all_questions, asked_by, asked_place, question_of, question_shapes}
 use Rattle.lrs_sheet_records.specs.Records.{IsWellFormedBy, SayAll, text_at}
-use Rattle.lrs_sheet_records.specs.Shapes.{At, DestinationOf, MethodOf, Word}
+use Rattle.lrs_sheet_records.specs.Shapes.{At, DestinationOf, MethodOf, Nothing, Number, PlaceOf, Word, is_link_word}
 use Rattle.lrs_sheet_records.specs.Words.{words_of}
 
 -- a sheet asks no question without a name
 pub nameless : Contains all_questions [] → ⊥
-nameless = not-among all_questions [] ((λ e. cc e), ((λ e. cc e), ((λ e. cc e), ((λ e. cc e), tt))))
+nameless = not-among all_questions [] ((λ e. cc e), ((λ e. cc e), ((λ e. cc e), ((λ e. cc e), ((λ e. cc e), tt)))))
+
+places-alike : (p q : AskedPlace) → asked_place p ≡ asked_place q → p ≡ q
+places-alike (OnRoute route place) (OnRoute way there) alike =
+    let road : route ≡ way = cc in
+    let at : place ≡ there = cc in
+    λ i. OnRoute (road i) (at i)
+places-alike (OnLink link mm) (OnLink other along) alike =
+    let number : link ≡ other = cc in
+    let at : mm ≡ along = cc in
+    λ i. OnLink (number i) (at i)
+places-alike (OnRoute route place) (OnLink other along) alike = absurd (cc alike)
+places-alike (OnLink link mm) (OnRoute way there) alike = absurd (cc alike)
 
 -- equal names and arguments come only of equal questions
 questions-alike : (q r : Question) → Contains all_questions (question_of q) → question_of q ≡ question_of r → asked_by q ≡ asked_by r → q ≡ r
@@ -41,15 +55,17 @@ questions-alike (question.Segments route side classes) (question.Segments way ed
     let on : side ≡ edge = cc in
     let by : classes ≡ names = cc in
     λ i. question.Segments (road i) (on i) (by i)
+questions-alike (question.Where place) (question.Where other) known same alike = ap question.Where (places-alike place other alike)
 questions-alike (question.At route e) r known same alike = absurd (differ (same_name (codes "at")) (codes "at") (question_of r) same refl refl)
 questions-alike (question.Translate route e to) r known same alike = absurd (differ (same_name (codes "translate")) (codes "translate") (question_of r) same refl refl)
 questions-alike (question.Find asset) r known same alike = absurd (differ (same_name (codes "find")) (codes "find") (question_of r) same refl refl)
 questions-alike (question.Segments route side classes) r known same alike = absurd (differ (same_name (codes "segments")) (codes "segments") (question_of r) same refl refl)
+questions-alike (question.Where place) r known same alike = absurd (differ (same_name (codes "where")) (codes "where") (question_of r) same refl refl)
 questions-alike (question.Route route) r known same alike = absurd (nameless known)
 questions-alike (question.Diagram route classes from to) r known same alike = absurd (nameless known)
 questions-alike question.Totals r known same alike = absurd (nameless known)
-questions-alike (question.Where spot) r known same alike = absurd (nameless known)
 questions-alike (question.Lengths route) r known same alike = absurd (nameless known)
+questions-alike (question.Rows rows) r known same alike = absurd (nameless known)
 questions-alike (question.List listing) r known same alike = absurd (nameless known)
 questions-alike question.Health r known same alike = absurd (nameless known)
 
@@ -71,6 +87,23 @@ well-formed-asked row key q says (suc (suc i)) = rw says.same_question (say-fits
 abbrev IsRead : List Text → Text → Type 0
 IsRead row name = (q : Question) × (name ≡ question_of q) × (arguments_in row 2 (question_shapes (question_of q)) ≡ asked_by q)
 
+-- what is asked of a place
+read-where : (row : List Text) (name : Text) → name ≡ codes "where" → IsRead row name
+read-where row name is = by (is_link_word (text_at row 2)) refl
+  where
+    by : (t : Bool) → is_link_word (text_at row 2) ≡ t → IsRead row name
+    by true e =
+        let link = same-text (text_at row 2) (codes "link") e in
+        let number = digits_value 10 (text_at row 3) in
+        let mm = digits_value 10 (text_at row 4) in
+        (question.Where (OnLink number mm), is, λ i. Word (link i) ∷ (if e i then Number number else PlaceOf (place_in (text_at row 3))) ∷ (if e i then Number mm else Nothing) ∷ [])
+    by false e =
+        let place = place_in (text_at row 3) in (
+          question.Where (OnRoute (text_at row 2) place),
+          is,
+          λ i. Word (text_at row 2) ∷ (if e i then Number (digits_value 10 (text_at row 3)) else PlaceOf place) ∷ (if e i then Number (digits_value 10 (text_at row 4)) else Nothing) ∷ [],
+        )
+
 -- each name has a question of what its fields say
 read-question : (row : List Text) (name : Text) → Contains all_questions name → IsRead row name
 read-question row name (zero, below, is) =
@@ -83,7 +116,8 @@ read-question row name (suc zero, below, is) =
     (question.Translate (text_at row 2) e (destination_from (text_at row 5)), sym is, λ i. Word (text_at row 2) ∷ MethodOf (by i) ∷ At e ∷ DestinationOf (destination_from (text_at row 5)) ∷ [])
 read-question row name (suc (suc zero), below, is) = (question.Find (digits_value 10 (text_at row 2)), sym is, refl)
 read-question row name (suc (suc (suc zero)), below, is) = (question.Segments (text_at row 2) (side_from (text_at row 3)) (map class_in (words_of (text_at row 4))), sym is, refl)
-read-question row name (suc (suc (suc (suc k))), below, is) = absurd (omega (arith, below))
+read-question row name (suc (suc (suc (suc zero))), below, is) = read-where row name (sym is)
+read-question row name (suc (suc (suc (suc (suc k)))), below, is) = absurd (omega (arith, below))
 
 -- where no field is malformed, a question is asked
 asks : (row : List Text) → malformed_by all_questions question_shapes row ≡ None → (key : Text) × (q : Question) × SaysQuestion row key q

@@ -1,6 +1,7 @@
 -- What the text of each shape says.
 use Rattle.std.proofs.Common.{◌≡◌, ◌⊎◌, ℕ, ◌≤◌, List, [], length, refl, inl, inr}
-use Rattle.std.specs.Prelude.{IsTrue}
+use Rattle.std.specs.Prelude.{IsTrue, ◌||◌, false}
+use Rattle.lrs_measure.specs.Limits.{greatest_link, longest_link}
 use Rattle.lrs_measure.specs.Texts.{Name}
 use Rattle.lrs_element.specs.declared.link.Piece.{Piece}
 use Rattle.lrs_element.specs.declared.marks.Mark.{Mark}
@@ -15,7 +16,9 @@ use Rattle.lrs_machine.specs.EnteredNumbers.{are_entered_pieces, are_entered_mar
 use Rattle.lrs_machine.specs.Lines.{Text}
 use Rattle.lrs_machine.specs.declared.answer.Field.{Field}
 use Rattle.lrs_machine.specs.declared.question.Destination.{Destination}
-use Rattle.lrs_sheet_records.specs.Shapes.{Argument, Nothing, Number, Word, KindOf, SideOf, MethodOf, At, PiecesOf, MarksOf, ClassesOf, DestinationOf, Shape, Whole, ClassName, RouteName, ReferentName, AssetValue, ClassKind, RouteSide, MethodName, PositionBy, Pieces, Marks, ClassNames, DestinationName, OrNothing, Says, StatesBy, IsReachable, destination_text}
+use Rattle.lrs_machine.specs.declared.question.Place.{Place}
+use Rattle.lrs_machine.specs.PlaceTexts.{SaysPlace}
+use Rattle.lrs_sheet_records.specs.Shapes.{Argument, Nothing, Number, Word, KindOf, SideOf, MethodOf, At, PiecesOf, MarksOf, ClassesOf, DestinationOf, PlaceOf, Shape, Whole, ClassName, RouteName, ReferentName, AssetValue, ClassKind, RouteSide, MethodName, PositionBy, Pieces, Marks, ClassNames, DestinationName, LinkOrRoute, LinkOrPlace, MillimetreOrNothing, OrNothing, Says, StatesBy, IsReachable, destination_text, is_link_word}
 use Rattle.lrs_sheet_records.specs.Words.{AreSaid, IsClassWord, IsMarkText, IsPieceText, SaysNumber, most_words, words_of}
 
 -- a number
@@ -82,6 +85,25 @@ classes-said texts text a h = absurd h
 pub destination-said : (texts : Field → Text) (text : Text) (a : Argument) → Says texts DestinationName text a → (to : Destination) × (a ≡ DestinationOf to) × (text ≡ destination_text to) × IsReachable to
 destination-said texts text (DestinationOf to) h = (to, refl, h.0, h.1)
 destination-said texts text a h = absurd h
+
+-- `link`, or the name of a route
+pub link-or-route-said : (texts : Field → Text) (text : Text) (a : Argument) → Says texts LinkOrRoute text a → (word : Text) × (a ≡ Word word) × IsTrue (is_link_word text || is_route_name text) × (word ≡ text)
+link-or-route-said texts text (Word word) h = (word, refl, h.0, h.1)
+link-or-route-said texts text a h = absurd h
+
+-- a place on a link or on a route
+pub place-said : (texts : Field → Text) (field : Field) (text : Text) (a : Argument) → Says texts (LinkOrPlace field) text a
+    → ((link : ℕ) × (a ≡ Number link) × IsTrue (is_link_word (texts field)) × SaysNumber 1 greatest_link text link) ⊎ ((place : Place) × (a ≡ PlaceOf place) × (is_link_word (texts field) ≡ false) × SaysPlace text place)
+place-said texts field text (Number link) h = inl (link, refl, h.0, h.1)
+place-said texts field text (PlaceOf place) h = inr (place, refl, h.0, h.1)
+place-said texts field text a h = absurd h
+
+-- a millimetre, or nothing
+pub millimetre-said : (texts : Field → Text) (field : Field) (text : Text) (a : Argument) → Says texts (MillimetreOrNothing field) text a
+    → ((mm : ℕ) × (a ≡ Number mm) × IsTrue (is_link_word (texts field)) × SaysNumber 0 longest_link text mm) ⊎ ((a ≡ Nothing) × (is_link_word (texts field) ≡ false) × (text ≡ []))
+millimetre-said texts field text (Number mm) h = inl (mm, refl, h.0, h.1)
+millimetre-said texts field text Nothing h = inr (refl, h.0, h.1)
+millimetre-said texts field text a h = absurd h
 
 -- nothing, or what the shape says
 pub nothing-or-said : (texts : Field → Text) (shape : Shape) (text : Text) (a : Argument) → Says texts (OrNothing shape) text a → ((a ≡ Nothing) × (text ≡ [])) ⊎ Says texts shape text a

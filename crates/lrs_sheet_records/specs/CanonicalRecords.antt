@@ -1,14 +1,22 @@
 -- The record that a command is printed as: its verb and the text of each of its arguments, by the table of verbs.
-use Rattle.std.specs.Prelude.{List, [], ◌∷◌, ⊤, map}
+use Rattle.std.specs.Prelude.{List, [], ◌∷◌, ◌++◌, ⊤, map}
 use Rattle.std.specs.Fmt.{decimal}
 use Rattle.lrs_measure.specs.Fraction.{IsLowest}
 use Rattle.lrs_position.specs.Readings.{method_text}
 use Rattle.lrs_position.specs.declared.expression.Expr.TheVariants as expression
 use Rattle.lrs_events.specs.Names.{kind_text, side_text}
+use Rattle.lrs_machine.specs.Lines as line
 use Rattle.lrs_machine.specs.Lines.{Text, fields, words, expression_text, pieces_text, marks_text}
 use Rattle.lrs_machine.specs.declared.command.Command.{Command}
-use Rattle.lrs_sheet_records.specs.Shapes.{Argument, Nothing, Number, Word, KindOf, SideOf, MethodOf, At, PiecesOf, MarksOf, ClassesOf, DestinationOf, destination_text}
+use Rattle.lrs_machine.specs.declared.question.Place.{Place}
+use Rattle.lrs_machine.specs.declared.question.Place.TheVariants.{Chainage, Position}
+use Rattle.lrs_sheet_records.specs.Shapes.{Argument, Nothing, Number, Word, KindOf, SideOf, MethodOf, At, PiecesOf, MarksOf, ClassesOf, DestinationOf, PlaceOf, destination_text}
 use Rattle.lrs_sheet_records.specs.Verbs.{arguments_of, verb_of}
+
+-- a chainage, or a method, a colon and a position by it
+abbrev pub place_text : Place → Text
+place_text (Chainage c) = decimal c
+place_text (Position e) = line.method_text e ++ 58 ∷ expression_text e
 
 -- the text of an argument, which is empty where there is nothing
 abbrev pub argument_text : Argument → Text
@@ -23,6 +31,7 @@ argument_text (PiecesOf pieces) = pieces_text pieces
 argument_text (MarksOf marks) = marks_text marks
 argument_text (ClassesOf names) = words names
 argument_text (DestinationOf to) = destination_text to
+argument_text (PlaceOf place) = place_text place
 
 -- the verb and the texts of its arguments
 abbrev pub command_fields : Command → List Text

@@ -6,13 +6,15 @@ use Rattle.lrs_machine.specs.declared.answer.Field.{Field}
 use Rattle.lrs_machine.specs.declared.answer.Field.TheVariants as field
 use Rattle.lrs_machine.specs.declared.question.Question.{Question}
 use Rattle.lrs_machine.specs.declared.question.Question.TheVariants as question
+use Rattle.lrs_machine.specs.declared.question.AskedPlace.{AskedPlace}
+use Rattle.lrs_machine.specs.declared.question.AskedPlace.TheVariants.{OnLink, OnRoute}
 use Rattle.lrs_sheet_records.specs.declared.question.Asked.{Asked}
 use Rattle.lrs_sheet_records.specs.declared.question.Asked.TheVariants as asked
 use Rattle.lrs_sheet_records.specs.declared.fault.ReadFault.{ReadFault}
 use Rattle.lrs_sheet_records.specs.declared.fault.ReadFault.TheVariants as fault
 use Rattle.lrs_sheet_records.specs.Kinds.{without_mark}
 use Rattle.lrs_sheet_records.specs.Records.{FirstMalformedBy, RunsOutBy, SayAll, place_of, text_at}
-use Rattle.lrs_sheet_records.specs.Shapes.{Argument, Number, Word, SideOf, MethodOf, At, ClassesOf, DestinationOf, Shape, RouteName, RouteSide, MethodName, PositionBy, ClassNames, DestinationName}
+use Rattle.lrs_sheet_records.specs.Shapes.{Argument, Nothing, Number, Word, SideOf, MethodOf, At, ClassesOf, DestinationOf, PlaceOf, Shape, RouteName, RouteSide, MethodName, PositionBy, ClassNames, DestinationName, LinkOrRoute, LinkOrPlace, MillimetreOrNothing}
 use Rattle.lrs_sheet_records.specs.Verbs.{Row, asset_number, method_of, shapes_in}
 
 -- the header of a sheet of questions
@@ -40,6 +42,7 @@ questions =
     ∷ record { name = codes "translate"; shapes = RouteName ∷ MethodName ∷ PositionBy field.B ∷ DestinationName ∷ [] }
     ∷ record { name = codes "find"; shapes = asset_number ∷ [] }
     ∷ record { name = codes "segments"; shapes = RouteName ∷ RouteSide ∷ ClassNames ∷ [] }
+    ∷ record { name = codes "where"; shapes = LinkOrRoute ∷ LinkOrPlace field.A ∷ MillimetreOrNothing field.A ∷ [] }
     ∷ []
 
 abbrev pub all_questions : List Text
@@ -54,6 +57,7 @@ name_of asked.At = codes "at"
 name_of asked.Translate = codes "translate"
 name_of asked.Find = codes "find"
 name_of asked.Segments = codes "segments"
+name_of asked.Where = codes "where"
 
 -- the name of a question; no record asks any other kind
 abbrev pub question_of : Question → Text
@@ -61,7 +65,13 @@ question_of (question.At route e) = codes "at"
 question_of (question.Translate route e to) = codes "translate"
 question_of (question.Find asset) = codes "find"
 question_of (question.Segments route side classes) = codes "segments"
+question_of (question.Where spot) = codes "where"
 question_of _ = []
+
+-- what is asked of a place: a route and a place of it, or `link`, the number of the link and a millimetre of it
+abbrev pub asked_place : AskedPlace → List Argument
+asked_place (OnRoute route place) = Word route ∷ PlaceOf place ∷ Nothing ∷ []
+asked_place (OnLink link mm) = Word (codes "link") ∷ Number link ∷ Number mm ∷ []
 
 -- what it asks, in the order of the fields a, b, ..
 abbrev pub asked_by : Question → List Argument
@@ -69,6 +79,7 @@ asked_by (question.At route e) = Word route ∷ MethodOf (method_of e) ∷ At e 
 asked_by (question.Translate route e to) = Word route ∷ MethodOf (method_of e) ∷ At e ∷ DestinationOf to ∷ []
 asked_by (question.Find asset) = Number asset ∷ []
 asked_by (question.Segments route side classes) = Word route ∷ SideOf side ∷ ClassesOf classes ∷ []
+asked_by (question.Where spot) = asked_place spot
 asked_by _ = []
 
 -- The fields ask this question under this key.

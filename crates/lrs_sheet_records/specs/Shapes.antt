@@ -1,6 +1,8 @@
 -- What one field of a record may say: its shape, and the argument that a text of that shape says.
-use Rattle.std.specs.Prelude.{◌≡◌, ℕ, ◌≤◌, Bool, true, false, List, [], length, slice_get, Option, Some, None, IsTrue, ⊤, codes}
+use Rattle.std.specs.Prelude.{◌≡◌, ◌||◌, ℕ, ◌≤◌, Bool, true, false, List, [], length, slice_get, Option, Some, None, IsTrue, ⊤, codes}
 use Rattle.std.specs.Option.{option_map_or}
+use Rattle.std.specs.Str.{bytes_eq}
+use Rattle.lrs_measure.specs.Limits.{greatest_link, longest_link}
 use Rattle.lrs_measure.specs.Texts.{Name}
 use Rattle.lrs_element.specs.declared.link.Piece.{Piece}
 use Rattle.lrs_element.specs.declared.marks.Mark.{Mark}
@@ -13,9 +15,11 @@ use Rattle.lrs_events.specs.declared.class.Kind.{Kind}
 use Rattle.lrs_events.specs.declared.side.Side.{Side}
 use Rattle.lrs_machine.specs.EnteredNumbers.{are_entered_pieces, are_entered_marks}
 use Rattle.lrs_machine.specs.Lines.{Text}
+use Rattle.lrs_machine.specs.PlaceTexts.{SaysPlace}
 use Rattle.lrs_machine.specs.declared.answer.Field.{Field}
 use Rattle.lrs_machine.specs.declared.question.Destination.{Destination}
 use Rattle.lrs_machine.specs.declared.question.Destination.TheVariants as destination
+use Rattle.lrs_machine.specs.declared.question.Place.{Place}
 use Rattle.lrs_sheet_records.specs.Words.{AreSaid, IsClassWord, IsMarkText, IsPieceText, SaysNumber, most_words, words_of}
 
 -- an argument of a command or of a question, or that there is nothing in its place
@@ -31,8 +35,9 @@ pub data Argument : Type 0 where
   MarksOf : List Mark → Argument
   ClassesOf : List Name → Argument
   DestinationOf : Destination → Argument
+  PlaceOf : Place → Argument
 
--- what a field may say: a number between two bounds, a name of one of the alphabets, one of the words for kinds, sides and methods, a position by the method that another field names, a list, how a position is to be told, or one of these that may be missing
+-- what a field may say: a number between two bounds, a name of one of the alphabets, one of the words for kinds, sides and methods, a position by the method that another field names, a list, how a position is to be told, `link` or a route, behind such a field the number of the link or a place of the route, and the millimetre of the link or nothing; or one of these that may be missing
 pub data Shape : Type 0 where
   Whole : ℕ → ℕ → Shape
   ClassName : Shape
@@ -47,6 +52,9 @@ pub data Shape : Type 0 where
   Marks : Shape
   ClassNames : Shape
   DestinationName : Shape
+  LinkOrRoute : Shape
+  LinkOrPlace : Field → Shape
+  MillimetreOrNothing : Field → Shape
   OrNothing : Shape → Shape
 
 -- whether what a field of the shape says is a list
@@ -75,6 +83,10 @@ abbrev pub IsReachable : Destination → Type 0
 IsReachable (destination.Method target) = IsNamed target
 IsReachable destination.Link = ⊤
 
+-- whether a text is the word `link`
+abbrev pub is_link_word : Text → Bool
+is_link_word text = bytes_eq text (codes "link")
+
 -- The text says this argument, where the record's fields have these texts.
 abbrev pub Says : (Field → Text) → Shape → Text → Argument → Type 0
 Says texts (Whole low high) text (Number n) = SaysNumber low high text n
@@ -90,6 +102,11 @@ Says texts Pieces text (PiecesOf pieces) = AreSaid IsPieceText (words_of text) p
 Says texts Marks text (MarksOf marks) = AreSaid IsMarkText (words_of text) marks × IsTrue (are_entered_marks marks)
 Says texts ClassNames text (ClassesOf names) = AreSaid IsClassWord (words_of text) names × (length names ≤ most_words)
 Says texts DestinationName text (DestinationOf to) = (text ≡ destination_text to) × IsReachable to
+Says texts LinkOrRoute text (Word word) = IsTrue (is_link_word text || is_route_name text) × (word ≡ text)
+Says texts (LinkOrPlace field) text (Number link) = IsTrue (is_link_word (texts field)) × SaysNumber 1 greatest_link text link
+Says texts (LinkOrPlace field) text (PlaceOf place) = (is_link_word (texts field) ≡ false) × SaysPlace text place
+Says texts (MillimetreOrNothing field) text (Number mm) = IsTrue (is_link_word (texts field)) × SaysNumber 0 longest_link text mm
+Says texts (MillimetreOrNothing field) text Nothing = (is_link_word (texts field) ≡ false) × (text ≡ [])
 -- an empty text says that there is nothing
 Says texts (OrNothing shape) text Nothing = text ≡ []
 Says texts (OrNothing shape) text argument = Says texts shape text argument

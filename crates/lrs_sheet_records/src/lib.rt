@@ -14,6 +14,7 @@ mod record;
 pub mod rows;
 mod shape;
 mod sheet;
+mod spot;
 mod verb;
 
 pub use fault::{ReadFault, SheetFault};

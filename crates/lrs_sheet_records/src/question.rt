@@ -1,18 +1,21 @@
 //! A record as a question.
 
-ghost use Rattle.std.specs.Prelude.{◌≡◌, ◌≤◌, Contains, codes, length, IfSome, IfNone, IfOk, IfErr};
+ghost use Rattle.std.specs.Prelude.{◌≡◌, ◌≤◌, Contains, IsTrue, false, codes, length, IfSome, IfNone, IfOk, IfErr};
 ghost use Rattle.csv.specs.Records.{fields_of};
 ghost use Rattle.lrs_sheet_records.specs.Fields.{ReadsAsked, ReadsQuestion};
 ghost use Rattle.lrs_sheet_records.specs.Kinds.{edit_fields};
+ghost use Rattle.lrs_sheet_records.specs.Records as spec;
+ghost use Rattle.lrs_sheet_records.specs.Shapes.{is_link_word};
 ghost use Rattle.lrs_sheet_records.specs.Questions.{RefusesQuestion, SaysQuestion, all_questions, column_text, name_of};
 
 use crate::arguments::nothing_from;
 use crate::fault::ReadFault;
 use crate::place::{asset_at, classes_at, destination_at, method_at, position_at, side_at};
-use crate::shape::route_name_at;
+use crate::shape::{place_of, route_name_at};
 use crate::sheet::{Sheet, SheetRecord, text_at};
+use crate::spot::{is_link_word, link_at, millimetre_at, nothing_at, place_at, route_at};
 use csv::ByteRecord;
-use lrs_machine::{Field, Key, Question};
+use lrs_machine::{AskedPlace, Field, Key, Question};
 use std::alloc::Global;
 
 /// What a record of a sheet of questions asks for.
@@ -22,6 +25,7 @@ enum Asked {
     Translate,
     Find,
     Segments,
+    Where,
 }
 
 /// The name of a field in the header of a sheet of questions, which has the fields up to d.
@@ -93,6 +97,40 @@ fn segments_of(alloc: Global, row: &SheetRecord<'_>) -> Result<Question, ReadFau
     })
 }
 
+fn where_on_link(row: &SheetRecord<'_>) -> Result<Question, ReadFault>
+    requires width { length (edit_fields row.now) ≤ 11 }
+    requires link { IsTrue (is_link_word (spec.text_at (edit_fields row.now) 2)) }
+    ensures { ReadsAsked (edit_fields row.now) (codes "where") result }
+{
+    let link = link_at(row, Field::A, Field::B)?;
+    let mm = millimetre_at(row, Field::A, Field::C)?;
+    nothing_from(row, Field::D)?;
+    Ok(Question::Where(AskedPlace::OnLink { link, mm }))
+}
+
+fn where_on_route(row: &SheetRecord<'_>) -> Result<Question, ReadFault>
+    requires width { length (edit_fields row.now) ≤ 11 }
+    requires route { is_link_word (spec.text_at (edit_fields row.now) 2) ≡ false }
+    ensures { ReadsAsked (edit_fields row.now) (codes "where") result }
+{
+    let route = route_at(row, Field::A)?;
+    let place = place_at(row, Field::A, Field::B)?;
+    nothing_at(row, Field::A, Field::C)?;
+    nothing_from(row, Field::D)?;
+    Ok(Question::Where(AskedPlace::OnRoute { route, place }))
+}
+
+fn where_of(row: &SheetRecord<'_>) -> Result<Question, ReadFault>
+    requires { length (edit_fields row.now) ≤ 11 }
+    ensures { ReadsAsked (edit_fields row.now) (codes "where") result }
+{
+    if is_link_word(text_at(row, place_of(Field::A))) {
+        where_on_link(row)
+    } else {
+        where_on_route(row)
+    }
+}
+
 /// The question of this name.
 fn read_question(name: &[u8]) -> Option<Asked>
     ensures known { IfSome result (λ asked. name.now ≡ name_of asked) }
@@ -103,6 +141,7 @@ fn read_question(name: &[u8]) -> Option<Asked>
         b"translate" => Some(Asked::Translate),
         b"find" => Some(Asked::Find),
         b"segments" => Some(Asked::Segments),
+        b"where" => Some(Asked::Where),
         _ => None,
     }
 }
@@ -117,6 +156,7 @@ fn question_of(alloc: Global, row: &SheetRecord<'_>, asked: Asked) -> Result<Que
         Asked::Translate => translate_of(row),
         Asked::Find => find_of(row),
         Asked::Segments => segments_of(alloc, row),
+        Asked::Where => where_of(row),
     }
 }
 

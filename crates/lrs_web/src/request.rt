@@ -53,9 +53,11 @@ fn sheet_of(resource: Resource) -> Option<Sheet>
         | Resource::Classes
         | Resource::Refs
         | Resource::Marks
+        | Resource::Pieces
         | Resource::Rows
         | Resource::Lengths
         | Resource::Gone
+        | Resource::History
         | Resource::Where
         | Resource::Edits => Some(Sheet::Edits),
     }
@@ -79,9 +81,11 @@ fn needs_commits(resource: Resource) -> bool
         | Resource::Classes
         | Resource::Refs
         | Resource::Marks
+        | Resource::Pieces
         | Resource::Rows
         | Resource::Lengths
         | Resource::Gone
+        | Resource::History
         | Resource::Where
         | Resource::Edits
         | Resource::Surveys

@@ -4,14 +4,15 @@ use Rattle.std.specs.Prelude.{⊤}
 use Rattle.lrs_measure.specs.Texts.{Name}
 use Rattle.lrs_position.specs.declared.expression.Expr.{Expr}
 use Rattle.lrs_events.specs.declared.side.Side.{Side as HandSide}
+use Rattle.lrs_machine.specs.declared.question.Place.{Place}
 use Rattle.lrs_web_requests.specs.declared.paths.Resource.{Resource}
 use Rattle.lrs_web_requests.specs.declared.paths.Resource.TheVariants as path
 use Rattle.lrs_web_replies.specs.declared.question.Parameter.{Parameter}
-use Rattle.lrs_web_replies.specs.declared.question.Parameter.TheVariants.{Route, RouteOrAll, Method, Position, To, Side, Class, ClassOrAll, ClassesOrAll, From, UpTo, Asset, AssetOrAll, FirstEdit, EditOrAll, Chainage, OnLink, Millimetre}
+use Rattle.lrs_web_replies.specs.declared.question.Parameter.TheVariants.{Route, RouteOrAll, Method, Position, To, Side, Class, ClassOrAll, ClassesOrAll, From, UpTo, Asset, AssetOrAll, FirstEdit, EditOrAll, Since, Until, Exact, RowsOnLinks, Chainage, OnLink, Millimetre}
 use Rattle.lrs_web_replies.specs.declared.question.QueryFault.{QueryFault}
 use Rattle.lrs_web_replies.specs.declared.question.QueryFault.TheVariants.{Malformed, NoRoute, Memory}
-use Rattle.lrs_web_replies.specs.Faults.{Lacks, LacksPosition}
-use Rattle.lrs_web_replies.specs.Questions.{Text, CannotAsk, GivesClassOrAll, GivesClassesOrAll, GivesFrom, GivesLink, GivesPosition, GivesRoute, GivesRouteOrAll, GivesSide, GivesUpTo, IsFirstMalformed, IsGiven, is_on_link, parameters_of}
+use Rattle.lrs_web_replies.specs.Faults.{Lacks, LacksForm, LacksPosition}
+use Rattle.lrs_web_replies.specs.Questions.{Text, CannotAsk, GivesAssetOrAll, GivesClassOrAll, GivesClassesOrAll, GivesEditOrAll, GivesFirstEdit, GivesFrom, GivesLink, GivesPosition, GivesRoute, GivesRouteOrAll, GivesSide, GivesSince, GivesUntil, GivesUpTo, IsFirstMalformed, IsGiven, is_on_link, parameters_of}
 
 -- the fault is the first of these, or memory ran out
 abbrev FaultAmong : Text → List Parameter → QueryFault → Type 0
@@ -85,7 +86,7 @@ diagram_classes query e route given lacks = behind_route query e route given (fi
 pub diagram_from : (query : Text) (e : QueryFault) (route : Name) (classes : List Name) → GivesRoute query route → GivesClassesOrAll query classes → Lacks From query e → CannotAsk path.Diagram query e
 diagram_from query e route classes given named lacks = behind_route query e route given (behind_classes query e classes named (first query From (UpTo ∷ []) e lacks))
 
-pub diagram_to : (query : Text) (e : QueryFault) (route : Name) (classes : List Name) (from : Option ℕ) → GivesRoute query route → GivesClassesOrAll query classes → GivesFrom query from → Lacks UpTo query e → CannotAsk path.Diagram query e
+pub diagram_to : (query : Text) (e : QueryFault) (route : Name) (classes : List Name) (from : Option Place) → GivesRoute query route → GivesClassesOrAll query classes → GivesFrom query from → Lacks UpTo query e → CannotAsk path.Diagram query e
 diagram_to query e route classes from given named began lacks =
     behind_route query e route given (behind_classes query e classes named (later query From (UpTo ∷ []) e (from, began) (first query UpTo [] e lacks)))
 
@@ -93,43 +94,113 @@ pub find_asset : (query : Text) (e : QueryFault) → Lacks Asset query e → Can
 find_asset query e lacks = cannot path.Find query e (first query Asset [] e lacks)
 
 pub log_edit : (query : Text) (e : QueryFault) → Lacks FirstEdit query e → CannotAsk path.Log query e
-log_edit query e lacks = cannot path.Log query e (first query FirstEdit [] e lacks)
+log_edit query e lacks = cannot path.Log query e (first query FirstEdit (Until ∷ []) e lacks)
+
+pub log_until : (query : Text) (e : QueryFault) (from : ℕ) → GivesFirstEdit query from → Lacks Until query e → CannotAsk path.Log query e
+log_until query e from begun lacks = cannot path.Log query e (later query FirstEdit (Until ∷ []) e (from, begun) (first query Until [] e lacks))
 
 -- ---- lists
 
+pub refs_route : (query : Text) (e : QueryFault) → Lacks RouteOrAll query e → CannotAsk path.Refs query e
+refs_route query e lacks = cannot path.Refs query e (first query RouteOrAll (Exact ∷ []) e lacks)
+
+pub refs_exact : (query : Text) (e : QueryFault) (route : Option Name) → GivesRouteOrAll query route → Lacks Exact query e → CannotAsk path.Refs query e
+refs_exact query e route given lacks = cannot path.Refs query e (later query RouteOrAll (Exact ∷ []) e (route, given) (first query Exact [] e lacks))
+
+pub marks_route : (query : Text) (e : QueryFault) → Lacks RouteOrAll query e → CannotAsk path.Marks query e
+marks_route query e lacks = cannot path.Marks query e (first query RouteOrAll [] e lacks)
+
+pub pieces_route : (query : Text) (e : QueryFault) → Lacks RouteOrAll query e → CannotAsk path.Pieces query e
+pieces_route query e lacks = cannot path.Pieces query e (first query RouteOrAll [] e lacks)
+
+pub history_asset : (query : Text) (e : QueryFault) → Lacks Asset query e → CannotAsk path.History query e
+history_asset query e lacks = cannot path.History query e (first query Asset [] e lacks)
+
+-- ---- what is gone
+
 pub gone_edit : (query : Text) (e : QueryFault) → Lacks EditOrAll query e → CannotAsk path.Gone query e
-gone_edit query e lacks = cannot path.Gone query e (first query EditOrAll [] e lacks)
+gone_edit query e lacks = cannot path.Gone query e (first query EditOrAll (Since ∷ Until ∷ ClassOrAll ∷ []) e lacks)
+
+-- behind an edit, or none, that is given
+gone_behind_edit : (query : Text) (e : QueryFault) (edit : Option ℕ) → GivesEditOrAll query edit → FaultAmong query (Since ∷ Until ∷ ClassOrAll ∷ []) e → CannotAsk path.Gone query e
+gone_behind_edit query e edit given among = cannot path.Gone query e (later query EditOrAll (Since ∷ Until ∷ ClassOrAll ∷ []) e (edit, given) among)
+
+pub gone_since : (query : Text) (e : QueryFault) (edit : Option ℕ) → GivesEditOrAll query edit → Lacks Since query e → CannotAsk path.Gone query e
+gone_since query e edit given lacks = gone_behind_edit query e edit given (first query Since (Until ∷ ClassOrAll ∷ []) e lacks)
+
+-- behind the first edit, or none, that is given
+gone_behind_since : (query : Text) (e : QueryFault) (edit since : Option ℕ) → GivesEditOrAll query edit → GivesSince query since → FaultAmong query (Until ∷ ClassOrAll ∷ []) e → CannotAsk path.Gone query e
+gone_behind_since query e edit since given begun among = gone_behind_edit query e edit given (later query Since (Until ∷ ClassOrAll ∷ []) e (since, begun) among)
+
+pub gone_until : (query : Text) (e : QueryFault) (edit since : Option ℕ) → GivesEditOrAll query edit → GivesSince query since → Lacks Until query e → CannotAsk path.Gone query e
+gone_until query e edit since given begun lacks = gone_behind_since query e edit since given begun (first query Until (ClassOrAll ∷ []) e lacks)
+
+pub gone_class : (query : Text) (e : QueryFault) (edit since until : Option ℕ) → GivesEditOrAll query edit → GivesSince query since → GivesUntil query until → Lacks ClassOrAll query e → CannotAsk path.Gone query e
+gone_class query e edit since until given begun ended lacks =
+    gone_behind_since query e edit since given begun (later query Until (ClassOrAll ∷ []) e (until, ended) (first query ClassOrAll [] e lacks))
+
+-- ---- rows
+
+-- the parameters of rows from each on, in their order
+abbrev from_form : List Parameter
+from_form = Exact ∷ RowsOnLinks ∷ []
+
+abbrev from_asset : List Parameter
+from_asset = AssetOrAll ∷ from_form
+
+abbrev from_class : List Parameter
+from_class = ClassOrAll ∷ from_asset
+
+abbrev from_end : List Parameter
+from_end = UpTo ∷ from_class
+
+abbrev from_start : List Parameter
+from_start = From ∷ from_end
+
+-- the measures as they are, or the links
+form : (query : Text) (qs : List Parameter) (e : QueryFault) → LacksForm query e → FaultAmong query (Exact ∷ RowsOnLinks ∷ qs) e
+form query qs e (inl lacks) = first query Exact (RowsOnLinks ∷ qs) e lacks
+form query qs e (inr lacks) = later query Exact (RowsOnLinks ∷ qs) e lacks.0 (first query RowsOnLinks qs e lacks.1)
 
 pub rows_route : (query : Text) (e : QueryFault) → Lacks RouteOrAll query e → CannotAsk path.Rows query e
-rows_route query e lacks = cannot path.Rows query e (first query RouteOrAll (From ∷ UpTo ∷ ClassOrAll ∷ AssetOrAll ∷ []) e lacks)
+rows_route query e lacks = cannot path.Rows query e (first query RouteOrAll from_start e lacks)
 
 -- behind a route, or none, that is given
-rows_behind_route : (query : Text) (e : QueryFault) (route : Option Name) → GivesRouteOrAll query route → FaultAmong query (From ∷ UpTo ∷ ClassOrAll ∷ AssetOrAll ∷ []) e → CannotAsk path.Rows query e
-rows_behind_route query e route given among = cannot path.Rows query e (later query RouteOrAll (From ∷ UpTo ∷ ClassOrAll ∷ AssetOrAll ∷ []) e (route, given) among)
+rows_behind_route : (query : Text) (e : QueryFault) (route : Option Name) → GivesRouteOrAll query route → FaultAmong query from_start e → CannotAsk path.Rows query e
+rows_behind_route query e route given among = cannot path.Rows query e (later query RouteOrAll from_start e (route, given) among)
 
 -- behind a start, or none, that is given
-rows_behind_from : (query : Text) (e : QueryFault) (route : Option Name) (from : Option ℕ) → GivesRouteOrAll query route → GivesFrom query from → FaultAmong query (UpTo ∷ ClassOrAll ∷ AssetOrAll ∷ []) e → CannotAsk path.Rows query e
-rows_behind_from query e route from given began among = rows_behind_route query e route given (later query From (UpTo ∷ ClassOrAll ∷ AssetOrAll ∷ []) e (from, began) among)
+rows_behind_from : (query : Text) (e : QueryFault) (route : Option Name) (from : Option Place) → GivesRouteOrAll query route → GivesFrom query from → FaultAmong query from_end e → CannotAsk path.Rows query e
+rows_behind_from query e route from given began among = rows_behind_route query e route given (later query From from_end e (from, began) among)
 
 -- behind an end, or none, that is given
-rows_behind_to : (query : Text) (e : QueryFault) (route : Option Name) (from to : Option ℕ) → GivesRouteOrAll query route → GivesFrom query from → GivesUpTo query to
-    → FaultAmong query (ClassOrAll ∷ AssetOrAll ∷ []) e → CannotAsk path.Rows query e
-rows_behind_to query e route from to given began ended among = rows_behind_from query e route from given began (later query UpTo (ClassOrAll ∷ AssetOrAll ∷ []) e (to, ended) among)
+rows_behind_to : (query : Text) (e : QueryFault) (route : Option Name) (from to : Option Place) → GivesRouteOrAll query route → GivesFrom query from → GivesUpTo query to
+    → FaultAmong query from_class e → CannotAsk path.Rows query e
+rows_behind_to query e route from to given began ended among = rows_behind_from query e route from given began (later query UpTo from_class e (to, ended) among)
+
+-- behind a class, or none, that is given
+rows_behind_class : (query : Text) (e : QueryFault) (route : Option Name) (from to : Option Place) (class : Option Name) → GivesRouteOrAll query route → GivesFrom query from → GivesUpTo query to
+    → GivesClassOrAll query class → FaultAmong query from_asset e → CannotAsk path.Rows query e
+rows_behind_class query e route from to class given began ended named among = rows_behind_to query e route from to given began ended (later query ClassOrAll from_asset e (class, named) among)
 
 pub rows_from : (query : Text) (e : QueryFault) (route : Option Name) → GivesRouteOrAll query route → Lacks From query e → CannotAsk path.Rows query e
-rows_from query e route given lacks = rows_behind_route query e route given (first query From (UpTo ∷ ClassOrAll ∷ AssetOrAll ∷ []) e lacks)
+rows_from query e route given lacks = rows_behind_route query e route given (first query From from_end e lacks)
 
-pub rows_to : (query : Text) (e : QueryFault) (route : Option Name) (from : Option ℕ) → GivesRouteOrAll query route → GivesFrom query from → Lacks UpTo query e → CannotAsk path.Rows query e
-rows_to query e route from given began lacks = rows_behind_from query e route from given began (first query UpTo (ClassOrAll ∷ AssetOrAll ∷ []) e lacks)
+pub rows_to : (query : Text) (e : QueryFault) (route : Option Name) (from : Option Place) → GivesRouteOrAll query route → GivesFrom query from → Lacks UpTo query e → CannotAsk path.Rows query e
+rows_to query e route from given began lacks = rows_behind_from query e route from given began (first query UpTo from_class e lacks)
 
-pub rows_class : (query : Text) (e : QueryFault) (route : Option Name) (from to : Option ℕ) → GivesRouteOrAll query route → GivesFrom query from → GivesUpTo query to
+pub rows_class : (query : Text) (e : QueryFault) (route : Option Name) (from to : Option Place) → GivesRouteOrAll query route → GivesFrom query from → GivesUpTo query to
     → Lacks ClassOrAll query e → CannotAsk path.Rows query e
-rows_class query e route from to given began ended lacks = rows_behind_to query e route from to given began ended (first query ClassOrAll (AssetOrAll ∷ []) e lacks)
+rows_class query e route from to given began ended lacks = rows_behind_to query e route from to given began ended (first query ClassOrAll from_asset e lacks)
 
-pub rows_asset : (query : Text) (e : QueryFault) (route : Option Name) (from to : Option ℕ) (class : Option Name) → GivesRouteOrAll query route → GivesFrom query from → GivesUpTo query to
+pub rows_asset : (query : Text) (e : QueryFault) (route : Option Name) (from to : Option Place) (class : Option Name) → GivesRouteOrAll query route → GivesFrom query from → GivesUpTo query to
     → GivesClassOrAll query class → Lacks AssetOrAll query e → CannotAsk path.Rows query e
-rows_asset query e route from to class given began ended named lacks =
-    rows_behind_to query e route from to given began ended (later query ClassOrAll (AssetOrAll ∷ []) e (class, named) (first query AssetOrAll [] e lacks))
+rows_asset query e route from to class given began ended named lacks = rows_behind_class query e route from to class given began ended named (first query AssetOrAll from_form e lacks)
+
+pub rows_form : (query : Text) (e : QueryFault) (route : Option Name) (from to : Option Place) (class : Option Name) (asset : Option ℕ) → GivesRouteOrAll query route → GivesFrom query from
+    → GivesUpTo query to → GivesClassOrAll query class → GivesAssetOrAll query asset → LacksForm query e → CannotAsk path.Rows query e
+rows_form query e route from to class asset given began ended named numbered lacks =
+    rows_behind_class query e route from to class given began ended named (later query AssetOrAll from_form e (asset, numbered) (form query [] e lacks))
 
 pub lengths_route : (query : Text) (e : QueryFault) → Lacks RouteOrAll query e → CannotAsk path.Lengths query e
 lengths_route query e lacks = cannot path.Lengths query e (first query RouteOrAll [] e lacks)

@@ -8,11 +8,14 @@ use Rattle.lrs_element.specs.declared.link.Piece.{Piece}
 use Rattle.lrs_position.specs.declared.route.Route.{Route}
 use Rattle.lrs_events.specs.declared.class.Asset.{Asset}
 use Rattle.lrs_events.specs.declared.part.Gone.{Gone}
+use Rattle.lrs_events.specs.declared.part.Part.{Part}
 use Rattle.lrs_events.specs.declared.span.Span.{Span}
 use Rattle.lrs_machine.specs.declared.segment.Segment.{Segment}
 use Rattle.lrs_machine.specs.declared.hit.Hit.{Hit}
 use Rattle.lrs_report_answers.specs.declared.places.answer.Whereabouts.{Whereabouts}
-use Rattle.lrs_web_replies.specs.Listings.{gone_data_with, named_list, row_data_with}
+use Rattle.lrs_machine.specs.declared.image.Edit.{Edit}
+use Rattle.lrs_report_lists.specs.declared.link_rows.LinkStretch.{LinkStretch}
+use Rattle.lrs_web_replies.specs.Listings.{event_data_with, gone_data_with, link_row_data, named_list, row_data_with}
 use Rattle.lrs_web_replies.specs.JsonParts.{each}
 use Rattle.lrs_web_replies.specs.Answers.{at_data, hit_data, mark_data, piece_data, referent_data, route_data, ShowsRoute, value_data, segment_data, place_data, whereabouts_data}
 
@@ -68,6 +71,16 @@ pub row_whole : (a : Option Asset) (route : Route) (r : Span) → has_float (row
 row_whole None route r = refl
 row_whole (Some a) route r = refl
 
-pub gone_whole : (a : Option Asset) (g : Gone) → has_float (gone_data_with a g) ≡ false
-gone_whole None g = refl
-gone_whole (Some a) g = refl
+pub link_row_whole : (a : Option Asset) (route : Route) (r : Span) (s : LinkStretch) → has_float (link_row_data a route r s) ≡ false
+link_row_whole None route r s = refl
+link_row_whole (Some a) route r s = refl
+
+pub gone_whole : (e : Option Edit) (a : Option Asset) (g : Gone) → has_float (gone_data_with e a g) ≡ false
+gone_whole None None g = refl
+gone_whole None (Some a) g = refl
+gone_whole (Some e) None g = refl
+gone_whole (Some e) (Some a) g = refl
+
+pub event_whole : (e : Option Edit) (event : List ℕ) (p : Part) → has_float (event_data_with e event p) ≡ false
+event_whole None event p = refl
+event_whole (Some e) event p = refl

@@ -13,11 +13,12 @@ lines_of : (i : Image) (l : Listing) → csv_answer (listing_text i l) ≡ listi
 lines_of i listing.Routes = refl
 lines_of i listing.Links = refl
 lines_of i listing.Classes = refl
-lines_of i listing.Refs = refl
-lines_of i listing.Marks = refl
-lines_of i (listing.Rows wanted) = refl
-lines_of i (listing.Gone edit) = refl
-lines_of i (listing.Log from) = refl
+lines_of i (listing.Refs route exact) = refl
+lines_of i (listing.Marks route) = refl
+lines_of i (listing.Pieces route) = refl
+lines_of i (listing.Gone wanted) = refl
+lines_of i (listing.History asset) = refl
+lines_of i (listing.Log from until) = refl
 lines_of i (listing.LogOfKey key) = refl
 
 -- a reply with the lines of a list is the list as CSV

@@ -3,7 +3,7 @@ use Rattle.std.specs.Prelude.{◌∷◌, ◌++◌, []}
 use Rattle.std.specs.Fmt.{decimal}
 use Rattle.std.specs.Option.{option_map_or}
 use Rattle.serde_json.specs.Data.{Data, Members, null, put, string}
-use Rattle.lrs_measure.specs.FractionTexts.{fraction_text}
+use Rattle.lrs_measure.specs.FractionTexts.{fraction_text, metres_text}
 use Rattle.lrs_position.specs.Readings.{expression_text}
 use Rattle.lrs_events.specs.Names.{kind_text, side_text}
 use Rattle.lrs_web_replies.specs.JsonParts.{whole}
@@ -25,6 +25,8 @@ scalar_data (scalar.Side side) = string (side_text side)
 scalar_data (scalar.Position position) = string (expression_text position)
 scalar_data (scalar.OnLink link distance) = string (decimal link ++ 58 ∷ fraction_text distance)
 scalar_data (scalar.Measure measure) = string (option_map_or fraction_text measure [])
+scalar_data (scalar.Thousandths count) = string (option_map_or metres_text count [])
+scalar_data (scalar.Key key) = string key
 
 -- the members with one more, which stands where its name belongs
 abbrev pub with_member : Members → Member → Members

@@ -7,14 +7,18 @@ use Rattle.lrs_measure.specs.Texts.{Name}
 use Rattle.lrs_position.specs.declared.route.Route.{Route}
 use Rattle.lrs_events.specs.declared.class.Asset.{Asset}
 use Rattle.lrs_events.specs.declared.part.Gone.{Gone}
+use Rattle.lrs_events.specs.declared.part.Part.{Part}
 use Rattle.lrs_events.specs.declared.side.Side.{Side}
 use Rattle.lrs_events.specs.declared.span.Span.{Span}
 use Rattle.lrs_events.specs.Names.{side_text}
+use Rattle.lrs_machine.specs.declared.image.Edit.{Edit}
+use Rattle.lrs_machine.specs.declared.image.Image.{Image}
 use Rattle.lrs_machine.specs.declared.image.RouteRow.{RouteRow}
 use Rattle.lrs_machine.specs.Lines.{Text}
+use Rattle.lrs_machine.specs.declared.question.GoneWanted.{GoneWanted}
 use Rattle.lrs_machine.specs.declared.question.RowsWanted.{RowsWanted}
-use Rattle.lrs_report_lists.specs.WantedRows.{is_of_edit, is_wanted}
-use Rattle.lrs_web_replies.specs.Listings.{gone_data, row_data, rows_of}
+use Rattle.lrs_report_lists.specs.WantedRows.{is_gone_of, is_gone_wanted, is_part_of, is_wanted}
+use Rattle.lrs_web_replies.specs.Listings.{entered_data, gone_data, left_data, row_items, rows_of}
 
 -- an object up to the value of its first member
 abbrev pub front_text : Text → Text
@@ -43,12 +47,19 @@ segments_end side = name_text (codes "side") ++ (compact_text (string (side_text
 
 -- a row, where it is asked for
 abbrev pub row_part : RowsWanted → List Asset → Route → Span → Text
-row_part w assets route r = if is_wanted w r then item_text (row_data assets route r) else []
+row_part w assets route r = if is_wanted w r then flat_map item_text (row_items w.form assets route r) else []
 
 -- the rows of a route that are asked for
 abbrev pub rows_part : RowsWanted → List Asset → RouteRow → Text
 rows_part w assets e = flat_map item_text (rows_of w assets e)
 
 -- a part that is gone, where it is asked for
-abbrev pub gone_part : Option ℕ → List Asset → Gone → Text
-gone_part edit assets g = if is_of_edit edit g then item_text (gone_data assets g) else []
+abbrev pub gone_part : GoneWanted → Image → Gone → Text
+gone_part w i g = if is_gone_wanted w i.assets g then item_text (gone_data i g) else []
+
+-- what became of a part, where the part is of the asset
+abbrev pub entered_part : ℕ → List Edit → Part → Text
+entered_part asset edits p = if is_part_of asset p then item_text (entered_data edits p) else []
+
+abbrev pub left_part : ℕ → List Edit → Gone → Text
+left_part asset edits g = if is_gone_of asset g then item_text (left_data edits g) else []

@@ -3,7 +3,7 @@ use Rattle.std.specs.Prelude.{◌≡◌, ⊤, ◌⊎◌, ℕ, ◌≤◌, IsTrue,
 use Rattle.std.specs.List.{list_all, list_any}
 use Rattle.std.specs.Option.{option_map_or}
 use Rattle.std.specs.Str.Parse.{IsNumeral, digits_value}
-use Rattle.lrs_measure.specs.Limits.{greatest_asset, greatest_link, longest_link, longest_route, most_edits}
+use Rattle.lrs_measure.specs.Limits.{greatest_asset, greatest_link, longest_link, most_edits}
 use Rattle.lrs_measure.specs.Texts.{Name}
 use Rattle.lrs_position.specs.declared.expression.Expr.{Expr}
 use Rattle.lrs_position.specs.declared.expression.Method.{Method}
@@ -11,16 +11,21 @@ use Rattle.lrs_position.specs.Names.{is_route_name}
 use Rattle.lrs_position.specs.Readings.{IsNamed, States, method_text, target_text}
 use Rattle.lrs_events.specs.declared.side.Side.{Side}
 use Rattle.lrs_events.specs.Names.{is_class_name, side_text}
-use Rattle.lrs_machine.specs.declared.question.RowsWanted.{RowsWanted}
+use Rattle.lrs_machine.specs.PlaceTexts.{SaysPlace}
+use Rattle.lrs_machine.specs.declared.question.GoneWanted.{GoneWanted}
+use Rattle.lrs_machine.specs.declared.question.Place.{Place}
+use Rattle.lrs_machine.specs.declared.question.RowForm.{RowForm}
+use Rattle.lrs_machine.specs.declared.question.RowForm.TheVariants as form
+use Rattle.lrs_machine.specs.declared.question.RowsAsked.{RowsAsked}
 use Rattle.lrs_machine.specs.declared.question.AskedPlace.{AskedPlace}
 use Rattle.lrs_machine.specs.declared.question.AskedPlace.TheVariants as spot
-use Rattle.lrs_web_requests.specs.Query.{parameter, parameters, unknown_name}
+use Rattle.lrs_web_requests.specs.Query.{parameter, parameters, switched, unknown_name}
 use Rattle.lrs_web_requests.specs.declared.paths.Resource.{Resource}
 use Rattle.lrs_web_requests.specs.declared.paths.Resource.TheVariants as path
 use Rattle.lrs_machine.specs.declared.question.Destination.{Destination}
 use Rattle.lrs_machine.specs.declared.question.Destination.TheVariants as destination
 use Rattle.lrs_web_replies.specs.declared.question.Parameter.{Parameter}
-use Rattle.lrs_web_replies.specs.declared.question.Parameter.TheVariants.{Route, RouteOrAll, Method as Way, Position, To, Side as Hand, Class, ClassOrAll, ClassesOrAll, From, UpTo, Asset, AssetOrAll, FirstEdit, EditOrAll, Chainage, OnLink, Millimetre}
+use Rattle.lrs_web_replies.specs.declared.question.Parameter.TheVariants.{Route, RouteOrAll, Method as Way, Position, To, Side as Hand, Class, ClassOrAll, ClassesOrAll, From, UpTo, Asset, AssetOrAll, FirstEdit, EditOrAll, Since, Until, Exact, RowsOnLinks, Chainage, OnLink, Millimetre}
 use Rattle.lrs_machine.specs.declared.question.Question.{Question}
 use Rattle.lrs_machine.specs.declared.question.Question.TheVariants as question
 use Rattle.lrs_machine.specs.declared.question.Listing.TheVariants as listing
@@ -58,10 +63,6 @@ pub record SaysNumber (least greatest : ℕ) (text : Text) (number : ℕ) : Type
 
 abbrev pub SaysAsset : Text → ℕ → Type 0
 SaysAsset = SaysNumber 1 greatest_asset
-
--- whole millimetres along a route
-abbrev pub SaysChainage : Text → ℕ → Type 0
-SaysChainage = SaysNumber 0 longest_route
 
 -- the number of a link
 abbrev pub SaysLink : Text → ℕ → Type 0
@@ -121,15 +122,12 @@ SaidIfGiven Says None None = ⊤
 SaidIfGiven Says (Some text) (Some x) = Says text x
 SaidIfGiven Says _ _ = ⊥
 
--- by the parameter of this name
-abbrev pub GivesChainage : Text → Text → Option ℕ → Type 0
-GivesChainage name query = SaidIfGiven SaysChainage (parameter name query)
+-- where a stretch of a route begins, and where it ends
+abbrev pub GivesFrom : Text → Option Place → Type 0
+GivesFrom query = SaidIfGiven SaysPlace (parameter (codes "from") query)
 
-abbrev pub GivesFrom : Text → Option ℕ → Type 0
-GivesFrom = GivesChainage (codes "from")
-
-abbrev pub GivesUpTo : Text → Option ℕ → Type 0
-GivesUpTo = GivesChainage (codes "to")
+abbrev pub GivesUpTo : Text → Option Place → Type 0
+GivesUpTo query = SaidIfGiven SaysPlace (parameter (codes "to") query)
 
 abbrev pub GivesAsset : Text → ℕ → Type 0
 GivesAsset query = Said SaysAsset (parameter (codes "asset") query)
@@ -147,10 +145,40 @@ GivesAssetOrAll query = SaidIfGiven SaysAsset (parameter (codes "asset") query)
 abbrev pub GivesEditOrAll : Text → Option ℕ → Type 0
 GivesEditOrAll query = SaidIfGiven SaysEdit (parameter (codes "edit") query)
 
--- which rows are asked for
-abbrev pub GivesRows : Text → RowsWanted → Type 0
-GivesRows query w =
-    GivesRouteOrAll query w.route × GivesFrom query w.from × GivesUpTo query w.to × GivesClassOrAll query w.class × GivesAssetOrAll query w.asset
+-- the number of the first edit, and of the last, that may have taken parts away; of the log the last one alone
+abbrev pub GivesSince : Text → Option ℕ → Type 0
+GivesSince query = SaidIfGiven SaysEdit (parameter (codes "since") query)
+
+abbrev pub GivesUntil : Text → Option ℕ → Type 0
+GivesUntil query = SaidIfGiven SaysEdit (parameter (codes "until") query)
+
+-- whether measures are told as they are
+abbrev pub GivesExact : Text → Bool → Type 0
+GivesExact query exact = switched (codes "exact") query ≡ Some exact
+
+-- whether rows are told on the links under them
+abbrev pub GivesOnLinks : Text → Bool → Type 0
+GivesOnLinks query on_links = switched (codes "on_links") query ≡ Some on_links
+
+-- how rows are told: in one way alone
+abbrev pub form_by : Bool → Bool → Option RowForm
+form_by false false = Some form.Decimal
+form_by true false = Some form.Exact
+form_by false true = Some form.OnLinks
+form_by true true = None
+
+abbrev pub GivesForm : Text → RowForm → Type 0
+GivesForm query told = (exact : Bool) × (on_links : Bool) × GivesExact query exact × GivesOnLinks query on_links × (form_by exact on_links ≡ Some told)
+
+-- which rows are asked for, and how they are told
+abbrev pub GivesRows : Text → RowsAsked → Type 0
+GivesRows query a =
+    GivesRouteOrAll query a.route × GivesFrom query a.from × GivesUpTo query a.to × GivesClassOrAll query a.class × GivesAssetOrAll query a.asset
+    × GivesForm query a.form
+
+-- which parts that are gone are asked for
+abbrev pub GivesGone : Text → GoneWanted → Type 0
+GivesGone query w = GivesEditOrAll query w.edit × GivesSince query w.since × GivesUntil query w.until × GivesClassOrAll query w.class
 
 -- the text says the number of the edit, and where there is no text it is the first
 abbrev pub SaidOrFirst : Option Text → ℕ → Type 0
@@ -160,8 +188,8 @@ SaidOrFirst (Some text) number = SaysEdit text number
 abbrev pub GivesFirstEdit : Text → ℕ → Type 0
 GivesFirstEdit query = SaidOrFirst (parameter (codes "from") query)
 
-abbrev pub GivesPlaceOnRoute : Text → ℕ → Type 0
-GivesPlaceOnRoute query = Said SaysChainage (parameter (codes "chainage") query)
+abbrev pub GivesPlaceOnRoute : Text → Place → Type 0
+GivesPlaceOnRoute query = Said SaysPlace (parameter (codes "chainage") query)
 
 abbrev pub GivesLink : Text → ℕ → Type 0
 GivesLink query = Said SaysLink (parameter (codes "link") query)
@@ -175,7 +203,7 @@ is_on_link query = option_map_or (λ text. true) (parameter (codes "link") query
 
 abbrev pub GivesSpot : Text → AskedPlace → Type 0
 GivesSpot query (spot.OnLink link mm) = (is_on_link query ≡ true) × GivesLink query link × GivesMillimetre query mm
-GivesSpot query (spot.OnRoute route chainage) = (is_on_link query ≡ false) × GivesRoute query route × GivesPlaceOnRoute query chainage
+GivesSpot query (spot.OnRoute route place) = (is_on_link query ≡ false) × GivesRoute query route × GivesPlaceOnRoute query place
 
 -- ---- what is asked
 
@@ -191,7 +219,7 @@ AsksOf path.Translate query q =
     × (q ≡ question.Translate route e to)
 AsksOf path.Totals query q = q ≡ question.Totals
 AsksOf path.Diagram query q =
-    (route : Name) × (classes : List Name) × (from : Option ℕ) × (to : Option ℕ) × GivesRoute query route × GivesClassesOrAll query classes
+    (route : Name) × (classes : List Name) × (from : Option Place) × (to : Option Place) × GivesRoute query route × GivesClassesOrAll query classes
     × GivesFrom query from × GivesUpTo query to × (q ≡ question.Diagram route classes from to)
 AsksOf path.Find query q = (asset : ℕ) × GivesAsset query asset × (q ≡ question.Find asset)
 AsksOf path.Where query q = (s : AskedPlace) × GivesSpot query s × (q ≡ question.Where s)
@@ -199,11 +227,13 @@ AsksOf path.Lengths query q = (route : Option Name) × GivesRouteOrAll query rou
 AsksOf path.Routes query q = q ≡ question.List listing.Routes
 AsksOf path.Links query q = q ≡ question.List listing.Links
 AsksOf path.Classes query q = q ≡ question.List listing.Classes
-AsksOf path.Refs query q = q ≡ question.List listing.Refs
-AsksOf path.Marks query q = q ≡ question.List listing.Marks
-AsksOf path.Rows query q = (wanted : RowsWanted) × GivesRows query wanted × (q ≡ question.List (listing.Rows wanted))
-AsksOf path.Gone query q = (edit : Option ℕ) × GivesEditOrAll query edit × (q ≡ question.List (listing.Gone edit))
-AsksOf path.Log query q = (from : ℕ) × GivesFirstEdit query from × (q ≡ question.List (listing.Log from))
+AsksOf path.Refs query q = (route : Option Name) × (exact : Bool) × GivesRouteOrAll query route × GivesExact query exact × (q ≡ question.List (listing.Refs route exact))
+AsksOf path.Marks query q = (route : Option Name) × GivesRouteOrAll query route × (q ≡ question.List (listing.Marks route))
+AsksOf path.Pieces query q = (route : Option Name) × GivesRouteOrAll query route × (q ≡ question.List (listing.Pieces route))
+AsksOf path.Rows query q = (asked : RowsAsked) × GivesRows query asked × (q ≡ question.Rows asked)
+AsksOf path.Gone query q = (wanted : GoneWanted) × GivesGone query wanted × (q ≡ question.List (listing.Gone wanted))
+AsksOf path.History query q = (asset : ℕ) × GivesAsset query asset × (q ≡ question.List (listing.History asset))
+AsksOf path.Log query q = (from : ℕ) × (until : Option ℕ) × GivesFirstEdit query from × GivesUntil query until × (q ≡ question.List (listing.Log from until))
 AsksOf path.Health query q = q ≡ question.Health
 AsksOf _ argument q = ⊥
 
@@ -216,10 +246,14 @@ parameters_of path.Segments query = Route ∷ Hand ∷ Class ∷ []
 parameters_of path.Translate query = Route ∷ Way ∷ Position ∷ To ∷ []
 parameters_of path.Diagram query = Route ∷ ClassesOrAll ∷ From ∷ UpTo ∷ []
 parameters_of path.Find query = Asset ∷ []
-parameters_of path.Log query = FirstEdit ∷ []
-parameters_of path.Rows query = RouteOrAll ∷ From ∷ UpTo ∷ ClassOrAll ∷ AssetOrAll ∷ []
+parameters_of path.Log query = FirstEdit ∷ Until ∷ []
+parameters_of path.Refs query = RouteOrAll ∷ Exact ∷ []
+parameters_of path.Marks query = RouteOrAll ∷ []
+parameters_of path.Pieces query = RouteOrAll ∷ []
+parameters_of path.Rows query = RouteOrAll ∷ From ∷ UpTo ∷ ClassOrAll ∷ AssetOrAll ∷ Exact ∷ RowsOnLinks ∷ []
 parameters_of path.Lengths query = RouteOrAll ∷ []
-parameters_of path.Gone query = EditOrAll ∷ []
+parameters_of path.Gone query = EditOrAll ∷ Since ∷ Until ∷ ClassOrAll ∷ []
+parameters_of path.History query = Asset ∷ []
 parameters_of path.Where query = if is_on_link query then OnLink ∷ Millimetre ∷ [] else Route ∷ Chainage ∷ []
 parameters_of _ query = []
 
@@ -239,11 +273,15 @@ parameter_text Asset = codes "asset"
 parameter_text AssetOrAll = codes "asset"
 parameter_text FirstEdit = codes "from"
 parameter_text EditOrAll = codes "edit"
+parameter_text Since = codes "since"
+parameter_text Until = codes "until"
+parameter_text Exact = codes "exact"
+parameter_text RowsOnLinks = codes "on_links"
 parameter_text Chainage = codes "chainage"
 parameter_text OnLink = codes "link"
 parameter_text Millimetre = codes "mm"
 
--- the parameter is there, or may be left out, and can be read
+-- the parameter is there, or may be left out, and can be read; rows that are told on links are not told with measures
 abbrev pub IsGiven : Text → Parameter → Type 0
 IsGiven query Route = (route : Name) × GivesRoute query route
 IsGiven query RouteOrAll = (route : Option Name) × GivesRouteOrAll query route
@@ -254,13 +292,17 @@ IsGiven query Hand = (side : Side) × GivesSide query side
 IsGiven query Class = (classes : List Name) × GivesClasses query classes
 IsGiven query ClassOrAll = (class : Option Name) × GivesClassOrAll query class
 IsGiven query ClassesOrAll = (classes : List Name) × GivesClassesOrAll query classes
-IsGiven query From = (from : Option ℕ) × GivesFrom query from
-IsGiven query UpTo = (to : Option ℕ) × GivesUpTo query to
+IsGiven query From = (from : Option Place) × GivesFrom query from
+IsGiven query UpTo = (to : Option Place) × GivesUpTo query to
 IsGiven query Asset = (asset : ℕ) × GivesAsset query asset
 IsGiven query AssetOrAll = (asset : Option ℕ) × GivesAssetOrAll query asset
 IsGiven query FirstEdit = (from : ℕ) × GivesFirstEdit query from
 IsGiven query EditOrAll = (edit : Option ℕ) × GivesEditOrAll query edit
-IsGiven query Chainage = (chainage : ℕ) × GivesPlaceOnRoute query chainage
+IsGiven query Since = (since : Option ℕ) × GivesSince query since
+IsGiven query Until = (until : Option ℕ) × GivesUntil query until
+IsGiven query Exact = (exact : Bool) × GivesExact query exact
+IsGiven query RowsOnLinks = (told : RowForm) × GivesForm query told
+IsGiven query Chainage = (place : Place) × GivesPlaceOnRoute query place
 IsGiven query OnLink = (link : ℕ) × GivesLink query link
 IsGiven query Millimetre = (mm : ℕ) × GivesMillimetre query mm
 

@@ -4,6 +4,7 @@
 mod answers;
 mod bounded;
 mod entries;
+mod ledgers;
 mod lines;
 mod list;
 mod list_parameters;
@@ -15,6 +16,7 @@ mod parts;
 mod question;
 mod replies;
 mod reply;
+mod row_lists;
 mod unknown_parameters;
 
 pub use bounded::BoundedBytes;

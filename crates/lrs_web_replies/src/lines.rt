@@ -5,6 +5,7 @@ ghost use Rattle.std.specs.Io.KnownBytes.{Appends};
 ghost use Rattle.lrs_machine.specs.Sound.{IsSound};
 ghost use Rattle.lrs_image.specs.OpenLists.{image_of};
 ghost use Rattle.lrs_report_lists.specs.Length.Lines.{lengths_text};
+ghost use Rattle.lrs_report_lists.specs.Lists.{rows_text};
 ghost use Rattle.lrs_web_requests.specs.Text.{answer_of};
 ghost use Rattle.lrs_web_requests.specs.declared.paths.Format.TheVariants.{Csv};
 ghost use Rattle.lrs_web_replies.specs.Listings.{listing_answer, listing_text};
@@ -12,10 +13,10 @@ ghost use Rattle.lrs_web_replies.specs.Listings.{listing_answer, listing_text};
 use crate::bounded::BoundedBytes;
 use crate::reply::csv_reply;
 use lrs_image::ImageLists;
-use lrs_machine::Listing;
+use lrs_machine::{Listing, RowsWanted};
 use lrs_report_lists::{
-    ValueLength, write_classes, write_gone, write_lengths, write_links, write_marks, write_refs,
-    write_routes, write_rows,
+    ValueLength, write_classes, write_gone, write_history, write_lengths, write_links, write_marks,
+    write_pieces, write_refs, write_routes, write_rows,
 };
 use lrs_sheet_log::{write_log, write_log_of_key};
 use lrs_web_requests::Response;
@@ -32,11 +33,12 @@ fn write_listing<W: Write>(writer: &mut W, kept: &ImageLists, listing: &Listing)
         Listing::Routes => write_routes(writer, kept),
         Listing::Links => write_links(writer, kept),
         Listing::Classes => write_classes(writer, kept),
-        Listing::Refs => write_refs(writer, kept),
-        Listing::Marks => write_marks(writer, kept),
-        Listing::Rows(wanted) => write_rows(writer, kept, wanted),
-        Listing::Gone(edit) => write_gone(writer, kept, *edit),
-        Listing::Log(from) => write_log(writer, kept, *from),
+        Listing::Refs { route, exact } => write_refs(writer, kept, route.as_ref(), *exact),
+        Listing::Marks(route) => write_marks(writer, kept, route.as_ref()),
+        Listing::Pieces(route) => write_pieces(writer, kept, route.as_ref()),
+        Listing::Gone(wanted) => write_gone(writer, kept, wanted),
+        Listing::History(asset) => write_history(writer, kept, *asset),
+        Listing::Log { from, until } => write_log(writer, kept, *from, *until),
         Listing::LogOfKey(key) => {
             let _ = write_log_of_key(writer, kept, key)?;
             Ok(())
@@ -78,6 +80,26 @@ pub(crate) fn csv_listing(
 {
     let bytes = listing_lines(alloc, most, kept, listing)?;
     Ok(csv_reply(bytes))
+}
+
+/// The rows that are asked for as CSV.
+///
+/// # Errors
+/// When memory or so many bytes do not suffice.
+pub(crate) fn rows_lines(
+    alloc: Global,
+    most: usize,
+    kept: &ImageLists,
+    wanted: &RowsWanted,
+) -> Result<Vec<u8>, AllocError>
+    requires sound { IsSound (image_of kept.now) }
+    ensures { IfOk result (λ bytes. bytes.items ≡ rows_text wanted.now (image_of kept.now)) }
+{
+    let mut text = BoundedBytes::new(alloc, most);
+    match write_rows(&mut text, kept, wanted) {
+        Ok(()) => Ok(text.bytes),
+        Err(_) => Err(AllocError),
+    }
 }
 
 /// The lengths of values as CSV, in metres.

@@ -2,18 +2,19 @@
 
 ghost use Rattle.std.specs.Prelude.{◌≡◌, IfOk, IfErr, true, false};
 ghost use Rattle.lrs_web_requests.specs.declared.paths.Resource.TheVariants as path;
-ghost use Rattle.lrs_web_replies.specs.Questions.{AsksOf, CannotAsk, GivesRows, GivesSpot, is_on_link};
+ghost use Rattle.lrs_web_replies.specs.Questions.{AsksOf, CannotAsk, GivesGone, GivesRows, GivesSpot, is_on_link};
 
 use crate::parameters::{
-    asset_or_all_in, chainage_of_place_in, class_or_all_in, edit_or_all_in, first_edit_in, from_in,
-    is_on_link, link_in, millimetre_in, route_in, route_or_all_in, to_in,
+    asset_in, asset_or_all_in, class_or_all_in, edit_or_all_in, exact_in, first_edit_in, form_in,
+    from_in, is_on_link, link_in, millimetre_in, place_on_route_in, route_in, route_or_all_in,
+    since_in, to_in, until_in,
 };
 use crate::question::QueryFault;
-use lrs_machine::{AskedPlace, Listing, Question, RowsWanted};
+use lrs_machine::{AskedPlace, GoneWanted, Listing, Question, RowsAsked};
 use std::alloc::Global;
 
-#[tactic(auto, using(crate::proofs::FirstFaults::rows_route, crate::proofs::FirstFaults::rows_from, crate::proofs::FirstFaults::rows_to, crate::proofs::FirstFaults::rows_class, crate::proofs::FirstFaults::rows_asset))]
-fn rows_in(alloc: Global, query: &[u8]) -> Result<RowsWanted, QueryFault>
+#[tactic(auto, using(crate::proofs::FirstFaults::rows_route, crate::proofs::FirstFaults::rows_from, crate::proofs::FirstFaults::rows_to, crate::proofs::FirstFaults::rows_class, crate::proofs::FirstFaults::rows_asset, crate::proofs::FirstFaults::rows_form))]
+fn rows_in(alloc: Global, query: &[u8]) -> Result<RowsAsked, QueryFault>
     ensures asked { IfOk result (GivesRows query.now) }
     ensures unasked { IfErr result (CannotAsk path.Rows query.now) }
 {
@@ -22,30 +23,85 @@ fn rows_in(alloc: Global, query: &[u8]) -> Result<RowsWanted, QueryFault>
     let to = to_in(alloc, query)?;
     let class = class_or_all_in(alloc, query)?;
     let asset = asset_or_all_in(alloc, query)?;
-    Ok(RowsWanted {
+    let form = form_in(alloc, query)?;
+    Ok(RowsAsked {
         route,
         from,
         to,
         class,
         asset,
+        form,
     })
 }
 
-#[tactic(auto, using(crate::proofs::FirstFaults::gone_edit))]
+#[tactic(auto, using(crate::proofs::FirstFaults::refs_route, crate::proofs::FirstFaults::refs_exact))]
+pub(crate) fn refs_question(alloc: Global, query: &[u8]) -> Result<Question, QueryFault>
+    ensures asked { IfOk result (AsksOf path.Refs query.now) }
+    ensures unasked { IfErr result (CannotAsk path.Refs query.now) }
+{
+    let route = route_or_all_in(alloc, query)?;
+    let exact = exact_in(alloc, query)?;
+    Ok(Question::List(Listing::Refs { route, exact }))
+}
+
+#[tactic(auto, using(crate::proofs::FirstFaults::marks_route))]
+pub(crate) fn marks_question(alloc: Global, query: &[u8]) -> Result<Question, QueryFault>
+    ensures asked { IfOk result (AsksOf path.Marks query.now) }
+    ensures unasked { IfErr result (CannotAsk path.Marks query.now) }
+{
+    let route = route_or_all_in(alloc, query)?;
+    Ok(Question::List(Listing::Marks(route)))
+}
+
+#[tactic(auto, using(crate::proofs::FirstFaults::pieces_route))]
+pub(crate) fn pieces_question(alloc: Global, query: &[u8]) -> Result<Question, QueryFault>
+    ensures asked { IfOk result (AsksOf path.Pieces query.now) }
+    ensures unasked { IfErr result (CannotAsk path.Pieces query.now) }
+{
+    let route = route_or_all_in(alloc, query)?;
+    Ok(Question::List(Listing::Pieces(route)))
+}
+
+#[tactic(auto, using(crate::proofs::FirstFaults::gone_edit, crate::proofs::FirstFaults::gone_since, crate::proofs::FirstFaults::gone_until, crate::proofs::FirstFaults::gone_class))]
+fn gone_in(alloc: Global, query: &[u8]) -> Result<GoneWanted, QueryFault>
+    ensures asked { IfOk result (GivesGone query.now) }
+    ensures unasked { IfErr result (CannotAsk path.Gone query.now) }
+{
+    let edit = edit_or_all_in(alloc, query)?;
+    let since = since_in(alloc, query)?;
+    let until = until_in(alloc, query)?;
+    let class = class_or_all_in(alloc, query)?;
+    Ok(GoneWanted {
+        edit,
+        since,
+        until,
+        class,
+    })
+}
+
 pub(crate) fn gone_question(alloc: Global, query: &[u8]) -> Result<Question, QueryFault>
     ensures asked { IfOk result (AsksOf path.Gone query.now) }
     ensures unasked { IfErr result (CannotAsk path.Gone query.now) }
 {
-    let edit = edit_or_all_in(alloc, query)?;
-    Ok(Question::List(Listing::Gone(edit)))
+    let wanted = gone_in(alloc, query)?;
+    Ok(Question::List(Listing::Gone(wanted)))
+}
+
+#[tactic(auto, using(crate::proofs::FirstFaults::history_asset))]
+pub(crate) fn history_question(alloc: Global, query: &[u8]) -> Result<Question, QueryFault>
+    ensures asked { IfOk result (AsksOf path.History query.now) }
+    ensures unasked { IfErr result (CannotAsk path.History query.now) }
+{
+    let asset = asset_in(alloc, query)?;
+    Ok(Question::List(Listing::History(asset)))
 }
 
 pub(crate) fn rows_question(alloc: Global, query: &[u8]) -> Result<Question, QueryFault>
     ensures asked { IfOk result (AsksOf path.Rows query.now) }
     ensures unasked { IfErr result (CannotAsk path.Rows query.now) }
 {
-    let wanted = rows_in(alloc, query)?;
-    Ok(Question::List(Listing::Rows(wanted)))
+    let asked = rows_in(alloc, query)?;
+    Ok(Question::Rows(asked))
 }
 
 #[tactic(auto, using(crate::proofs::FirstFaults::lengths_route))]
@@ -75,8 +131,8 @@ fn spot_on_route(alloc: Global, query: &[u8]) -> Result<AskedPlace, QueryFault>
     ensures unasked { IfErr result (CannotAsk path.Where query.now) }
 {
     let route = route_in(alloc, query)?;
-    let chainage = chainage_of_place_in(alloc, query)?;
-    Ok(AskedPlace::OnRoute { route, chainage })
+    let place = place_on_route_in(alloc, query)?;
+    Ok(AskedPlace::OnRoute { route, place })
 }
 
 /// The place that is asked for: on a link where one is named, and else on a route.
@@ -98,11 +154,12 @@ pub(crate) fn where_question(alloc: Global, query: &[u8]) -> Result<Question, Qu
     Ok(Question::Where(spot))
 }
 
-#[tactic(auto, using(crate::proofs::FirstFaults::log_edit))]
+#[tactic(auto, using(crate::proofs::FirstFaults::log_edit, crate::proofs::FirstFaults::log_until))]
 pub(crate) fn log_question(alloc: Global, query: &[u8]) -> Result<Question, QueryFault>
     ensures asked { IfOk result (AsksOf path.Log query.now) }
     ensures unasked { IfErr result (CannotAsk path.Log query.now) }
 {
     let from = first_edit_in(alloc, query)?;
-    Ok(Question::List(Listing::Log(from)))
+    let until = until_in(alloc, query)?;
+    Ok(Question::List(Listing::Log { from, until }))
 }

@@ -1,30 +1,32 @@
 //! Lists of an inventory as replies.
 
-ghost use Rattle.std.specs.Prelude.{◌≡◌, ◌++◌, [], IfOk, OnOk, filter, true};
-ghost use Rattle.std.specs.List.{flat_map};
+ghost use Rattle.std.specs.Prelude.{◌≡◌, ◌≤◌, ◌+◌, ◌++◌, [], IfOk, OnOk, filter, length, map, true};
+ghost use Rattle.std.specs.List.{AllByRecursion, flat_map};
 ghost use Rattle.std.specs.Option.{option_map, option_map_or};
 ghost use Rattle.serde_json.specs.Written.{compact_text};
 ghost use Rattle.lrs_measure.specs.Lists.{each_two};
-ghost use Rattle.lrs_machine.specs.Sound.{IsSound, asset_before, route_before};
+ghost use Rattle.lrs_element.specs.Pieces.{IsFilled, piece_len};
+ghost use Rattle.lrs_machine.specs.Sound.{IsSound, route_before};
 ghost use Rattle.lrs_image.specs.OpenLists.{image_of};
+ghost use Rattle.lrs_report_lists.specs.Lists.{routes_named};
+ghost use Rattle.lrs_report_lists.specs.PlacedPieces.{placed_from};
 ghost use Rattle.lrs_report_lists.specs.WantedRows.{is_of_route};
 ghost use Rattle.lrs_web_requests.specs.Text.{answer_of};
 ghost use Rattle.lrs_web_requests.specs.declared.paths.Format.TheVariants.{Json};
-ghost use Rattle.lrs_web_replies.specs.Listings.{all_gone_data, all_of, classes_data, gone_data, links_data, listing_answer, marks_data, named_list, refs_data, routes_data, row_data, rows_data};
-ghost use Rattle.lrs_web_replies.specs.Parts.{gone_part, item_text, row_part, rows_part};
+ghost use Rattle.lrs_web_replies.specs.Listings.{classes_data, links_data, listing_answer, marks_data, named_list, piece_data, pieces_data, pieces_on, refs_data, routes_data};
+ghost use Rattle.lrs_web_replies.specs.Parts.{item_text};
 
-use crate::entries::{OnRoute, gone_value, row_value};
+use crate::entries::{OnRoute, piece_value};
+use crate::ledgers::{gone_json, history_json};
 use crate::lines::csv_listing;
 use crate::list_text::{add_each, add_item, begin, end};
 use crate::reply::found_reply;
-use lrs_element::Mark;
-use lrs_events::{Asset, Gone, Span};
+use lrs_element::{Mark, Piece};
 use lrs_image::ImageLists;
 use lrs_inventory::Inventory;
-use lrs_machine::{Listing, RouteRow, RowsWanted};
+use lrs_machine::{Listing, RouteRow};
 use lrs_ordered::Chunked;
-use lrs_position::{Referent, Route};
-use lrs_report_lists::{asset_numbered, is_of_edit, is_wanted};
+use lrs_position::{Referent, Route, RouteName};
 use lrs_web_requests::{Format, Response};
 use std::alloc::{AllocError, Global};
 
@@ -87,294 +89,241 @@ fn add_each_on<T: OnRoute>(
     Ok(())
 }
 
-fn add_all_of<T: OnRoute>(
+/// Adds each of a list of what a route has.
+fn add_list_on<T: OnRoute>(
     alloc: Global,
     most: usize,
     bytes: &mut Vec<u8>,
-    route_row: &RouteRow,
-) -> Result<(), AllocError>
-    ensures { OnOk result (bytes.new.items
-        ≡ bytes.old.items ++ flat_map item_text (all_of T.on T.shown route_row.now)) }
-{
-    let route = &route_row.route;
-    add_each_on(alloc, most, bytes, route, T::all_on(route))
-}
-
-fn add_all<T: OnRoute>(
-    alloc: Global,
-    most: usize,
-    bytes: &mut Vec<u8>,
-    routes: &Chunked<RouteRow>,
-) -> Result<(), AllocError>
-    ensures { OnOk result (bytes.new.items ≡ bytes.old.items
-        ++ flat_map (λ e. flat_map item_text (all_of T.on T.shown e)) routes.now.rows) }
-{
-    for route_row in routes.iter() {
-        add_all_of::<T>(alloc, most, bytes, route_row)?;
-    }
-    Ok(())
-}
-
-/// The list of all that the routes have, under its name.
-fn all_json<T: OnRoute>(
-    alloc: Global,
-    most: usize,
-    kept: &ImageLists,
-    name: &str,
-) -> Result<Vec<u8>, AllocError>
-    ensures { IfOk result (λ bytes. bytes.items ≡ compact_text
-        (named_list name.now (flat_map (all_of T.on T.shown) (image_of kept.now).routes))) }
-{
-    let mut bytes = begin(alloc, name)?;
-    let start = bytes.len();
-    add_all::<T>(alloc, most, &mut bytes, &kept.routes)?;
-    end(bytes, start)
-}
-
-fn refs_json(alloc: Global, most: usize, kept: &ImageLists) -> Result<Vec<u8>, AllocError>
-    ensures { IfOk result (λ bytes. bytes.items ≡ compact_text (refs_data (image_of kept.now))) }
-{
-    all_json::<Referent>(alloc, most, kept, "refs")
-}
-
-fn marks_json(alloc: Global, most: usize, kept: &ImageLists) -> Result<Vec<u8>, AllocError>
-    ensures { IfOk result (λ bytes. bytes.items ≡ compact_text (marks_data (image_of kept.now))) }
-{
-    all_json::<Mark>(alloc, most, kept, "marks")
-}
-
-// ---- rows
-
-fn add_row(
-    alloc: Global,
-    most: usize,
-    bytes: &mut Vec<u8>,
-    assets: &Chunked<Asset>,
     route: &Route,
-    row: &Span,
+    list: &[T],
 ) -> Result<(), AllocError>
-    requires order { each_two asset_before assets.now.rows ≡ true }
     ensures { OnOk result (bytes.new.items
-        ≡ bytes.old.items ++ item_text (row_data assets.now.rows route.now row.now)) }
+        ≡ bytes.old.items ++ flat_map item_text (map (T.shown route.now) list.now)) }
 {
-    let value = row_value(alloc, asset_numbered(assets, row.asset), route, row)?;
+    add_each_on(alloc, most, bytes, route, list)
+}
+
+/// Adds a piece that lies between two chainages of a route.
+fn add_piece(
+    alloc: Global,
+    most: usize,
+    bytes: &mut Vec<u8>,
+    route: &Route,
+    from: u64,
+    to: u64,
+    piece: &Piece,
+) -> Result<(), AllocError>
+    requires end { to ≡ from + piece_len piece.now }
+    ensures { OnOk result (bytes.new.items
+        ≡ bytes.old.items ++ item_text (piece_data route.now (from, piece.now))) }
+{
+    let value = piece_value(alloc, route, from, to, piece)?;
     add_item(alloc, most, bytes, value)
 }
 
-/// Adds a row where it is asked for.
-fn add_wanted_row(
+/// Adds pieces that lie one behind the other from the start of a route.
+fn add_pieces_in(
     alloc: Global,
     most: usize,
     bytes: &mut Vec<u8>,
-    wanted: &RowsWanted,
-    assets: &Chunked<Asset>,
     route: &Route,
-    row: &Span,
+    pieces: &[Piece],
 ) -> Result<(), AllocError>
-    requires order { each_two asset_before assets.now.rows ≡ true }
-    ensures { OnOk result (bytes.new.items
-        ≡ bytes.old.items ++ row_part wanted.now assets.now.rows route.now row.now) }
+    requires few { length pieces.now ≤ 1_000 }
+    requires filled { AllByRecursion IsFilled pieces.now }
+    ensures { OnOk result (bytes.new.items ≡ bytes.old.items
+        ++ flat_map (λ one. item_text (piece_data route.now one)) (placed_from 0 pieces.now)) }
 {
-    if is_wanted(wanted, row) {
-        return add_row(alloc, most, bytes, assets, route, row);
+    let mut from = 0;
+    for piece in pieces {
+        let to = from + piece.len();
+        add_piece(alloc, most, bytes, route, from, to, piece)?;
+        from = to;
     }
     Ok(())
 }
 
-fn add_rows_on(
+/// Adds the pieces of a route.
+fn add_pieces_on(
     alloc: Global,
     most: usize,
     bytes: &mut Vec<u8>,
-    wanted: &RowsWanted,
-    assets: &Chunked<Asset>,
     route: &Route,
-    rows: &[Span],
 ) -> Result<(), AllocError>
-    requires order { each_two asset_before assets.now.rows ≡ true }
     ensures { OnOk result (bytes.new.items
-        ≡ bytes.old.items ++ flat_map (row_part wanted.now assets.now.rows route.now) rows.now) }
+        ≡ bytes.old.items ++ flat_map item_text (pieces_on route.now)) }
 {
-    for row in rows {
-        add_wanted_row(alloc, most, bytes, wanted, assets, route, row)?;
+    add_pieces_in(alloc, most, bytes, route, route.course.pieces())
+}
+
+// ---- the lists of what routes have
+
+/// What is listed of each route.
+trait Listed {
+    ghost use Rattle.std.specs.Prelude.{◌≡◌, ◌++◌, List, OnOk};
+    ghost use Rattle.std.specs.List.{flat_map};
+    ghost use Rattle.serde_json.specs.Data.{Data};
+    ghost use Rattle.lrs_position.specs.declared.route.Route.{Route};
+    ghost use Rattle.lrs_web_replies.specs.Parts.{item_text};
+
+    ghost items: { Route → List Data };
+
+    /// Adds what is listed of a route.
+    fn add(alloc: Global, most: usize, bytes: &mut Vec<u8>, route: &Route) -> Result<(), AllocError>
+        ensures { OnOk result (bytes.new.items
+            ≡ bytes.old.items ++ flat_map item_text (items route.now)) };
+}
+
+impl Listed for Referent {
+    ghost use Rattle.lrs_web_replies.specs.Listings.{refs_on};
+
+    ghost items = { refs_on };
+
+    fn add(
+        alloc: Global,
+        most: usize,
+        bytes: &mut Vec<u8>,
+        route: &Route,
+    ) -> Result<(), AllocError> {
+        add_list_on(alloc, most, bytes, route, route.refs.as_slice())
     }
-    Ok(())
 }
 
-/// Adds the rows of a route that are asked for.
-fn add_rows_of(
+impl Listed for Mark {
+    ghost use Rattle.lrs_web_replies.specs.Listings.{marks_on};
+
+    ghost items = { marks_on };
+
+    fn add(
+        alloc: Global,
+        most: usize,
+        bytes: &mut Vec<u8>,
+        route: &Route,
+    ) -> Result<(), AllocError> {
+        add_list_on(alloc, most, bytes, route, route.marks.list())
+    }
+}
+
+impl Listed for Piece {
+    ghost use Rattle.lrs_web_replies.specs.Listings.{pieces_on};
+
+    ghost items = { pieces_on };
+
+    fn add(
+        alloc: Global,
+        most: usize,
+        bytes: &mut Vec<u8>,
+        route: &Route,
+    ) -> Result<(), AllocError> {
+        add_pieces_on(alloc, most, bytes, route)
+    }
+}
+
+fn add_all<T: Listed>(
     alloc: Global,
     most: usize,
     bytes: &mut Vec<u8>,
-    wanted: &RowsWanted,
-    assets: &Chunked<Asset>,
-    route_row: &RouteRow,
-) -> Result<(), AllocError>
-    requires order { each_two asset_before assets.now.rows ≡ true }
-    ensures { OnOk result (bytes.new.items
-        ≡ bytes.old.items ++ rows_part wanted.now assets.now.rows route_row.now) }
-{
-    let route = &route_row.route;
-    add_rows_on(
-        alloc,
-        most,
-        bytes,
-        wanted,
-        assets,
-        route,
-        route_row.spans.rows(),
-    )
-}
-
-fn add_each_row(
-    alloc: Global,
-    most: usize,
-    bytes: &mut Vec<u8>,
-    wanted: &RowsWanted,
-    assets: &Chunked<Asset>,
     routes: &Chunked<RouteRow>,
 ) -> Result<(), AllocError>
-    requires order { each_two asset_before assets.now.rows ≡ true }
-    ensures { OnOk result (bytes.new.items
-        ≡ bytes.old.items ++ flat_map (rows_part wanted.now assets.now.rows) routes.now.rows) }
+    ensures { OnOk result (bytes.new.items ≡ bytes.old.items
+        ++ flat_map (λ e. flat_map item_text (T.items e.route)) routes.now.rows) }
 {
     for route_row in routes.iter() {
-        add_rows_of(alloc, most, bytes, wanted, assets, route_row)?;
+        T::add(alloc, most, bytes, &route_row.route)?;
     }
     Ok(())
 }
 
-/// Adds the rows that are asked for of one route, if there is one.
-fn add_rows_of_some(
+fn add_some<T: Listed>(
     alloc: Global,
     most: usize,
     bytes: &mut Vec<u8>,
-    wanted: &RowsWanted,
-    assets: &Chunked<Asset>,
     route_row: Option<&RouteRow>,
 ) -> Result<(), AllocError>
-    requires order { each_two asset_before assets.now.rows ≡ true }
     ensures { OnOk result (bytes.new.items ≡ bytes.old.items
-        ++ option_map_or (rows_part wanted.now assets.now.rows)
+        ++ option_map_or (λ e. flat_map item_text (T.items e.route))
         (option_map (λ e. e.now) route_row.entry) []) }
 {
     match route_row {
-        Some(route_row) => add_rows_of(alloc, most, bytes, wanted, assets, route_row),
+        Some(route_row) => T::add(alloc, most, bytes, &route_row.route),
         None => Ok(()),
     }
 }
 
-/// Adds the rows that are asked for. A route that is named is found by search.
-fn add_asked_rows(
+/// Adds what is listed of every route, or of the one of a name, which is found by search.
+fn add_named<T: Listed>(
     alloc: Global,
     most: usize,
     bytes: &mut Vec<u8>,
-    wanted: &RowsWanted,
-    assets: &Chunked<Asset>,
+    route: Option<RouteName>,
     routes: &Chunked<RouteRow>,
 ) -> Result<(), AllocError>
-    requires assets_order { each_two asset_before assets.now.rows ≡ true }
-    requires routes_order { each_two route_before routes.now.rows ≡ true }
+    requires order { each_two route_before routes.now.rows ≡ true }
     ensures { OnOk result (bytes.new.items ≡ bytes.old.items
-        ++ flat_map (rows_part wanted.now assets.now.rows)
-        (filter (is_of_route wanted.now.route) routes.now.rows)) }
+        ++ flat_map (λ e. flat_map item_text (T.items e.route))
+        (filter (is_of_route route) routes.now.rows)) }
 {
-    match &wanted.route {
-        Some(name) => add_rows_of_some(alloc, most, bytes, wanted, assets, routes.find(name)),
-        None => add_each_row(alloc, most, bytes, wanted, assets, routes),
+    match route {
+        Some(name) => add_some::<T>(alloc, most, bytes, routes.find(&name)),
+        None => add_all::<T>(alloc, most, bytes, routes),
     }
 }
 
-fn rows_json(
+/// The list of what the routes have, under its name.
+fn named_json<T: Listed>(
     alloc: Global,
     most: usize,
     kept: &ImageLists,
-    wanted: &RowsWanted,
+    route: Option<RouteName>,
+    name: &str,
 ) -> Result<Vec<u8>, AllocError>
     requires sound { IsSound (image_of kept.now) }
-    ensures { IfOk result (λ bytes. bytes.items
-        ≡ compact_text (rows_data wanted.now (image_of kept.now))) }
+    ensures { IfOk result (λ bytes. bytes.items ≡ compact_text (named_list name.now
+        (flat_map (λ e. T.items e.route) (routes_named route (image_of kept.now))))) }
 {
-    let mut bytes = begin(alloc, "rows")?;
+    let mut bytes = begin(alloc, name)?;
     let start = bytes.len();
-    add_asked_rows(alloc, most, &mut bytes, wanted, &kept.assets, &kept.routes)?;
+    add_named::<T>(alloc, most, &mut bytes, route, &kept.routes)?;
     end(bytes, start)
 }
 
-// ---- what is gone
-
-fn add_part(
-    alloc: Global,
-    most: usize,
-    bytes: &mut Vec<u8>,
-    assets: &Chunked<Asset>,
-    gone: &Gone,
-) -> Result<(), AllocError>
-    requires order { each_two asset_before assets.now.rows ≡ true }
-    ensures { OnOk result (bytes.new.items
-        ≡ bytes.old.items ++ item_text (gone_data assets.now.rows gone.now)) }
-{
-    let value = gone_value(alloc, asset_numbered(assets, gone.part.asset), gone)?;
-    add_item(alloc, most, bytes, value)
-}
-
-/// Adds a part where it is asked for.
-fn add_asked_part(
-    alloc: Global,
-    most: usize,
-    bytes: &mut Vec<u8>,
-    edit: Option<u64>,
-    assets: &Chunked<Asset>,
-    gone: &Gone,
-) -> Result<(), AllocError>
-    requires order { each_two asset_before assets.now.rows ≡ true }
-    ensures { OnOk result (bytes.new.items
-        ≡ bytes.old.items ++ gone_part edit assets.now.rows gone.now) }
-{
-    if is_of_edit(edit, gone) {
-        return add_part(alloc, most, bytes, assets, gone);
-    }
-    Ok(())
-}
-
-fn add_parts(
-    alloc: Global,
-    most: usize,
-    bytes: &mut Vec<u8>,
-    edit: Option<u64>,
-    assets: &Chunked<Asset>,
-    ledger: &[Gone],
-) -> Result<(), AllocError>
-    requires order { each_two asset_before assets.now.rows ≡ true }
-    ensures { OnOk result (bytes.new.items
-        ≡ bytes.old.items ++ flat_map (gone_part edit assets.now.rows) ledger.now) }
-{
-    for gone in ledger {
-        add_asked_part(alloc, most, bytes, edit, assets, gone)?;
-    }
-    Ok(())
-}
-
-fn gone_json(
+fn refs_json(
     alloc: Global,
     most: usize,
     kept: &ImageLists,
-    edit: Option<u64>,
+    route: Option<RouteName>,
 ) -> Result<Vec<u8>, AllocError>
     requires sound { IsSound (image_of kept.now) }
     ensures { IfOk result (λ bytes. bytes.items
-        ≡ compact_text (all_gone_data edit (image_of kept.now))) }
+        ≡ compact_text (refs_data route (image_of kept.now))) }
 {
-    let mut bytes = begin(alloc, "gone")?;
-    let start = bytes.len();
-    add_parts(
-        alloc,
-        most,
-        &mut bytes,
-        edit,
-        &kept.assets,
-        kept.gone.as_slice(),
-    )?;
-    end(bytes, start)
+    named_json::<Referent>(alloc, most, kept, route, "refs")
+}
+
+fn marks_json(
+    alloc: Global,
+    most: usize,
+    kept: &ImageLists,
+    route: Option<RouteName>,
+) -> Result<Vec<u8>, AllocError>
+    requires sound { IsSound (image_of kept.now) }
+    ensures { IfOk result (λ bytes. bytes.items
+        ≡ compact_text (marks_data route (image_of kept.now))) }
+{
+    named_json::<Mark>(alloc, most, kept, route, "marks")
+}
+
+fn pieces_json(
+    alloc: Global,
+    most: usize,
+    kept: &ImageLists,
+    route: Option<RouteName>,
+) -> Result<Vec<u8>, AllocError>
+    requires sound { IsSound (image_of kept.now) }
+    ensures { IfOk result (λ bytes. bytes.items
+        ≡ compact_text (pieces_data route (image_of kept.now))) }
+{
+    named_json::<Piece>(alloc, most, kept, route, "pieces")
 }
 
 // ---- replies
@@ -394,11 +343,12 @@ fn json_listing(
         Listing::Routes => Ok(found_reply(routes_json(alloc, most, kept)?)),
         Listing::Links => Ok(found_reply(links_json(alloc, most, kept)?)),
         Listing::Classes => Ok(found_reply(classes_json(alloc, most, kept)?)),
-        Listing::Refs => Ok(found_reply(refs_json(alloc, most, kept)?)),
-        Listing::Marks => Ok(found_reply(marks_json(alloc, most, kept)?)),
-        Listing::Rows(wanted) => Ok(found_reply(rows_json(alloc, most, kept, wanted)?)),
-        Listing::Gone(edit) => Ok(found_reply(gone_json(alloc, most, kept, *edit)?)),
-        Listing::Log(_) | Listing::LogOfKey(_) => csv_listing(alloc, most, kept, listing),
+        Listing::Refs { route, .. } => Ok(found_reply(refs_json(alloc, most, kept, *route)?)),
+        Listing::Marks(route) => Ok(found_reply(marks_json(alloc, most, kept, *route)?)),
+        Listing::Pieces(route) => Ok(found_reply(pieces_json(alloc, most, kept, *route)?)),
+        Listing::Gone(wanted) => Ok(found_reply(gone_json(alloc, most, kept, wanted)?)),
+        Listing::History(asset) => Ok(found_reply(history_json(alloc, most, kept, *asset)?)),
+        Listing::Log { .. } | Listing::LogOfKey(_) => csv_listing(alloc, most, kept, listing),
     }
 }
 

@@ -10,7 +10,8 @@ ghost use Rattle.lrs_web_replies.specs.JsonParts.{each};
 use crate::answers::name_of;
 use crate::list::{Shown, list_value};
 use lrs_events::{ClassName, Kind, Side, Value as AssetValue};
-use lrs_measure::Frac;
+use lrs_machine::Key;
+use lrs_measure::{Frac, Metres};
 use lrs_position::{Expr, RefName, RouteName};
 use serde_json::{Map, Value, put};
 use std::alloc::{AllocError, Global};
@@ -33,6 +34,9 @@ pub(crate) enum Scalar {
     OnLink(u32, Frac),
     /// No text where there is no measure.
     Measure(Option<Frac>),
+    /// Thousandths, as a decimal with three places; no text where there is none.
+    Thousandths(Option<u64>),
+    Key(Key),
 }
 
 /// The name of a member, and what it holds.
@@ -66,6 +70,9 @@ pub(crate) fn scalar_value(alloc: Global, scalar: &Scalar) -> Result<Value, Allo
         Scalar::Route(name) => Value::try_from_str(alloc, name_of(name)),
         Scalar::Measure(None) => Value::try_from_str(alloc, ""),
         Scalar::Measure(Some(measure)) => text_value(alloc, measure),
+        Scalar::Thousandths(None) => Value::try_from_str(alloc, ""),
+        Scalar::Thousandths(Some(count)) => text_value(alloc, &Metres::new(*count)),
+        Scalar::Key(key) => text_value(alloc, key),
         Scalar::Referent(name) => text_value(alloc, name),
         Scalar::Class(name) => text_value(alloc, name),
         Scalar::Kind(kind) => text_value(alloc, kind),
@@ -115,6 +122,20 @@ pub(crate) fn with_list<T: Shown>(
         ≡ put_data name.now (each T.shown list.now) (members_view map.entries)) }
 {
     let value = list_value(alloc, list)?;
+    put(&mut map, alloc, name, value)?;
+    Ok(map)
+}
+
+/// These members with one more. It takes them, as `with_list` does.
+pub(crate) fn with_value(
+    alloc: Global,
+    mut map: Map<String, Value>,
+    name: &str,
+    value: Value,
+) -> Result<Map<String, Value>, AllocError>
+    ensures { IfOk result (λ all. members_view all.entries
+        ≡ put_data name.now (view value) (members_view map.entries)) }
+{
     put(&mut map, alloc, name, value)?;
     Ok(map)
 }

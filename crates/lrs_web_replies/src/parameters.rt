@@ -1,21 +1,23 @@
 //! The parameters of a query, each read by the reader of its text.
 
-ghost use Rattle.std.specs.Prelude.{◌≡◌, ◌≤◌, ◌⊎◌, ℕ, Option, IfOk, IfErr, IfSome, IfNone, IsTrue, map};
+ghost use Rattle.std.specs.Prelude.{◌≡◌, ◌≤◌, ◌⊎◌, ℕ, Bool, Option, Some, IfOk, IfErr, IfSome, IfNone, IsTrue, map};
 ghost use Rattle.std.specs.List.{list_all};
 ghost use Rattle.std.specs.Cow.{cow_str_bytes};
 ghost use Rattle.lrs_events.specs.Names.{is_class_name};
 ghost use Rattle.lrs_position.specs.declared.expression.Expr.{Expr as Expression};
-ghost use Rattle.lrs_web_replies.specs.Questions.{Said, SaidIfGiven, SaysDestination, SaysNumber, GivesAsset, GivesAssetOrAll, GivesClassOrAll, GivesClasses, GivesClassesOrAll, GivesDestination, GivesEditOrAll, GivesFirstEdit, GivesFrom, GivesLink, GivesMethod, GivesMillimetre, GivesPlaceOnRoute, GivesPosition, GivesPositionBy, GivesRoute, GivesRouteOrAll, GivesSide, GivesUpTo, is_on_link};
-ghost use Rattle.lrs_web_requests.specs.Query.{parameter};
-ghost use Rattle.lrs_web_replies.specs.Faults.{Lacks, LacksPosition};
+ghost use Rattle.lrs_machine.specs.PlaceTexts.{SaysPlace};
+ghost use Rattle.lrs_machine.specs.declared.question.Place.{Place as PlaceValue};
+ghost use Rattle.lrs_web_replies.specs.Questions.{Said, SaidIfGiven, SaysDestination, SaysNumber, GivesAsset, GivesAssetOrAll, GivesClassOrAll, GivesClasses, GivesClassesOrAll, GivesDestination, GivesEditOrAll, GivesExact, GivesFirstEdit, GivesForm, GivesFrom, GivesLink, GivesMethod, GivesMillimetre, GivesPlaceOnRoute, GivesPosition, GivesPositionBy, GivesRoute, GivesRouteOrAll, GivesSide, GivesSince, GivesUntil, GivesUpTo, form_by, is_on_link};
+ghost use Rattle.lrs_web_requests.specs.Query.{parameter, switched};
+ghost use Rattle.lrs_web_replies.specs.Faults.{Lacks, LacksForm, LacksPosition};
 
 use crate::question::{Parameter, QueryFault};
 use lrs_events::{ClassName, Side, read_side};
-use lrs_machine::Destination;
-use lrs_measure::limits::{GREATEST_ASSET, GREATEST_LINK, LONGEST_LINK, LONGEST_ROUTE, MOST_EDITS};
+use lrs_machine::{Destination, Place, RowForm, read_place};
+use lrs_measure::limits::{GREATEST_ASSET, GREATEST_LINK, LONGEST_LINK, MOST_EDITS};
 use lrs_measure::{Rows, read_digits};
 use lrs_position::{Expr, Method, RouteName, read_expr, read_method, read_target};
-use lrs_web_requests::{value_of, values_of};
+use lrs_web_requests::{switched, value_of, values_of};
 use std::alloc::{AllocError, Global};
 use std::borrow::CowStr;
 
@@ -48,6 +50,14 @@ const NO_CLASS_OR_ALL: QueryFault = QueryFault::Malformed(Parameter::ClassOrAll)
 const NO_ASSET_OR_ALL: QueryFault = QueryFault::Malformed(Parameter::AssetOrAll);
 
 const NO_EDIT_OR_ALL: QueryFault = QueryFault::Malformed(Parameter::EditOrAll);
+
+const NO_SINCE: QueryFault = QueryFault::Malformed(Parameter::Since);
+
+const NO_UNTIL: QueryFault = QueryFault::Malformed(Parameter::Until);
+
+const NO_EXACT: QueryFault = QueryFault::Malformed(Parameter::Exact);
+
+const NO_FORM: QueryFault = QueryFault::Malformed(Parameter::RowsOnLinks);
 
 const NO_CHAINAGE: QueryFault = QueryFault::Malformed(Parameter::Chainage);
 
@@ -261,21 +271,51 @@ pub(crate) fn first_edit_in(alloc: Global, query: &[u8]) -> Result<u64, QueryFau
     }
 }
 
-pub(crate) fn from_in(alloc: Global, query: &[u8]) -> Result<Option<u64>, QueryFault>
+/// The place of a route that a text says.
+fn place_of(text: &str) -> Option<Place>
+    ensures read { IfSome result (SaysPlace text.now) }
+    ensures unread { IfNone result ((place : PlaceValue) → SaysPlace text.now place → ⊥) }
+{
+    read_place(text.as_bytes())
+}
+
+/// The place of a route that a parameter says, if it is given; the fault where it says none.
+fn place_if_given(
+    alloc: Global,
+    query: &[u8],
+    name: &str,
+    fault: QueryFault,
+) -> Result<Option<Place>, QueryFault>
+    ensures read { IfOk result (SaidIfGiven SaysPlace (parameter name.now query.now)) }
+    ensures unread { IfErr result (λ e. (e ≡ QueryFault.Memory)
+        ⊎ ((e ≡ fault)
+        × ((place : Option PlaceValue) → SaidIfGiven SaysPlace (parameter name.now query.now) place
+        → ⊥))) }
+{
+    match value_of(alloc, query, name)? {
+        Some(text) => match place_of(text.as_str()) {
+            Some(place) => Ok(Some(place)),
+            None => Err(fault),
+        },
+        None => Ok(None),
+    }
+}
+
+pub(crate) fn from_in(alloc: Global, query: &[u8]) -> Result<Option<Place>, QueryFault>
     ensures read { IfOk result (GivesFrom query.now) }
     ensures unread { IfErr result (Lacks Parameter.From query.now) }
 {
-    number_if_given(alloc, query, "from", 0, LONGEST_ROUTE, NO_FROM)
+    place_if_given(alloc, query, "from", NO_FROM)
 }
 
-pub(crate) fn to_in(alloc: Global, query: &[u8]) -> Result<Option<u64>, QueryFault>
+pub(crate) fn to_in(alloc: Global, query: &[u8]) -> Result<Option<Place>, QueryFault>
     ensures read { IfOk result (GivesUpTo query.now) }
     ensures unread { IfErr result (Lacks Parameter.UpTo query.now) }
 {
-    number_if_given(alloc, query, "to", 0, LONGEST_ROUTE, NO_UP_TO)
+    place_if_given(alloc, query, "to", NO_UP_TO)
 }
 
-/// The route whose rows are asked for, if one is named.
+/// The route of which a list is asked for, if one is named.
 pub(crate) fn route_or_all_in(alloc: Global, query: &[u8]) -> Result<Option<RouteName>, QueryFault>
     ensures read { IfOk result (GivesRouteOrAll query.now) }
     ensures unread { IfErr result (Lacks Parameter.RouteOrAll query.now) }
@@ -289,7 +329,7 @@ pub(crate) fn route_or_all_in(alloc: Global, query: &[u8]) -> Result<Option<Rout
     }
 }
 
-/// The class whose rows are asked for, if one is named.
+/// The class of which a list is asked for, if one is named.
 pub(crate) fn class_or_all_in(alloc: Global, query: &[u8]) -> Result<Option<ClassName>, QueryFault>
     ensures read { IfOk result (GivesClassOrAll query.now) }
     ensures unread { IfErr result (Lacks Parameter.ClassOrAll query.now) }
@@ -319,6 +359,60 @@ pub(crate) fn edit_or_all_in(alloc: Global, query: &[u8]) -> Result<Option<u64>,
     number_if_given(alloc, query, "edit", 1, MOST_EDITS as u64, NO_EDIT_OR_ALL)
 }
 
+/// The first edit that may have taken parts away, if one is named.
+pub(crate) fn since_in(alloc: Global, query: &[u8]) -> Result<Option<u64>, QueryFault>
+    ensures read { IfOk result (GivesSince query.now) }
+    ensures unread { IfErr result (Lacks Parameter.Since query.now) }
+{
+    number_if_given(alloc, query, "since", 1, MOST_EDITS as u64, NO_SINCE)
+}
+
+/// The last edit that is meant, if one is named.
+pub(crate) fn until_in(alloc: Global, query: &[u8]) -> Result<Option<u64>, QueryFault>
+    ensures read { IfOk result (GivesUntil query.now) }
+    ensures unread { IfErr result (Lacks Parameter.Until query.now) }
+{
+    number_if_given(alloc, query, "until", 1, MOST_EDITS as u64, NO_UNTIL)
+}
+
+/// Whether measures are told as they are.
+pub(crate) fn exact_in(alloc: Global, query: &[u8]) -> Result<bool, QueryFault>
+    ensures read { IfOk result (GivesExact query.now) }
+    ensures unread { IfErr result (Lacks Parameter.Exact query.now) }
+{
+    match switched(alloc, query, "exact")? {
+        Some(exact) => Ok(exact),
+        None => Err(NO_EXACT),
+    }
+}
+
+/// How rows are told that are asked for with exact measures, and on links.
+fn form_by(exact: bool, on_links: bool) -> Option<RowForm>
+    ensures { result ≡ form_by exact on_links }
+{
+    match (exact, on_links) {
+        (false, false) => Some(RowForm::Decimal),
+        (true, false) => Some(RowForm::Exact),
+        (false, true) => Some(RowForm::OnLinks),
+        (true, true) => None,
+    }
+}
+
+/// How rows are told. On links they have no measures.
+pub(crate) fn form_in(alloc: Global, query: &[u8]) -> Result<RowForm, QueryFault>
+    ensures read { IfOk result (GivesForm query.now) }
+    ensures unread { IfErr result (LacksForm query.now) }
+{
+    let exact = exact_in(alloc, query)?;
+    let Some(on_links) = switched(alloc, query, "on_links")? else {
+        return Err(NO_FORM);
+    };
+    match form_by(exact, on_links) {
+        Some(form) => Ok(form),
+        None => Err(NO_FORM),
+    }
+}
+
 /// Whether a place is asked for on a link.
 pub(crate) fn is_on_link(alloc: Global, query: &[u8]) -> Result<bool, AllocError>
     ensures { IfOk result (λ on_link. on_link ≡ is_on_link query.now) }
@@ -330,11 +424,17 @@ pub(crate) fn is_on_link(alloc: Global, query: &[u8]) -> Result<bool, AllocError
 }
 
 /// Where on a route a place is asked for.
-pub(crate) fn chainage_of_place_in(alloc: Global, query: &[u8]) -> Result<u64, QueryFault>
+pub(crate) fn place_on_route_in(alloc: Global, query: &[u8]) -> Result<Place, QueryFault>
     ensures read { IfOk result (GivesPlaceOnRoute query.now) }
     ensures unread { IfErr result (Lacks Parameter.Chainage query.now) }
 {
-    number_in(alloc, query, "chainage", 0, LONGEST_ROUTE, NO_CHAINAGE)
+    match value_of(alloc, query, "chainage")? {
+        Some(text) => match place_of(text.as_str()) {
+            Some(place) => Ok(place),
+            None => Err(NO_CHAINAGE),
+        },
+        None => Err(NO_CHAINAGE),
+    }
 }
 
 /// The link on which a place is asked for.

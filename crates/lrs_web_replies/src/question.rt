@@ -6,7 +6,8 @@ ghost use Rattle.lrs_web_requests.specs.Request.{verb_of};
 ghost use Rattle.lrs_web_replies.specs.Questions.{AsksOf, CannotAsk, parameter_text};
 
 use crate::list_parameters::{
-    gone_question, lengths_question, log_question, rows_question, where_question,
+    gone_question, history_question, lengths_question, log_question, marks_question,
+    pieces_question, refs_question, rows_question, where_question,
 };
 use crate::parameters::{
     asset_in, classes_in, classes_or_all_in, destination_in, from_in, position_in, route_in,
@@ -21,7 +22,7 @@ use std::alloc::{AllocError, AllocFailed, Global};
 #[derive(Clone, Copy, PartialEq, Eq)]
 pub enum Parameter {
     Route,
-    /// The route of rows, which may be left out for all.
+    /// The route of a list, which may be left out for all.
     RouteOrAll,
     Method,
     Position,
@@ -29,7 +30,7 @@ pub enum Parameter {
     To,
     Side,
     Class,
-    /// The class of rows, which may be left out for all.
+    /// The class of a list, which may be left out for all.
     ClassOrAll,
     /// The classes of a diagram, which may be left out for all. Its name is `class`, too.
     ClassesOrAll,
@@ -44,7 +45,15 @@ pub enum Parameter {
     FirstEdit,
     /// The edit that took parts away, which may be left out for all.
     EditOrAll,
-    /// Where on a route a place is.
+    /// The first edit that may have taken parts away.
+    Since,
+    /// The last edit that may have taken parts away, or the last of the log.
+    Until,
+    /// That measures are told as they are, and not as decimals.
+    Exact,
+    /// That rows are told on the links under them.
+    RowsOnLinks,
+    /// Where on a route a place is, by its chainage or by a position.
     Chainage,
     /// The link on which a place is.
     OnLink,
@@ -67,6 +76,10 @@ impl Parameter {
             Parameter::From | Parameter::FirstEdit => "from",
             Parameter::Asset | Parameter::AssetOrAll => "asset",
             Parameter::EditOrAll => "edit",
+            Parameter::Since => "since",
+            Parameter::Until => "until",
+            Parameter::Exact => "exact",
+            Parameter::RowsOnLinks => "on_links",
             Parameter::Chainage => "chainage",
             Parameter::OnLink => "link",
             Parameter::Millimetre => "mm",
@@ -209,10 +222,12 @@ pub fn question_of(
         Resource::Routes => Ok(Question::List(Listing::Routes)),
         Resource::Links => Ok(Question::List(Listing::Links)),
         Resource::Classes => Ok(Question::List(Listing::Classes)),
-        Resource::Refs => Ok(Question::List(Listing::Refs)),
-        Resource::Marks => Ok(Question::List(Listing::Marks)),
+        Resource::Refs => refs_question(alloc, argument),
+        Resource::Marks => marks_question(alloc, argument),
+        Resource::Pieces => pieces_question(alloc, argument),
         Resource::Rows => rows_question(alloc, argument),
         Resource::Gone => gone_question(alloc, argument),
+        Resource::History => history_question(alloc, argument),
         Resource::Log => log_question(alloc, argument),
         Resource::Health => Ok(Question::Health),
         Resource::Edits | Resource::Surveys | Resource::Questions => unreachable!(),

@@ -17,6 +17,7 @@ use crate::bounded::BoundedBytes;
 use crate::lines::lengths_lines;
 use crate::listings::listing_reply;
 use crate::reply::{csv_reply, found_reply, refusal, svg_reply};
+use crate::row_lists::rows_reply;
 use lrs_events::Side;
 use lrs_measure::Frac;
 use lrs_position::{Expr, RouteName};
@@ -100,7 +101,7 @@ fn lengths_reply(
     }
 }
 
-/// The reply to what is told to a question: a list and lengths in a format, the log as CSV, a diagram as SVG, and any
+/// The reply to what is told to a question: a list, rows and lengths in a format, the log as CSV, a diagram as SVG, and any
 /// other answer as JSON.
 fn told_reply(
     alloc: Global,
@@ -130,6 +131,7 @@ fn told_reply(
         Told::Found(rows) => Ok(found_reply(found_json(alloc, rows.as_slice())?)),
         Told::Where(found) => Ok(found_reply(whereabouts_json(alloc, &found)?)),
         Told::Lengths(rows) => lengths_reply(alloc, most, format, rows.as_slice()),
+        Told::Rows { wanted, inventory } => rows_reply(alloc, most, format, inventory, &wanted),
         Told::Listing { listing, inventory } => {
             listing_reply(alloc, most, format, inventory, &listing)
         }
@@ -137,8 +139,8 @@ fn told_reply(
     }
 }
 
-/// The reply to what is told to a question: its answer, or why it is refused. The format is that of lists and lengths. It
-/// is no longer made once it has so many bytes.
+/// The reply to what is told to a question: its answer, or why it is refused. The format is that of lists, rows and
+/// lengths. It is no longer made once it has so many bytes.
 ///
 /// # Errors
 /// When memory or so many bytes do not suffice; the reply may be the empty 503 then, too.

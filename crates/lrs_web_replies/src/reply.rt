@@ -71,6 +71,7 @@ fn status_for(cause: AskCause) -> StatusCode
         | AskCause::NoRef
         | AskCause::TooFine
         | AskCause::OffRoute
+        | AskCause::End(..)
         | AskCause::NoClass(_)
         | AskCause::NotExclusive(_)
         | AskCause::SideB => StatusCode::UNPROCESSABLE_ENTITY,

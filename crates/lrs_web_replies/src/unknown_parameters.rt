@@ -27,17 +27,21 @@ pub fn unknown_in<'q>(
 {
     match resource {
         Resource::Diagram => unknown_name(alloc, argument, &["route", "class", "from", "to"]),
-        Resource::Find => unknown_name(alloc, argument, &["asset"]),
+        Resource::Find | Resource::History => unknown_name(alloc, argument, &["asset"]),
         Resource::Where => unknown_name(alloc, argument, &["route", "chainage", "link", "mm"]),
         Resource::Rows => {
-            let known = ["route", "from", "to", "class", "asset"];
+            let known = ["route", "from", "to", "class", "asset", "exact", "on_links"];
             unknown_name(alloc, argument, &known)
         }
-        Resource::Lengths => unknown_name(alloc, argument, &["route"]),
-        Resource::Gone => unknown_name(alloc, argument, &["edit"]),
-        Resource::Log => unknown_name(alloc, argument, &["from"]),
-        Resource::Routes | Resource::Links | Resource::Classes | Resource::Refs | Resource::Marks =>
-            unknown_name(alloc, argument, &[]),
+        Resource::Refs => unknown_name(alloc, argument, &["route", "exact"]),
+        Resource::Marks | Resource::Pieces | Resource::Lengths => {
+            unknown_name(alloc, argument, &["route"])
+        }
+        Resource::Gone => unknown_name(alloc, argument, &["edit", "since", "until", "class"]),
+        Resource::Log => unknown_name(alloc, argument, &["from", "until"]),
+        Resource::Routes | Resource::Links | Resource::Classes => {
+            unknown_name(alloc, argument, &[])
+        }
         Resource::At
         | Resource::Route
         | Resource::Segments

@@ -1,5 +1,5 @@
 -- The parameters of a query (the URL Standard, section 5).
-use Rattle.std.specs.Prelude.{ℕ, Bool, List, [], ◌∷◌, Option, None, Some, if◌then◌else◌, bytes_eq}
+use Rattle.std.specs.Prelude.{ℕ, Bool, true, false, List, [], ◌∷◌, Option, None, Some, codes, if◌then◌else◌, bytes_eq}
 use Rattle.std.specs.Str.Lossy.{utf8_lossy}
 use Rattle.form_urlencoded.specs.Form.{decode, raw_pairs}
 
@@ -15,6 +15,15 @@ first_value name (pair ∷ pairs) = if bytes_eq (text_of pair.0) name then Some 
 -- the value of a parameter of the query
 abbrev pub parameter : List ℕ → List ℕ → Option (List ℕ)
 parameter name query = first_value name (raw_pairs query)
+
+-- what a parameter says that is 1 or is left out; any other value says nothing
+abbrev pub switch : Option (List ℕ) → Option Bool
+switch None = Some false
+switch (Some value) = if bytes_eq value (codes "1") then Some true else None
+
+-- whether a parameter of the query that is 1 or is left out is there
+abbrev pub switched : List ℕ → List ℕ → Option Bool
+switched name query = switch (parameter name query)
 
 -- the values of all pairs of this name
 abbrev pub all_values : List ℕ → List (List ℕ × List ℕ) → List (List ℕ)

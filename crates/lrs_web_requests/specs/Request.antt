@@ -7,13 +7,13 @@ use Rattle.httparse.specs.Spans.{name_and_value}
 use Rattle.lrs_web_requests.specs.HeadReadings.{IsTooLarge, IsUnreadable}
 use Rattle.lrs_web_requests.specs.Body.{body_at}
 use Rattle.lrs_web_requests.specs.BodyLengths.{Field, body_length}
-use Rattle.lrs_web_requests.specs.Query.{parameter}
+use Rattle.lrs_web_requests.specs.Query.{switched}
 use Rattle.lrs_web_requests.specs.Sites.{is_own}
 use Rattle.lrs_web_requests.specs.declared.response.RequestMethod.{RequestMethod}
 use Rattle.lrs_web_requests.specs.declared.response.RequestMethod.TheVariants.{Get, Post}
 use Rattle.lrs_web_requests.specs.Text.{method_name}
 use Rattle.lrs_web_requests.specs.declared.paths.Resource.{Resource}
-use Rattle.lrs_web_requests.specs.declared.paths.Resource.TheVariants.{At, Route, Segments, Totals, Translate, Diagram, Routes, Find, Log, Health, Links, Classes, Refs, Marks, Rows, Lengths, Gone, Where, Edits, Surveys, Questions}
+use Rattle.lrs_web_requests.specs.declared.paths.Resource.TheVariants.{At, Route, Segments, Totals, Translate, Diagram, Routes, Find, Log, Health, Links, Classes, Refs, Marks, Pieces, Rows, Lengths, Gone, History, Where, Edits, Surveys, Questions}
 use Rattle.lrs_web_requests.specs.declared.paths.Format.{Format}
 use Rattle.lrs_web_requests.specs.Routes.{Named, named_at}
 use Rattle.lrs_web_requests.specs.declared.request.Request.{Request}
@@ -70,21 +70,19 @@ verb_of Links = Get
 verb_of Classes = Get
 verb_of Refs = Get
 verb_of Marks = Get
+verb_of Pieces = Get
 verb_of Rows = Get
 verb_of Lengths = Get
 verb_of Gone = Get
+verb_of History = Get
 verb_of Where = Get
 verb_of Edits = Post
 verb_of Surveys = Post
 verb_of Questions = Post
 
--- whether a sheet goes on behind its last record that is an edit: where `resume` is 1, not where there is no `resume`; any other value is refused
-abbrev pub resumes_for : Option (List ℕ) → Option Bool
-resumes_for None = Some false
-resumes_for (Some value) = if bytes_eq value (codes "1") then Some true else None
-
+-- whether a sheet goes on behind its last record that is an edit
 abbrev pub resumes : List ℕ → Option Bool
-resumes target = resumes_for (parameter (codes "resume") (query_of target))
+resumes target = switched (codes "resume") (query_of target)
 
 abbrev pub with_body : Resource → Option Bool → Option (List ℕ) → Asked
 with_body resource None body = refused 400

@@ -5,7 +5,7 @@ use Rattle.matchit.specs.Rows.{RowsOf, param_token}
 use Rattle.matchit.specs.Router.{RouteOf}
 use Rattle.matchit.specs.Seek.{first}
 use Rattle.lrs_web_requests.specs.declared.paths.Resource.{Resource}
-use Rattle.lrs_web_requests.specs.declared.paths.Resource.TheVariants.{At, Route, Segments, Totals, Translate, Diagram, Routes, Find, Log, Health, Links, Classes, Refs, Marks, Rows, Lengths, Gone, Where, Edits, Surveys, Questions}
+use Rattle.lrs_web_requests.specs.declared.paths.Resource.TheVariants.{At, Route, Segments, Totals, Translate, Diagram, Routes, Find, Log, Health, Links, Classes, Refs, Marks, Pieces, Rows, Lengths, Gone, History, Where, Edits, Surveys, Questions}
 use Rattle.lrs_web_requests.specs.declared.paths.Format.{Format}
 use Rattle.lrs_web_requests.specs.declared.paths.Format.TheVariants.{Json, Csv}
 
@@ -33,8 +33,10 @@ unfoldable pub rows : RowsOf (RouteOf Named)
 rows =
     json (codes "/health") Health ∷ json (codes "/v1/at") At ∷ csv (codes "/v1/classes.csv") Classes ∷ json (codes "/v1/classes") Classes
     ∷ json (codes "/v1/diagram") Diagram ∷ json (codes "/v1/edits") Edits ∷ json (codes "/v1/find") Find ∷ csv (codes "/v1/gone.csv") Gone
-    ∷ json (codes "/v1/gone") Gone ∷ csv (codes "/v1/lengths.csv") Lengths ∷ json (codes "/v1/lengths") Lengths ∷ csv (codes "/v1/links.csv") Links
+    ∷ json (codes "/v1/gone") Gone ∷ csv (codes "/v1/history.csv") History ∷ json (codes "/v1/history") History
+    ∷ csv (codes "/v1/lengths.csv") Lengths ∷ json (codes "/v1/lengths") Lengths ∷ csv (codes "/v1/links.csv") Links
     ∷ json (codes "/v1/links") Links ∷ json (codes "/v1/log") Log ∷ csv (codes "/v1/marks.csv") Marks ∷ json (codes "/v1/marks") Marks
+    ∷ csv (codes "/v1/pieces.csv") Pieces ∷ json (codes "/v1/pieces") Pieces
     ∷ json (codes "/v1/questions") Questions ∷ csv (codes "/v1/refs.csv") Refs ∷ json (codes "/v1/refs") Refs ∷ with_name (codes "/v1/route/") (Route, Json)
     ∷ csv (codes "/v1/routes.csv") Routes ∷ json (codes "/v1/routes") Routes ∷ csv (codes "/v1/rows.csv") Rows ∷ json (codes "/v1/rows") Rows
     ∷ json (codes "/v1/segments") Segments ∷ json (codes "/v1/surveys") Surveys ∷ json (codes "/v1/totals") Totals ∷ json (codes "/v1/translate") Translate
@@ -49,6 +51,7 @@ abbrev pub is_answer : Named → Bool
 is_answer (At, Json) = true
 is_answer (Diagram, Json) = true
 is_answer (Gone, Json) = true
+is_answer (History, Json) = true
 is_answer (Segments, Json) = true
 is_answer (Translate, Json) = true
 is_answer (Where, Json) = true
@@ -69,6 +72,7 @@ is_list (Find, Json) = true
 is_list (Links, Json) = true
 is_list (Refs, Json) = true
 is_list (Marks, Json) = true
+is_list (Pieces, Json) = true
 is_list (Route, Json) = true
 is_list (Routes, Json) = true
 is_list (Rows, Json) = true

@@ -15,6 +15,6 @@ mod sites;
 
 pub use body::BodyFault;
 pub use paths::{Format, Resource, routes};
-pub use query::{unknown_name, value_of, values_of};
+pub use query::{switched, unknown_name, value_of, values_of};
 pub use request::{Request, receive};
 pub use response::{Content, ContentType, RequestMethod, Response, write_reply, write_unavailable};

@@ -23,9 +23,11 @@ pub enum Resource {
     Classes,
     Refs,
     Marks,
+    Pieces,
     Rows,
     Lengths,
     Gone,
+    History,
     Where,
     Edits,
     Surveys,
@@ -47,6 +49,7 @@ fn add_answers(router: &mut Router<(Resource, Format)>) -> Result<(), InsertErro
     router.insert("/v1/at", (Resource::At, Format::Json))?;
     router.insert("/v1/diagram", (Resource::Diagram, Format::Json))?;
     router.insert("/v1/gone", (Resource::Gone, Format::Json))?;
+    router.insert("/v1/history", (Resource::History, Format::Json))?;
     router.insert("/v1/segments", (Resource::Segments, Format::Json))?;
     router.insert("/v1/translate", (Resource::Translate, Format::Json))?;
     router.insert("/v1/where", (Resource::Where, Format::Json))?;
@@ -72,6 +75,7 @@ fn add_lists(router: &mut Router<(Resource, Format)>) -> Result<(), InsertError>
     router.insert("/v1/find", (Resource::Find, Format::Json))?;
     router.insert("/v1/links", (Resource::Links, Format::Json))?;
     router.insert("/v1/marks", (Resource::Marks, Format::Json))?;
+    router.insert("/v1/pieces", (Resource::Pieces, Format::Json))?;
     router.insert("/v1/refs", (Resource::Refs, Format::Json))?;
     router.insert("/v1/route/{name}", (Resource::Route, Format::Json))?;
     router.insert("/v1/routes", (Resource::Routes, Format::Json))?;
@@ -95,9 +99,11 @@ fn add_tables(router: &mut Router<(Resource, Format)>) -> Result<(), InsertError
 {
     router.insert("/v1/classes.csv", (Resource::Classes, Format::Csv))?;
     router.insert("/v1/gone.csv", (Resource::Gone, Format::Csv))?;
+    router.insert("/v1/history.csv", (Resource::History, Format::Csv))?;
     router.insert("/v1/lengths.csv", (Resource::Lengths, Format::Csv))?;
     router.insert("/v1/links.csv", (Resource::Links, Format::Csv))?;
     router.insert("/v1/marks.csv", (Resource::Marks, Format::Csv))?;
+    router.insert("/v1/pieces.csv", (Resource::Pieces, Format::Csv))?;
     router.insert("/v1/refs.csv", (Resource::Refs, Format::Csv))?;
     router.insert("/v1/routes.csv", (Resource::Routes, Format::Csv))?;
     router.insert("/v1/rows.csv", (Resource::Rows, Format::Csv))?;

@@ -3,7 +3,7 @@
 ghost use Rattle.std.specs.Prelude.{◌≡◌, IfOk, bytes_eq, map, option_map};
 ghost use Rattle.std.specs.Cow.{cow_str_bytes};
 ghost use Rattle.std.specs.List.{list_any};
-ghost use Rattle.lrs_web_requests.specs.Query.{parameter, parameters, unknown_name};
+ghost use Rattle.lrs_web_requests.specs.Query.{parameter, parameters, switched, unknown_name};
 
 use form_urlencoded::parse;
 use std::alloc::{AllocError, Global};
@@ -24,6 +24,17 @@ pub fn value_of<'q>(
         }
     }
     Ok(None)
+}
+
+/// Whether a parameter is there that is 1 or is left out; `None` where it has another value.
+pub fn switched(alloc: Global, query: &[u8], name: &str) -> Result<Option<bool>, AllocError>
+    ensures { IfOk result (λ found. found ≡ switched name.now query.now) }
+{
+    match value_of(alloc, query, name)? {
+        None => Ok(Some(false)),
+        Some(value) if value.as_str() == "1" => Ok(Some(true)),
+        Some(_) => Ok(None),
+    }
 }
 
 /// The values of a parameter: those of all pairs of its name, in their order.

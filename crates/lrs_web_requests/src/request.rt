@@ -12,7 +12,7 @@ use crate::body::{BodyFault, read_body};
 use crate::framing::length_of_body;
 use crate::head::{Outcome, read_head};
 use crate::paths::{Format, Resource, find};
-use crate::query::value_of;
+use crate::query::switched;
 use crate::response::RequestMethod;
 use crate::sites::is_own;
 use http::StatusCode;
@@ -62,9 +62,11 @@ fn verb_for(resource: Resource) -> RequestMethod
         | Resource::Classes
         | Resource::Refs
         | Resource::Marks
+        | Resource::Pieces
         | Resource::Rows
         | Resource::Lengths
         | Resource::Gone
+        | Resource::History
         | Resource::Where => RequestMethod::Get,
         Resource::Edits | Resource::Surveys | Resource::Questions => RequestMethod::Post,
     }
@@ -112,9 +114,11 @@ fn argument(resource: Resource, target: &str) -> &[u8]
         | Resource::Classes
         | Resource::Refs
         | Resource::Marks
+        | Resource::Pieces
         | Resource::Rows
         | Resource::Lengths
         | Resource::Gone
+        | Resource::History
         | Resource::Where
         | Resource::Edits
         | Resource::Surveys
@@ -128,11 +132,7 @@ fn resumes(alloc: Global, target: &str) -> Result<Option<bool>, AllocError>
     ensures { IfOk result (λ found. found ≡ resumes target.now) }
 {
     let (_, query) = split_target(target);
-    match value_of(alloc, query.as_bytes(), "resume")? {
-        None => Ok(Some(false)),
-        Some(value) if value.as_str() == "1" => Ok(Some(true)),
-        Some(_) => Ok(None),
-    }
+    switched(alloc, query.as_bytes(), "resume")
 }
 
 /// The parts of a head, and the front of what follows it.

@@ -7,7 +7,7 @@ pub static PAGE: &str = r##"<!doctype html>
 <meta charset="utf-8">
 <meta name="viewport" content="width=device-width, initial-scale=1">
 <meta name="color-scheme" content="light dark">
-<meta http-equiv="Content-Security-Policy" content="default-src 'none'; style-src 'unsafe-inline'; script-src 'sha256-aNOs8oMjdwsWpquVLzyZIU8nCp24ijQD8M53MWFmXw0='; img-src data:; connect-src 'self'; form-action 'none'; base-uri 'none'">
+<meta http-equiv="Content-Security-Policy" content="default-src 'none'; style-src 'unsafe-inline'; script-src 'sha256-Px5TZw+KMwjP7slUGQAa9MmD/K4JD3NLHhdtCq6lOnA='; img-src data:; connect-src 'self'; form-action 'none'; base-uri 'none'">
 <title>Road inventory</title>
 <link rel="icon" href="data:,">
 <style>
@@ -23,15 +23,16 @@ summary{cursor:pointer;font-weight:bold;min-height:1.5rem;}form,.buttons{display
 input,select,button{font:inherit;padding:.25rem .5rem;border:1px solid var(--field);border-radius:3px;background:var(--paper);color:var(--text);max-width:100%;min-height:1.9rem;}button{background:var(--press);cursor:pointer;}
 button:hover{background:var(--over);}:focus-visible{outline:3px solid var(--focus);outline-offset:1px;}header :focus-visible,#skip{outline-color:var(--on-head);}#skip{position:absolute;left:-100rem;}
 #skip:focus{left:.5rem;top:.5rem;z-index:2;}ul{list-style:none;margin:0;padding:0;}#results{max-height:15rem;overflow-y:auto;margin-bottom:.5rem;}li{padding:.1rem 0;}.note{font-size:.9rem;overflow-wrap:anywhere;}.note:empty{display:none;}
-.bad{padding:.3rem .5rem;border:2px solid currentColor;background:var(--bad-ground);color:var(--bad);}.short{width:9rem;}.table,.long{overflow:auto;max-height:24rem;border:1px solid var(--line);}
-.table{width:fit-content;max-width:100%;}.table:empty{border:0;}.long{scroll-padding:2.5rem 0 .5rem;}table{border-collapse:collapse;font-size:.95rem;}
+.bad{padding:.3rem .5rem;border:2px solid currentColor;background:var(--bad-ground);color:var(--bad);}.short{width:9rem;}[aria-invalid=true]{border:2px solid var(--bad);}
+.table,.long{overflow:auto;max-height:24rem;border:1px solid var(--line);}.table{width:fit-content;max-width:100%;}.table:empty{border:0;}
+.pair{display:flex;flex-wrap:wrap;gap:0 2rem;align-items:start;}.pair > *{min-width:0;}#ways h3{margin:0;}.long{scroll-padding:2.5rem 0 .5rem;}table{border-collapse:collapse;font-size:.95rem;}
 th,td{padding:.2rem .6rem;border:1px solid var(--line);text-align:left;font-weight:inherit;}thead th{position:sticky;top:0;z-index:1;background:var(--press);font-weight:bold;}
 .record th{text-transform:capitalize;vertical-align:top;}.record td{overflow-wrap:anywhere;}td.number{text-align:right;font-variant-numeric:tabular-nums;}.long table{width:100%;white-space:nowrap;}.long tbody tr{height:2rem;}
 .long tbody tr:hover{background:var(--press);}#routes tbody tr{cursor:pointer;}.name{width:9rem;}.length{width:8rem;}td.bar{padding:0 .6rem 0 0;width:70%;}.track{position:relative;height:2rem;overflow:hidden;}
 .track svg{display:block;height:45%;min-width:2px;background:var(--bar);}.track path{stroke:var(--post);stroke-width:1.5px;}.track span{position:absolute;bottom:0;font-size:.75rem;line-height:1.1rem;padding-left:1px;}
 button.plain{border:0;padding:0;background:none;font-weight:bold;min-height:1.5rem;}th[aria-sort=ascending] button::after{content:" \25b2";}th[aria-sort=descending] button::after{content:" \25bc";}
 #diagram{overflow-x:auto;border:1px solid var(--line);touch-action:pan-x pan-y;}#diagram text{fill:var(--ink);}#diagram path{stroke:var(--ink);}#diagram svg > rect{fill:var(--sheet);}#diagram .l{stroke:var(--line);}
-#diagram .t path{stroke:var(--point);}#diagram .p path{stroke:var(--piece-0);}#diagram .p path:nth-of-type(even){stroke:var(--piece-1);}
+#diagram [data-cut]{stroke:var(--ink);stroke-width:14;stroke-opacity:1;}#diagram .t path{stroke:var(--point);}#diagram .p path{stroke:var(--piece-0);}#diagram .p path:nth-of-type(even){stroke:var(--piece-1);}
 #diagram [data-mark] rect{fill:none;stroke:var(--mark);}#diagram [data-mark] text{fill:var(--mark);stroke:var(--sheet);}#diagram.moving{overflow:hidden;}
 #diagram svg{display:block;width:100%;min-width:900px;height:auto;cursor:crosshair;user-select:none;}.moving svg{cursor:grabbing;}#under{min-height:1.4em;font-size:.9rem;}
 fieldset{margin:.5rem 0;padding:.3rem .6rem .5rem;border:1px solid var(--line);max-height:14rem;overflow-y:auto;}fieldset label{flex-direction:row;gap:.3rem;align-items:center;font-size:1rem;}
@@ -92,12 +93,13 @@ fieldset{max-height:none;overflow:visible;border:0;padding:0;}.swatch,.track svg
 <label>From <input id="from" class="short" autocomplete="off"></label>
 <label>To <input id="to" class="short" autocomplete="off"></label>
 <button>Show</button></form>
+<p id="ends-said" class="note" role="status"></p>
 <p class="buttons"><button type="button" id="in">Zoom in</button> <button type="button" id="out">Zoom out</button>
 <button type="button" id="back">&#8592; Back</button> <button type="button" id="on">On &#8594;</button>
 <button type="button" id="whole">Whole route</button> <a id="plain">Plain SVG of this diagram</a></p>
 <div id="diagram" tabindex="0" role="group" aria-label="Diagram. The arrow keys move along the route, plus and minus zoom, Enter asks what lies in the middle."></div>
 <p id="under" aria-live="off"></p>
-<p class="note">Above the axis is the left side, below it the right side.<span class="hands"> A wheel or two fingers zoom, a mouse drags, a click asks what lies there.</span></p>
+<p class="note">Above the axis is the left side, below it the right side. A line parts neighbours of different values; 3&#215; are three points in one place.<span class="hands"> A wheel or two fingers zoom, a mouse drags, a click asks what lies there.</span></p>
 <fieldset><legend>Classes and values</legend><button type="button" id="all">All</button><button type="button" id="none">None</button><div id="classes"></div></fieldset>
 <p id="classes-said" class="note" role="status"></p></div>
 </section>
@@ -106,8 +108,7 @@ fieldset{max-height:none;overflow:visible;border:0;padding:0;}.swatch,.track svg
 <option value="int">proportion, as 1/3</option><option value="chainage">chainage in metres</option></select></label>
 <label>Position <input id="pos" class="short" autocomplete="off"></label> <button>Ask</button></form>
 <p id="at-said" class="note" role="status"></p>
-<div id="hits" class="table"></div>
-<div id="ways"></div>
+<div class="pair"><div id="hits" class="table"></div><div id="ways"></div></div>
 </section>
 <section id="listed" aria-labelledby="rows-title" hidden><h2 id="rows-title">Rows of this stretch</h2>
 <form id="row-filtering"><label>Words in a row <input id="row-filter" type="search" autocomplete="off"></label> <a id="csv" href="#">Save as CSV</a></form>
@@ -137,9 +138,9 @@ fieldset{max-height:none;overflow:visible;border:0;padding:0;}.swatch,.track svg
 <p id="entered-said" class="note" role="status"></p>
 <div id="entered" class="table" tabindex="0" role="region" aria-labelledby="entered-title"></div>
 </section>
-<section aria-labelledby="lost-title"><h2 id="lost-title">What was taken away of it since</h2>
-<p id="lost-said" class="note" role="status"></p>
-<div id="lost" class="long" role="region" aria-label="Parts. The arrow keys go from row to row."></div>
+<section aria-labelledby="past-title"><h2 id="past-title">What was entered of it, and taken away since</h2>
+<p id="past-said" class="note" role="status"></p>
+<div id="past" class="long" role="region" aria-label="Parts. The arrow keys go from row to row."></div>
 </section>
 </div>
 <details id="sheets" aria-label="Send a sheet"><summary>Send a sheet</summary>
@@ -163,6 +164,7 @@ function linkTo(address, text) {return make("a", text, { href: `#${address}` });
 function rowOf(cells) {const row = make("tr");for (const cell of cells) Object.assign(row.insertCell(), { className: typeof cell === "number" ? "number" : "" }).append(cell);return row;}
 function tableOf(heads, rows) {const table = make("table"), top = table.createTHead().insertRow();for (const head of heads) top.append(make("th", head, { scope: "col" }));table.createTBody().append(...rows);return table;}
 function say(id, text, isBad = false) {$(id).textContent = isBad ? `Error: ${text}` : text;$(id).classList.toggle("bad", isBad);}
+function blame(field, isWrong, told) {field.setAttribute("aria-invalid", isWrong);isWrong ? field.setAttribute("aria-describedby", told) : field.removeAttribute("aria-describedby");}
 function leaving(ids, next, work) {const wasThere = ids.some(id => $(id).contains(document.activeElement));work();if (wasThere) $(next).focus();}
 const attempt = (id, work) => work().catch(error => say(id, error.message, true));function offer(link, parts, type) {URL.revokeObjectURL(link.href);
 Object.assign(link, { hidden: false, href: URL.createObjectURL(new Blob(parts, { type })) });}
@@ -198,8 +200,10 @@ function forgetOldest() {let length = 0;for (const entry of kept.values()) lengt
 async function renew() {const health = await answer("health").catch(error => ({ error }));if (health.error || health.edits !== edits) kept.clear();edits = health.edits;if (health.error) throw health.error;return edits;}
 const metres = mm => `${Math.floor(mm / 1000)}.${String(mm % 1000).padStart(3, "0")}`;function millimetres(text) {const parts = /^(\d{1,9})(?:\.(\d{0,3}))?$/.exec(text.trim());
 return parts && Number(parts[1]) * 1000 + Number((parts[2] || "").padEnd(3, "0"));}
-function chainageOf(proportion, length) {const [n, d] = proportion.split("/").map(BigInt);return Number((2n * n * BigInt(length) + d) / (2n * d));}
-function measureAt(marks, chainage) {const behind = Math.max(marks.findIndex(([at]) => at >= chainage), 1);const [[start, low], [end, high]] = [marks[behind - 1], marks[behind]];
+function chainageOf(marks, measure, isEnd) {const [whole, rest] = measure.split("."), n = BigInt(whole + rest), d = 10n ** BigInt(rest.length);
+const behind = Math.max(marks.findIndex(([, high]) => n <= BigInt(high) * d), 1), [[start, low], [end, high]] = [marks[behind - 1], marks[behind]];const over = (n - BigInt(low) * d) * BigInt(end - start), span = BigInt(high - low) * d;
+return over < 0n || n > BigInt(high) * d ? null : start + Number(isEnd ? nearest([over, span]) : over / span);}
+const nearest = ([n, d]) => (2n * n + d) / (2n * d);function measureAt(marks, chainage) {const behind = Math.max(marks.findIndex(([at]) => at >= chainage), 1);const [[start, low], [end, high]] = [marks[behind - 1], marks[behind]];
 return [BigInt(low) * BigInt(end - start) + BigInt(chainage - start) * BigInt(high - low), BigInt(end - start)];}
 function decimal([n, d]) {const thousandths = (n * 1000n) / d, rest = String(thousandths % 1000n).padStart(3, "0");return n % d ? `${thousandths / 1000n}.${rest}` : String(n / d);}
 function proportionOf(mm, length) {let [a, b] = [mm, length];while (b) [a, b] = [b, a % b];return `${mm / a}/${length / a}`;}
@@ -207,19 +211,19 @@ function short(measure) {const [n, d] = measure.split("/");return d ? `\u2248 ${
 const counted = (count, one, more = `${one}s`) => `${count} ${count === 1 ? one : more}`;
 async function askHealth() {try {const edits = await renew();say("health", `${counted(edits, "edit")}. The program answers.`);return edits;} catch (error) {return void say("health", error.message, true);}
 }
-const METHODS = { abs: "measure", rel: "from a referent", int: "proportion", chainage: "chainage, in metres" };const ROUTE = /^[A-Z0-9][A-Z0-9-]{0,11}$/;function readAddress(text) {
+const METHODS = { abs: "measure", rel: "from a referent", int: "proportion", chainage: "chainage, in metres" };const ROUTE = /^[A-Z0-9][A-Z0-9-]{0,11}$/, PLACE = /^(?:(abs|rel|int|chainage|asset):)?(.*)$/s;function readAddress(text) {
 if (text.startsWith("route=")) return readOlder(new URLSearchParams(text));const [, kind, number] = /^(edit|asset)\/(\d{1,13})$/.exec(text) || [];if (kind) return { [kind]: number };
-const [route, ...parts] = decoded(text).split(/\/(?=(?:abs|rel|int|chainage|asset):)/);const address = { route: ROUTE.test(route) ? route : undefined };for (const part of parts) Object.assign(address, readPart(part));
+const [route, ...parts] = decoded(text).split(/\/(?=(?:abs|rel|int|chainage|asset):|\.\.)/);const address = { route: ROUTE.test(route) ? route : undefined };for (const part of parts) Object.assign(address, readPart(part));
 return route ? address : null;}
-function readPart(part) {const [, method, said] = /^(\w+):(.*)$/s.exec(part), [from, to] = said.split("..");if (method === "asset") return { asset: said };
-return to === undefined ? { place: { method, pos: said } } : { stretch: { method, from, to } };}
-function decoded(text) {try {return decodeURIComponent(text);} catch {return text;}
+function readPart(part) {const [[, method = "abs", start], [, endMethod = method, end] = []] = part.split("..").map(text => PLACE.exec(text));if (method === "asset") return { asset: start };
+return end === undefined ? { place: { method, pos: start } } : { stretch: { from: readEnd(method, start), to: readEnd(endMethod, end) } };}
+const readEnd = (method, pos) => (pos ? { method, pos } : undefined);function decoded(text) {try {return decodeURIComponent(text);} catch {return text;}
 }
 function readOlder(pairs) {const [from, to] = ["from", "to"].map(name => (/^\d+$/.test(pairs.get(name)) ? metres(Number(pairs.get(name))) : ""));
-return { route: pairs.get("route"), ...((from || to) && { stretch: { method: "chainage", from, to } }) };}
-function writeAddress({ route, stretch, place, asset, edit }) {if (!route) return edit ? `edit/${edit}` : `asset/${asset}`;let text = route;if (stretch) text += `/${stretch.method}:${stretch.from}..${stretch.to}`;
-if (place) text += `/${place.method}:${place.pos}`;return asset ? `${text}/asset:${asset}` : text;}
-const chainages = (from, to) => ({ method: "chainage", from: metres(from), to: metres(to) });
+return { route: pairs.get("route"), ...((from || to) && { stretch: { from: readEnd("chainage", from), to: readEnd("chainage", to) } }) };}
+function writeAddress({ route, stretch, place, asset, edit }) {if (!route) return edit ? `edit/${edit}` : `asset/${asset}`;let text = route;if (stretch) text += `/${written(stretch.from)}..${written(stretch.to)}`;
+if (place) text += `/${written(place)}`;return asset ? `${text}/asset:${asset}` : text;}
+const written = place => (place ? `${place.method}:${place.pos}` : "");const placeAt = mm => ({ method: "chainage", pos: metres(mm) });const stretchAt = (from, to) => ({ from: placeAt(from), to: placeAt(to) });
 const MOST_SEARCHED = 100000;const ENTERED = ["asset", "class", "route", "side", "method", "from", "to", "value", "offset"];const VERBS = {
 link: ["makes a link", "link", "length"], class: ["makes a class", "class", "kind"], route: ["makes a route", "route", "pieces", "marks"],
 ref: ["names a place on a route", "referent", "route", "method", "position"], unref: ["removes a referent", "referent"],
@@ -295,19 +299,24 @@ const first = Math.max(network.edits - LAST_EDITS + 1, 1), [log, names] = await 
 const rows = recordsOf(log).map((record, at) => rowOf([linkToEdit(first + at), record.key, record.verb, fieldsOf(record, names)]));$("edits").replaceChildren(tableOf(["Edit", "Key", "Verb", "Fields"], rows.reverse()));say("edits-said", "");
 }
 const firstRoute = () => $("routes").querySelector("tbody a");
-async function locate(route, method, pos, end) {try {if (method === "chainage") return typedChainage(pos, route.length);const found = await known("v1/translate", [["route", route.name], ["method", method], ["pos", pos], ["to", "int"]]);
-return chainageOf(found.pos, route.length);} catch (error) {throw new Error(`${end}: ${error.message}${error.cause === "OffRoute" ? ` ${extentOf(route)}` : ""}`);}
+const LEAST_MEASURES = 200, MOST_NAMED = 12;const WRITTEN = {abs: "a measure, as 3000", rel: "a referent and millimetres from it, as KM2+500", int: "a proportion from 0/1 to 1/1, as 1/3",
+chainage: "metres with at most three decimals, as 12.5",};function textOfPlace({ method, pos }, { marks, length }, end = "") {
+if (method === "abs" && /^\d{1,15}\.\d{0,9}$/.test(pos)) return String(chainageOf(marks, pos, Boolean(end)) ?? refuse("OffRoute", end));if (method !== "chainage") return `${method}:${pos}`;
+const mm = millimetres(pos) ?? refuse("Malformed", end);return mm > length ? refuse("OffRoute", end) : String(mm);}
+function refuse(name, end) {const cause = `${name}:${end}`;throw new Error(cause, { cause });}
+function whyNot(name, error, { method }, { marks, length, refs }) {const [cause] = (error.cause || "").split(":"), names = refs.slice(0, MOST_NAMED).map(ref => ref.name).join(", ");
+if (cause === "OffRoute") return `${name} lies off the route, ${method === "abs" ? `whose measures are ${marks[0][1]} to ${marks.at(-1)[1]}` : `which is ${metres(length)} m long`}.`;
+if (cause === "NoRef") return `${name} is said from a referent that is not on the route. ${names ? `It has ${names}` : "It has none"}.`;if (cause === "Malformed") return `${name} cannot be read. Write ${WRITTEN[method]}.`;
+return cause === "TooFine" ? `${name} is too fine to be found. Say it by fewer digits.` : error.message;}
+async function whatLies(route, place) {try {return await known("v1/where", [["route", route.name], ["chainage", textOfPlace(place, route)]]);} catch (error) {throw new Error(whyNot("The position", error, place, route));}
 }
-function typedChainage(text, length) {const mm = millimetres(text);if (mm === null) throw new Error("A chainage is metres with at most three decimals, as 12.5.");if (mm > length) throw new Error(`The route ends at ${metres(length)} m.`);
-return mm;}
-function extentOf({ name, length, marks }) {return `${name} has measures from ${marks[0][1]} to ${marks.at(-1)[1]}, and ${metres(length)} m.`;}
-async function whatLies(route, method, pos) {const asked = [["route", route.name], ["method", method], ["pos", pos]];const mm = method === "chainage" ? typedChainage(pos, route.length) : (await known("v1/at", asked)).at;
-return known("v1/where", [["route", route.name], ["chainage", mm]]);}
+function stretchBetween({ marks }, from, to) {const [low, high] = [from, to].map(at => nearest(measureAt(marks, at)));
+return high - low < LEAST_MEASURES ? stretchAt(from, to) : { from: { method: "abs", pos: String(low) }, to: { method: "abs", pos: String(high) } };}
 function textOf({ length, marks, refs }, method, chainage) {if (method === "abs") return decimal(measureAt(marks, chainage));if (method === "int") return proportionOf(chainage, length);if (method === "chainage") return metres(chainage);
 const near = refs.reduce((best, ref) => (best && Math.abs(best.at - chainage) <= Math.abs(ref.at - chainage) ? best : ref), undefined);return near ? `${near.name}${near.at <= chainage ? "+" : "-"}${Math.abs(chainage - near.at)}` : "";}
 function fill(field, route, method, chainage) {field.value = textOf(route, method, chainage);field.dataset.chainage = chainage;}
-function said(field, method) {const text = field.value.trim(), { chainage } = field.dataset;const asked = chainage === undefined || (method === "rel" && text) || (method === "abs" && !text.includes("."));
-return asked ? { method, pos: text } : { method: "chainage", pos: metres(Number(chainage)) };}
+function said(field, method) {const pos = field.value.trim(), { chainage } = field.dataset;const isWhole = chainage === undefined || (method === "rel" && pos) || (method === "abs" && !pos.includes("."));
+return isWhole ? pos && { method, pos } : placeAt(Number(chainage));}
 const SHAPES = /^(svg|title|style|g|path|rect|text)$/, LOOKS = /^(class|d|fill|height|role|text-anchor|transform|viewBox|width|x|y|data-[a-z]+)$/;const HARMLESS_STYLE = /^(?!.*url)[-\s\w#.,:;{}()]*$/i;const LOOK = / ([\w-]+)='([^']*)'/g;
 function pictureOf(text) {const part = /<(\/?)([a-z]+)((?: [\w-]+='[^'<>&]*')*)(\/?)>|([^<>&]+)/y;let root = null, inside = null;while (part.lastIndex < text.length) {
 const [found, closes, name, looks, isEmpty, words] = part.exec(text) || [];if (words) addWords(inside, words);else if (closes) inside = inside?.localName === name ? inside.parentNode : refusePicture();else {
@@ -322,7 +331,7 @@ const SHADES = 24;const classShades = new Map();const shade = at => `oklch(var(-
 const values = classShades.get(name) || classShades.set(name, new Map()).get(name);if (!values.has(value)) values.set(value, values.size % SHADES);return `shade-${values.get(value)}`;}
 function makeShades() {const sheet = new CSSStyleSheet();for (let at = 0; at < SHADES; at++) sheet.insertRule(`#route .shade-${at} { stroke: ${shade(at)}; stroke-opacity: 1; background: ${shade(at)}; }`);
 document.adoptedStyleSheets = [sheet];}
-const NEAR = 60, MOST_UNDER = 12, MOST_SINGLE = 1000, WIDE_COUNT = 250;const ROW = /^<path d='(M(\d+) -?\d+(?:h(\d+)|v\d+))'><title>(\d+): ([\w.-]+)<\/title><\/path>$/;
+const NEAR = 60, MOST_UNDER = 12, MOST_SINGLE = 1000, WIDE_COUNT = 250, LEAST_PARTED = 60;const ROW = /^<path d='(M(\d+) -?\d+(?:h(\d+)|v\d+))'><title>(\d+): ([\w.-]+)<\/title><\/path>$/;
 const CLASS = /^<g data-class='(?<class>\w+)' data-kind='(?<kind>\w+)'>$/, SIDE = /^<text x='40' y='\d+'>\w+ (?<side>[LR])<\/text>$/;const seen = { from: 0, to: 0, things: [] };let put;
 const shownDiagram = () => $("diagram").querySelector("svg");const across = chainage => 1000 + ((chainage - seen.from) * 10000) / (seen.to - seen.from);const chainageAt = x => seen.from + ((x - 1000) * (seen.to - seen.from)) / 10000;
 function putDiagram(text) {if (text === put && shownDiagram()) return void (shownDiagram().style.transform = "");const [shown, things] = shaded(text), svg = pictureOf(shown);
@@ -331,9 +340,12 @@ function shaded(text) {const things = [], lines = [], line = {}, isMany = text.s
 run.push({ d, x: Number(x), end: Number(x) + Number(wide || 0), asset, value, ...line });continue;}
 for (const thing of run) things.push(thing);lines.push(...shapesOf(run, isMany), part);run = [];Object.assign(line, CLASS.exec(part)?.groups, SIDE.exec(part)?.groups);}
 return [lines.join("\n"), things];}
-function shapesOf(run, isMany) {const isPoints = run[0]?.kind === "point", joined = new Map();const looks = run.map(({ class: name, value, side }) => (isPoints ? `data-side='${side}'` : `class='${shadeOf(name, value)}'`));
-if (!isMany) return run.map(({ d, asset, value }, at) => `<path ${looks[at]} d='${d}'><title>${asset}: ${value}<\/title><\/path>`).concat(isPoints ? countsOf(run) : []);
-run.forEach(({ d }, at) => (joined.get(looks[at]) || joined.set(looks[at], new Set()).get(looks[at])).add(d));return [...joined].map(([look, parts]) => `<path ${look} d='${[...parts].join("")}'/>`).concat(isPoints ? countsOf(run) : []);}
+function shapesOf(run, isMany) {const isPoints = run[0]?.kind === "point", joined = new Map(), besides = isPoints ? countsOf(run) : cutsOf(run);
+const looks = run.map(({ class: name, value, side }) => (isPoints ? `data-side='${side}'` : `class='${shadeOf(name, value)}'`));
+if (!isMany) return run.map(({ d, asset, value }, at) => `<path ${looks[at]} d='${d}'><title>${asset}: ${value}<\/title><\/path>`).concat(besides);
+run.forEach(({ d }, at) => (joined.get(looks[at]) || joined.set(looks[at], new Set()).get(looks[at])).add(d));return [...joined].map(([look, parts]) => `<path ${look} d='${[...parts].join("")}'/>`).concat(besides);}
+function cutsOf(rows) {const isWide = ({ x, end }) => end - x >= LEAST_PARTED;const cuts = rows.filter((row, at) => at && rows[at - 1].end === row.x && rows[at - 1].value !== row.value && isWide(row) && isWide(rows[at - 1]));
+return cuts.length ? [`<path data-cut='${cuts.length}' d='${cuts.map(({ x }) => `M${x} -65v130`).join("")}'/>`] : [];}
 function countsOf(points) {const counts = new Map(), texts = [];for (const { x } of points) counts.set(x, (counts.get(x) || 0) + 1);let free = 0;for (const [x, count] of counts) {if (count === 1 || x < free) continue;
 texts.push(`<text data-count='${count}' x='${x - 20}' y='-25' text-anchor='end'>${count}\u00d7<\/text>`);free = x + WIDE_COUNT;}
 return texts;}
@@ -354,9 +366,9 @@ function go(address, isGesture = false) {const now = Date.now(), target = `#${wr
 else if (target !== location.hash) history.pushState(null, "", target);lastGesture = isGesture ? now : 0;return shows(address);}
 function within(from, to, length) {const span = Math.min(Math.max(Math.round(to - from), LEAST_SPAN), length), start = Math.min(Math.max(Math.round(from), 0), length - span);return [start, start + span];}
 function showRange(from, to, isGesture) {const { length } = view.route, [start, end] = within(from, to, length), { route, place, asset } = view.address;
-return go({ route, stretch: end - start === length ? undefined : chainages(start, end), place, asset }, isGesture);}
+return go({ route, stretch: end - start === length ? undefined : stretchBetween(view.route, start, end), place, asset }, isGesture);}
 function aroundAsset(route, from, to, asset, length = Infinity) {const around = Math.max(Math.round((to - from) / 4), 5000), start = Math.max(from - around, 0), end = Math.min(to + around, length);
-return { route, stretch: start === 0 && end === length ? undefined : chainages(start, end), asset };}
+return { route, stretch: start === 0 && end === length ? undefined : stretchAt(start, end), asset };}
 const MOST_VALUES = 40;const off = new Set();const whenSwitched = [];let classes = [], legendOf;async function loadClasses(route) {
 const [lists, { lengths }] = await Promise.all([known("v1/classes"), known("v1/lengths", [["route", route]])]);if (legendOf === lengths) return;legendOf = lengths;classes = lists.classes.map(entry => entry.class);
 $("classes").replaceChildren(...lists.classes.map(({ class: name, kind }) => classItem(name, kind, lengths.filter(entry => entry.class === name))));hideClasses();}
@@ -391,79 +403,89 @@ function assetRow(row) {const { route, address } = view, link = linkTo(writeAddr
 if (address.asset === String(row.asset)) link.setAttribute("aria-current", "true");
 const made = rowOf([row.class, row.value, SIDES[row.side], short(row.from_measure), short(row.to_measure), metres(row.from), metres(row.to), link, row.offset, linkToEdit(row.entry), linkToAsset(row.asset, HISTORY)]);
 for (const at of [3, 4, 5, 6, 7, 9]) made.cells[at].className = "number";return made;}
-function saveRows() {const lines = chosen.map(row => SAVED.map(name => row[name]).join(","));$("csv").download = `${view.route.name}.csv`;offer($("csv"), [[SAVED.join(","), ...lines, ""].join("\n")], "text/csv");}
+function saveRows() {const lines = chosen.map(row => SAVED.map(name => row[`${name}_decimal`] ?? row[name]).join(","));$("csv").download = `${view.route.name}.csv`;offer($("csv"), [[SAVED.join(","), ...lines, ""].join("\n")], "text/csv");}
 whenSwitched.push(() => table && listRows());
-const MOST_WAYS = 12;let asks = 0;const markAll = () => drawMarks([...view.asset, ...view.place]);function clearPlace() {asks++;view.place = [];
-leaving(["hits", "ways"], "at-title", () => ($("hits").replaceChildren(), $("ways").replaceChildren()));say("at-said", "");}
-function askPlace({ method, pos }) {return attempt("at-said", async () => {clearPlace();const mine = asks, { route } = view;say("at-said", "The position is being asked.");const found = await whatLies(route, method, pos);
-if (mine === asks) showPlace(found, method, pos);});}
-function showPlace(found, method, pos) {const { route } = view, way = found.dir === "+" ? "along the link" : "against the link", few = found.hits.length ? "" : " No asset lies there.";
-say("at-said", `${found.route}, ${method} ${pos}: chainage ${metres(found.at)} m. Link ${found.link}, mm ${found.mm}; the route runs ${way}.${few}`);
+const MOST_REFERENTS = 4;let asks = 0;const markAll = () => drawMarks([...view.asset, ...view.place]);function clearPlace() {asks++;view.place = [];
+leaving(["hits", "ways"], "at-title", () => ($("hits").replaceChildren(), $("ways").replaceChildren()));tellPlace("");}
+function tellPlace(text, isBad = false) {say("at-said", text, isBad);blame($("pos"), isBad, "at-said");}
+async function askPlace(place) {clearPlace();const mine = asks, { route } = view;tellPlace("The position is being asked.");try {const found = await whatLies(route, place);if (mine === asks) showPlace(found, place);} catch (error) {
+if (mine !== asks) return;putPlace(place);tellPlace(error.message, true);}
+}
+function putPlace({ method, pos }) {$("method").value = method;$("pos").value = pos;delete $("pos").dataset.chainage;}
+function showPlace(found, place) {const { route } = view, way = found.dir === "+" ? "along the link" : "against the link", few = found.hits.length ? "" : " No asset lies there.";
+const measure = short(found.positions.find(position => position.method === "abs").pos);tellPlace(`${found.route}: measure ${measure}, chainage ${metres(found.at)} m. Link ${found.link}, mm ${found.mm}; the route runs ${way}.${few}`);
 if (found.hits.length) $("hits").append(tableOf(["Asset", "Class", "Value", "Side", "Offset, mm", "Edit", "Link", "mm"], found.hits.map(hit => hitRow(hit, found))));
-$("ways").append(make("h3", "The same millimetre begins at"), waysOf(found, route));if (method === "chainage") fill($("pos"), route, $("method").value, found.at);
-else Object.assign($("method"), { value: method }), ($("pos").value = pos), delete $("pos").dataset.chainage;view.place = [{ from: found.at, to: found.at + 1, text: "asked" }];markAll();}
+$("ways").append(make("h3", "The same millimetre begins at"), waysOf(found, route));place.method === "chainage" ? fill($("pos"), route, $("method").value, found.at) : putPlace(place);
+view.place = [{ from: found.at, to: found.at + 1, text: "asked" }];markAll();}
 function hitRow(hit, found) {const link = linkTo(writeAddress({ ...view.address, asset: hit.asset }), hit.asset);link.title = "Mark this asset";
 return rowOf([link, hit.class, hit.value, SIDES[hit.side] || hit.side, hit.offset, linkToEdit(hit.entry), found.link, found.mm]);}
-function waysOf({ at, link, mm, positions }, { name }) {const list = make("ul", "", { className: "ways" }), distance = ({ method, pos }) => (method === "rel" ? Number(/\d+$/.exec(pos)[0]) : -1);
-const ways = [...positions].sort((a, b) => distance(a) - distance(b)).slice(0, MOST_WAYS);for (const { method, pos } of [{ method: "chainage", pos: metres(at) }, ...ways]) {
-const item = make("li", `${METHODS[method]}: `), canBeAsked = method !== "abs" || !pos.includes("/");item.append(canBeAsked ? linkTo(writeAddress({ route: name, place: { method, pos } }), pos) : `${pos} (${short(pos)})`);list.append(item);}
+function waysOf({ at, link, mm, positions }, { name }) {const list = make("ul", "", { className: "ways" }), distance = ({ pos }) => Number(/\d+$/.exec(pos)[0]);
+const [measures, referents, others] = ["abs", "rel", "int"].map(method => positions.filter(position => position.method === method));referents.sort((a, b) => distance(a) - distance(b));
+for (const { method, pos } of [...measures, ...referents.slice(0, MOST_REFERENTS), placeAt(at), ...others]) {const item = make("li", `${METHODS[method]}: `), canBeAsked = method !== "abs" || !pos.includes("/");
+item.append(canBeAsked ? linkTo(writeAddress({ route: name, place: { method, pos } }), pos) : `${pos} (${short(pos)})`);list.append(item);}
 list.append(make("li", `on link ${link}: ${mm} mm`));return list;}
-function askTyped() {const place = said($("pos"), $("method").value);return place.pos ? go({ ...view.address, place }) : say("at-said", "Type a position.", true);}
-const askChainage = mm => go({ ...view.address, place: { method: "chainage", pos: metres(mm) } });async function askClick(event) {const x = shownDiagram() ? unitsAt(event) : 0;if (x < 950 || x > 11050) return;
+function askTyped() {const place = said($("pos"), $("method").value);return place ? go({ ...view.address, place }) : tellPlace("Type a position.", true);}
+const askChainage = mm => go({ ...view.address, place: placeAt(mm) });async function askClick(event) {const x = shownDiagram() ? unitsAt(event) : 0;if (x < 950 || x > 11050) return;
 const clicked = Math.floor(chainageAt(x)), tick = event.target.closest("g[data-kind=point] .t path"), point = tick && pointNear(tick, x);
 return askChainage((point && (await placeOfPoint(point, clicked))) ?? Math.min(Math.max(clicked, seen.from), seen.to - 1));}
 async function placeOfPoint({ asset }, clicked) {const { rows } = await known("v1/find", [["asset", asset]]);const near = rows.filter(row => row.route === view.route.name).map(row => row.from);
 return near.sort((a, b) => Math.abs(a - clicked) - Math.abs(b - clicked))[0];}
-const PARTS = ["view", "asked", "listed"];let shown = 0;async function showRoute(address) {const isNew = !view.route || view.route.name !== address.route;$("route-title").textContent = document.title = `Route ${address.route}`;
-say("route-said", "The diagram is being drawn.");if (isNew) leaveRoute();const mine = ++shown;try {const drawn = await drawingOf(address, isNew);if (mine === shown) putRoute(address, drawn, isNew);} catch (error) {
-if (mine !== shown) return;leaving(PARTS, "route-title", leaveRoute);say("route-said", error.message, true);}
+const PARTS = ["view", "asked", "listed"], ENDS = { from: "From", to: "To" }, DRAWN = / data-from='(\d+)' data-to='(\d+)'/;let shown = 0;async function showRoute(address) {const isNew = !view.route || view.route.name !== address.route;
+$("route-title").textContent = document.title = `Route ${address.route}`;say("route-said", "The diagram is being drawn.");if (isNew) leaveRoute();const mine = ++shown;try {if (isNew) await askHealth();
+const drawing = await drawingOf(address);if (mine === shown) putRoute(address, drawing, isNew);} catch (error) {if (mine !== shown) return;leaving(PARTS, "route-title", leaveRoute);say("route-said", error.message, true);}
 }
 function leaveRoute() {shown++;Object.assign(view, { route: null, address: {}, asset: [] });clearPlace();$("pos").value = "";for (const id of PARTS) $(id).hidden = true;}
-async function drawingOf({ route: name, stretch }, isNew) {if (isNew) await askHealth();const route = await known(`v1/route/${name}`), drawing = { route, from: 0, to: route.length };
-if (stretch) await endsOf(route, stretch, stretch).then(([from, to]) => Object.assign(drawing, { from, to }), refusal => Object.assign(drawing, { refusal }));const text = known("v1/diagram", [["route", name], ...rangeOf(drawing)], get);
-rowsOf(drawing).catch(() => {});return { ...drawing, text: await text };}
-async function endsOf(route, { from, to }, { method, fromMethod = method, toMethod = method }) {
-const [start, end] = await Promise.all([from ? locate(route, fromMethod, from, "From") : 0, to ? locate(route, toMethod, to, "To") : route.length]);
-if (start >= end) throw new Error(`From must be before To: they are at ${metres(start)} m and ${metres(end)} m.`);return [start, end];}
-function putRoute(address, { route, from, to, text, refusal }, isNew) {const before = view.address;Object.assign(view, { route, address, from, to });for (const id of PARTS) $(id).hidden = false;putDiagram(text);fillEnds();
-tellStretch(refusal);hideClasses();markAll();attempt("classes-said", () => loadClasses(route.name));attempt("rows-said", loadRows);attempt("route-said", () => markAsset(address.asset));
+async function drawingOf({ route: name, stretch }) {const route = await known(`v1/route/${name}`), picture = pictureFor(route, stretch);rowsOf({ route, from: 0, to: route.length }).catch(() => {});try {return { route, ...(await picture) };
+} catch (refusal) {if (!refusal.end) throw refusal;return { route, ...(await pictureFor(route)), refusal };}
+}
+async function pictureFor(route, stretch = {}) {const ends = Object.keys(ENDS).filter(end => stretch[end]);try {
+const pairs = ends.map(end => [end, textOfPlace(stretch[end], route, end)]), text = await known("v1/diagram", [["route", route.name], ...pairs], get);const [, from, to] = DRAWN.exec(text) || [];
+return { text, from: Number(from), to: Number(to) };} catch (error) {const end = ends.find(name => error.cause?.endsWith(`:${name}`));if (end) throw Object.assign(new Error(whyNot(ENDS[end], error, stretch[end], route)), { end });
+throw error.cause === "OffRoute" ? Object.assign(new Error("From must lie before To."), { end: ends.at(-1) }) : error;}
+}
+function putRoute(address, { route, from, to, text, refusal }, isNew) {const before = view.address;putDiagram(text);Object.assign(view, { route, address, from, to });for (const id of PARTS) $(id).hidden = false;tellStretch(refusal);
+fillEnds(refusal);hideClasses();markAll();attempt("classes-said", () => loadClasses(route.name));attempt("rows-said", loadRows);attempt("route-said", () => markAsset(address.asset));
 if (address.asset && address.asset !== before.asset) $("diagram").scrollIntoView({ block: "nearest" });if (!address.place) clearPlace(), markAll();
 else if (isNew || JSON.stringify(before.place) !== JSON.stringify(address.place)) askPlace(address.place);}
-function tellStretch(refusal) {const { route, from, to, address: { stretch } } = view;const measures = ["from", "to"].map(end => (stretch?.method === "abs" && stretch[end]) || textOf(route, "abs", view[end]));
-if (refusal) say("route-said", `${refusal.message} The whole route is shown.`, true);else say("route-said", `From ${metres(from)} m to ${metres(to)} m of ${metres(route.length)} m: measures ${measures[0]} to ${measures[1]}.`);}
-function fillEnds() {const { stretch } = view.address;if (stretch && stretch.method !== "chainage") $("by").value = stretch.method;for (const end of ["from", "to"]) {fill($(end), view.route, $("by").value, view[end]);
-if (stretch?.method !== $("by").value || !stretch[end]) continue;$(end).value = stretch[end];delete $(end).dataset.chainage;}
+function tellStretch(refusal) {const { route, from, to, address: { stretch } } = view;const measures = ["from", "to"].map(end => (!refusal && stretch?.[end]?.method === "abs" ? stretch[end].pos : textOf(route, "abs", view[end])));
+const told = `Measures ${measures[0]} to ${measures[1]}: from ${metres(from)} m to ${metres(to)} m of ${metres(route.length)} m.`;say("route-said", refusal ? `The whole route is shown. ${told}` : told);tellEnds(refusal);}
+function tellEnds(refusal) {say("ends-said", refusal ? refusal.message : "", Boolean(refusal));for (const end of Object.keys(ENDS)) blame($(end), refusal?.end === end, "ends-said");}
+function fillEnds(refusal) {const { stretch = {} } = view.address, methods = [refusal?.end, "from", "to"].map(end => stretch[end]?.method);
+$("by").value = methods.find(method => method && (refusal || method !== "chainage")) || $("by").value;for (const end of Object.keys(ENDS)) {fill($(end), view.route, $("by").value, view[end]);
+if (stretch[end]?.method !== $("by").value) continue;$(end).value = stretch[end].pos;delete $(end).dataset.chainage;}
 }
-function changeMethod(select, fields) {for (const field of fields) {const { chainage } = field.dataset, at = chainage === undefined ? view[field.id] ?? view.place[0]?.from : Number(chainage);
+function changeMethod(select, fields) {tellEnds();for (const field of fields) {const { chainage } = field.dataset, at = chainage === undefined ? view[field.id] ?? view.place[0]?.from : Number(chainage);
 if (at !== undefined) fill(field, view.route, select.value, at);}
 }
-async function showTyped() {const { route, address } = view, method = $("by").value, [from, to] = ["from", "to"].map(end => said($(end), method));
-const [start, end] = await endsOf(route, { from: from.pos, to: to.pos }, { fromMethod: from.method, toMethod: to.method });
-const isOne = from.method === to.method, stretch = isOne ? { method: from.method, from: from.pos, to: to.pos } : chainages(start, end);return go({ ...address, stretch: start === 0 && end === route.length ? undefined : stretch });}
+async function showTyped() {const { route, address } = view, [from, to] = Object.keys(ENDS).map(end => said($(end), $("by").value) || undefined), stretch = { from, to };tellEnds();try {
+const found = await pictureFor(route, stretch), isWhole = found.from === 0 && found.to === route.length;if (view.route === route) await go({ ...address, stretch: isWhole ? undefined : stretch });} catch (refusal) {
+if (!refusal.end) throw refusal;tellEnds(refusal);$(refusal.end).focus();}
+}
 async function markAsset(asset) {view.asset = [];if (asset) {const { route } = view, { rows } = await known("v1/find", [["asset", asset]]);if (view.route !== route) return;
 view.asset = rows.filter(row => row.route === route.name).map(({ from, to }) => ({ from, to, text: `asset ${asset}` }));}
 markAll();}
-const PART = ["Link", "From, mm", "To, mm", "Side of the link"];const PLACES = ["Route", "Side", "From measure", "To measure", "From, m", "To, m", "Offset, mm"];let taken, lost, turn = 0;
+const PART = ["Link", "From, mm", "To, mm", "Side of the link"];const PLACES = ["Route", "Side", "From measure", "To measure", "From, m", "To, m", "Offset, mm"];let taken, past, turn = 0;
 const partOf = ({ link, from, to, side }) => [link, from, to, SIDES[side]];const takenRow = part => rowOf([part.reason, linkToAsset(part.asset), part.class, part.value, ...partOf(part)]);
-const lostRow = part => rowOf([part.reason, linkToEdit(part.edit), ...partOf(part)]);function clear(parts, tables) {const mine = ++turn;for (const id of parts) $(id).replaceChildren();for (const table of tables) table.show([]);
-return (id, asking, showing) => {if (mine === turn) say(`${id}-said`, "It is being asked.");return asking.then(found => mine === turn && showing(found)).catch(error => mine === turn && say(`${id}-said`, error.message, true));};}
+const pastRow = part => rowOf([part.event, linkToEdit(part.edit), part.key, part.verb, ...partOf(part)]);function clear(parts, tables) {const mine = ++turn;for (const id of parts) $(id).replaceChildren();
+for (const table of tables) table.show([]);return (id, asking, showing) => {if (mine === turn) say(`${id}-said`, "It is being asked.");
+return asking.then(found => mine === turn && showing(found)).catch(error => mine === turn && say(`${id}-said`, error.message, true));};}
 async function showEdit({ edit }) {taken ||= new LongTable($("taken"), headsOf(["Why", "Asset", "Class", "Value", ...PART]), takenRow);const shows = clear(["record", "beside"], [taken]);
 $("edit-title").textContent = document.title = `Edit ${edit}`;const edits = await askHealth();return Promise.all([
 shows("edit", Promise.all([recordAt(edit), routeNames()]), found => showRecord(Number(edit), edits, ...found)),shows("taken", known("v1/gone", [["edit", edit]]), ({ gone }) => {taken.show(gone);
 say("taken-said", gone.length ? `${counted(gone.length, "part")}.` : "It took nothing away.");}),]);}
 function showRecord(edit, edits, record, names) {say("edit-said", edits ? `Of ${counted(edits, "edit")}.` : "");$("record").replaceChildren(recordTable(record, names));
 if (edit > 1) $("beside").append(linkToEdit(edit - 1, `Edit ${edit - 1}`));if (edit < edits) $("beside").append(linkToEdit(edit + 1, `Edit ${edit + 1}`));}
-async function showAsset({ asset }) {lost ||= new LongTable($("lost"), headsOf(["Why", "By edit", ...PART]), lostRow);const shows = clear(["lies", "entered"], [lost]);$("asset-title").textContent = document.title = `Asset ${asset}`;
-const edits = await askHealth(), rows = known("v1/rows", [["asset", asset]]);return Promise.all([
+async function showAsset({ asset }) {past ||= new LongTable($("past"), headsOf(["What", "Edit", "Key", "Verb", ...PART]), pastRow);const shows = clear(["lies", "entered"], [past]);
+$("asset-title").textContent = document.title = `Asset ${asset}`;await askHealth();const rows = known("v1/rows", [["asset", asset]]), events = known("v1/history", [["asset", asset]]);return Promise.all([
 shows("asset", Promise.all([rows, known("v1/routes")]), ([found, { routes }]) => showPlaces(found.rows, new Map(routes.map(route => [route.name, route.length])))),
-shows("entered", Promise.all([rows.then(found => entryOf(asset, found.rows, edits)), routeNames()]), ([found, names]) => showEntry(found, names)),shows("lost", rows.then(() => known("v1/gone")), ({ gone }) => showLost(asset, gone)),]);}
+shows("entered", Promise.all([events.then(found => entryOf(found.history)), routeNames()]), ([found, names]) => showEntry(found, names)),shows("past", events, found => showPast(found.history)),]);}
 function showPlaces(rows, lengths) {const [row] = rows, holds = rows.length === 1 ? "one stretch" : `${rows.length} stretches`;say("asset-said", row ? `${row.class} ${row.value}. It holds ${holds} today.` : "It lies on no route today.");
 if (row) $("lies").replaceChildren(tableOf(PLACES, rows.map(found => heldRow(found, lengths.get(found.route)))));}
 function heldRow({ route, from, to, from_measure: start, to_measure: end, side, asset, offset }, length) {const link = linkTo(writeAddress(aroundAsset(route, from, to, asset, length)), route);
 const row = rowOf([link, SIDES[side], short(start), short(end), metres(from), metres(to), offset]);for (const cell of [...row.cells].slice(2)) cell.className = "number";return row;}
-async function entryOf(asset, rows, edits = 0) {if (rows.length) return { edit: rows[0].entry, record: await recordAt(rows[0].entry) };return findEdit(edits, (_, verb, first) => first === asset && /^(enter|supersede)$/.test(verb));}
-function showEntry({ edit, record, within }, names) {say("entered-said", edit ? "" : `No edit entered it${within}.`);if (edit) $("entered").replaceChildren(recordTable(record, names, edit));}
-function showLost(asset, gone) {const parts = gone.filter(part => String(part.asset) === asset);lost.show(parts);say("lost-said", `${counted(parts.length, "part")}. In all ${counted(gone.length, "part is", "parts are")} gone.`);}
+async function entryOf([first]) {return { edit: first.edit, record: await recordAt(first.edit) };}
+function showEntry({ edit, record }, names) {say("entered-said", "");$("entered").replaceChildren(recordTable(record, names, edit));}
+function showPast(parts) {const gone = parts.filter(part => part.event !== "entered").length;past.show(parts);say("past-said", `${counted(parts.length - gone, "part")} entered, ${gone} taken away since.`);}
 const MOST_FOUND = 200;const upper = text => text.toUpperCase();const KINDS = { asset: findAsset, value: findValue, class: findClass, key: findKey, ref: findRef, route: findRoute };function search() {
 const kind = $("kind").value, text = $("wanted").value.trim();$("found").hidden = false;$("results").replaceChildren();say("find-said", "It is being sought.");return attempt("find-said", async () => {
 const edits = await askHealth(), { told, found = [], itemOf } = await KINDS[kind](text, edits);$("results").replaceChildren(...found.slice(0, MOST_FOUND).map(entry => itemOf(entry)));

@@ -25,7 +25,7 @@ use Rattle.lrs_report_answers.specs.Answers.{IsRouteIn}
 use Rattle.lrs_report_answers.proofs.Asked.{route_in}
 use Rattle.lrs_machine.specs.declared.absence.Missing.TheVariants.{Link as NoLink, Place as NoPlace}
 use Rattle.lrs_report_answers.specs.Place.Laws.{LinksLeadBack}
-use Rattle.lrs_report_answers.specs.Place.Places.{Place, place_within, place_over, place_along}
+use Rattle.lrs_report_answers.specs.Place.Places.{Spot, place_within, place_over, place_along, unless_missing}
 
 -- ---- the route
 
@@ -110,7 +110,8 @@ leads_back i sound e chainage g known h =
     let l = on_link i.links g (links_in_order i sound) (all_at (is_on_a_link i.links) g e.route.course it.on_links (in_course e.route.course chainage g h)) in
     let inside = l.inside in
     let mm : min g.mm (l.link.length - 1) ≡ g.mm = omega (arith, inside) in
-    ap (λ (o : Option Link). option_map_or (λ (x : Link). place_along i x g.mm) o (Err NoLink)) l.found
+    ap unless_missing
+    (ap (λ (o : Option Link). option_map_or (λ (x : Link). place_along i x g.mm) o (Err NoLink)) l.found
     ∙ ap (λ (b : Bool). cond b (Err NoPlace) (ok_or (place_over i (l.link.number, min g.mm (l.link.length - 1))) NoPlace)) (le-ltb l.link.length g.mm (omega (arith, inside)))
     ∙ (λ j. ok_or (place_over i (l.number j, mm j)) NoPlace)
-    ∙ ap (λ (o : Option Place). ok_or o NoPlace) (place_of_entry i e chainage g sound known h)
+    ∙ ap (λ (o : Option Spot). ok_or o NoPlace) (place_of_entry i e chainage g sound known h))

@@ -14,7 +14,6 @@ use Rattle.lrs_machine.specs.Image.{state_of}
 use Rattle.lrs_report_answers.specs.Answers.{StandsAt, UnlessMemory}
 use Rattle.lrs_report_answers.specs.declared.places.answer.Whereabouts.{Whereabouts}
 use Rattle.lrs_report_answers.specs.declared.fault.AskFault.{AskFault}
-use Rattle.lrs_report_answers.specs.declared.fault.AskFault.TheVariants.{Missing}
 use Rattle.lrs_machine.specs.declared.question.AskedPlace.{AskedPlace}
 use Rattle.lrs_report_answers.specs.Place.Places.{place_of}
 
@@ -34,4 +33,4 @@ pub record IsThere (i : Image) (e : RouteRow) (chainage : ℕ) (w : Whereabouts)
 
 -- The answer is what is at the place of a spot, or why the spot has no place.
 abbrev pub IsWhereabouts : Image → AskedPlace → Result Whereabouts AskFault → Type 0
-IsWhereabouts i spot result = MatchResult (place_of i spot) (λ place. UnlessMemory (IsThere i place.0 place.1) result) (λ what. result ≡ Err (Missing what))
+IsWhereabouts i spot result = MatchResult (place_of i spot) (λ place. UnlessMemory (IsThere i place.0 place.1) result) (λ fault. result ≡ Err fault)

@@ -2,34 +2,58 @@
 
 ghost use Rattle.std.specs.Prelude.{◌≡◌, Ok, Err, length, nat_eq, IfOk, IfErr};
 ghost use Rattle.std.specs.List.{find};
-ghost use Rattle.lrs_report_answers.specs.Place.Places.{place_along, place_of, place_on_link, place_on_route};
+ghost use Rattle.lrs_machine.specs.declared.question.Place.TheVariants.{Position};
+ghost use Rattle.lrs_report_answers.specs.Place.Places.{place_along, place_of, place_on_link, spot_at, spot_on_route};
 
+use crate::fault::AskFault;
 use crate::places::ground::place_over;
+use crate::position::cell_of;
 use lrs_element::Link;
 use lrs_inventory::Inventory;
-use lrs_machine::{AskedPlace, Missing, RouteRow};
-use lrs_position::RouteName;
+use lrs_machine::{AskedPlace, Missing, Place, RouteRow};
+use lrs_position::{Expr, RouteName};
 
-/// A chainage of the route of a name, which is found by search.
-fn place_on_route<'a>(
+/// The millimetre of a route that a position stands in.
+fn millimetre_at(row: &RouteRow, position: Expr) -> Result<u64, AskFault>
+    ensures ok { IfOk result (λ at. spot_at (Position position) row.now ≡ Ok (row.now, at)) }
+    ensures err { IfErr result (λ fault. spot_at (Position position) row.now ≡ Err fault) }
+{
+    match cell_of(row, position) {
+        Ok(at) => Ok(at),
+        Err(fault) => Err(AskFault::Place(fault)),
+    }
+}
+
+/// The chainage of a place of a route.
+fn chainage_at(row: &RouteRow, place: Place) -> Result<u64, AskFault>
+    ensures ok { IfOk result (λ chainage. spot_at place row.now ≡ Ok (row.now, chainage)) }
+    ensures err { IfErr result (λ fault. spot_at place row.now ≡ Err fault) }
+{
+    match place {
+        Place::Chainage(chainage) => {
+            if chainage > row.route.length() {
+                return Err(AskFault::Missing(Missing::Place));
+            }
+            Ok(chainage)
+        }
+        Place::Position(position) => millimetre_at(row, position),
+    }
+}
+
+/// A place of the route of a name, which is found by search.
+fn spot_on_route<'a>(
     inventory: &'a Inventory,
     route: &RouteName,
-    chainage: u64,
-) -> Result<(&'a RouteRow, u64), Missing>
-    ensures ok { IfOk result (λ place. place_on_route inventory.now route.now chainage
-        ≡ Ok (place.0.now, place.1)) }
-    ensures err { IfErr result (λ missing. place_on_route inventory.now route.now chainage
-        ≡ Err missing) }
+    place: Place,
+) -> Result<(&'a RouteRow, u64), AskFault>
+    ensures ok { IfOk result (λ spot. spot_on_route inventory.now route.now place
+        ≡ Ok (spot.0.now, spot.1)) }
+    ensures err { IfErr result (λ fault. spot_on_route inventory.now route.now place
+        ≡ Err fault) }
 {
     match inventory.route(route) {
-        Some(row) => {
-            if chainage > row.route.length() {
-                Err(Missing::Place)
-            } else {
-                Ok((row, chainage))
-            }
-        }
-        None => Err(Missing::Route),
+        Some(row) => Ok((row, chainage_at(row, place)?)),
+        None => Err(AskFault::Missing(Missing::Route)),
     }
 }
 
@@ -72,13 +96,19 @@ fn place_on_link(inventory: &Inventory, number: u32, mm: u64) -> Result<(&RouteR
 /// The route of a spot, and the chainage that is meant.
 ///
 /// # Errors
-/// The first of the route, the link and the place that is missing.
-pub(crate) fn place_of(inventory: &Inventory, spot: AskedPlace) -> Result<(&RouteRow, u64), Missing>
+/// The first of the route, the link and the place that is missing; `Place` where a position locates nothing on its route.
+pub(crate) fn place_of(
+    inventory: &Inventory,
+    spot: AskedPlace,
+) -> Result<(&RouteRow, u64), AskFault>
     ensures ok { IfOk result (λ place. place_of inventory.now spot ≡ Ok (place.0.now, place.1)) }
-    ensures err { IfErr result (λ missing. place_of inventory.now spot ≡ Err missing) }
+    ensures err { IfErr result (λ fault. place_of inventory.now spot ≡ Err fault) }
 {
     match spot {
-        AskedPlace::OnRoute { route, chainage } => place_on_route(inventory, &route, chainage),
-        AskedPlace::OnLink { link, mm } => place_on_link(inventory, link, mm),
+        AskedPlace::OnRoute { route, place } => spot_on_route(inventory, &route, place),
+        AskedPlace::OnLink { link, mm } => match place_on_link(inventory, link, mm) {
+            Ok(spot) => Ok(spot),
+            Err(missing) => Err(AskFault::Missing(missing)),
+        },
     }
 }

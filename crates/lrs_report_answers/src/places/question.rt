@@ -10,14 +10,15 @@ use lrs_inventory::Inventory;
 use lrs_machine::AskedPlace;
 use std::alloc::{AllocError, Global};
 
-/// What is at a chainage of a route, or at a millimetre of a link, where it is asked for as the route that runs over it: the
+/// What is at a place of a route, or at a millimetre of a link, where it is asked for as the route that runs over it: the
 /// millimetre of the route and of the link, who holds it, and the chainage by every method.
 ///
 /// Routes and links are found by search, and the route of a millimetre by the index of ground.
 ///
 /// # Errors
 /// `Missing` of the route where none has the name, of the link where none has the number, then of the place behind the end of
-/// the route or of the link and where no route runs over the millimetre, and `Memory`.
+/// the route or of the link and where no route runs over the millimetre; `Place` where a position locates nothing on its
+/// route; and `Memory`.
 pub fn whereabouts(
     alloc: Global,
     inventory: &Inventory,
@@ -33,6 +34,6 @@ pub fn whereabouts(
             Ok(found) => Ok(found),
             Err(AllocError) => Err(AskFault::Memory),
         },
-        Err(missing) => Err(AskFault::Missing(missing)),
+        Err(fault) => Err(fault),
     }
 }

@@ -5,4 +5,4 @@ use Rattle.lrs_report_lists.specs.Lines.{ref_line}
 use Rattle.lrs_report_lists.proofs.referents.write_refs_on.Given as goal
 
 abbrev pub invariant-loop-referent : goal.invariant-loop-referent
-invariant-loop-referent g l = Appends (g.W.Write.contents l.fn.writer) (g.W.Write.contents l.writer) (flat_map (ref_line l.route) (take l.referent-index l.refs))
+invariant-loop-referent g l = Appends (g.W.Write.contents l.fn.writer) (g.W.Write.contents l.writer) (flat_map (ref_line l.exact l.route) (take l.referent-index l.refs))

@@ -9,4 +9,4 @@ returns g c =
     let from = g.W.Write.contents c.write_measure.new.writer in
     let comma = g.W.Write.contents c.write_all.new.self in
     let one = appends_more start from comma _ _ c.in_ok-write_measure.ensures c.in_ok-write_all.ensures.bytes in
-    appends_last c.write_measure-2.result start comma (g.W.Write.contents c.write_measure-2.new.writer) _ _ (measures_part c.args.route.now c.args.row.now) one c.write_measure-2.ensures (simp append_assoc)
+    appends_last c.write_measure-2.result start comma (g.W.Write.contents c.write_measure-2.new.writer) _ _ (measures_part c.args.exact c.args.route.now c.args.row.now) one c.write_measure-2.ensures (simp append_assoc)

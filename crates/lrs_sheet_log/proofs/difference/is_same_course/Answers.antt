@@ -1,6 +1,6 @@
 use Rattle.std.specs.Prelude.{IsTrue}
 use Rattle.lrs_sheet_log.proofs.Each.{each-equal}
-use Rattle.lrs_sheet_log.proofs.Pieces.{courses-same}
+use Rattle.lrs_report_lists.proofs.FewestPieces.{courses-same}
 use Rattle.lrs_sheet_log.proofs.difference.is_same_course.Goals as goal
 
 pub returns : goal.returns

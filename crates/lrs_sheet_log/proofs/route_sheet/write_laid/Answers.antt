@@ -2,10 +2,11 @@ use Rattle.std.proofs.Common.{◌++◌, [], ◌∷◌, List, ℕ, codes, subst}
 use Rattle.std.specs.Io.KnownBytes.{Appends}
 use Rattle.lrs_element.specs.declared.link.Piece.{Piece}
 use Rattle.lrs_machine.specs.Lines.{marks_text, pieces_text}
-use Rattle.lrs_sheet_log.proofs.CoursePieces.{are-pieces}
+use Rattle.lrs_report_lists.proofs.CoursePieces.{are-pieces}
+use Rattle.lrs_report_lists.specs.CoursePieces.{pieces_of}
 use Rattle.lrs_sheet_log.proofs.RouteTexts.{laid-text}
 use Rattle.lrs_sheet_log.proofs.Written.{appends-last, appends-more}
-use Rattle.lrs_sheet_log.specs.RouteSheets.{command_line, laid, pieces_of}
+use Rattle.lrs_sheet_log.specs.RouteSheets.{command_line, laid}
 use Rattle.lrs_sheet_log.proofs.route_sheet.write_laid.Goals as goal
 
 pub returns : goal.returns

@@ -4,11 +4,11 @@ use Rattle.std.specs.Io.KnownBytes.{Appends}
 use Rattle.lrs_position.specs.declared.route.Route.{Route}
 use Rattle.lrs_machine.specs.declared.image.Image.{Image}
 use Rattle.lrs_machine.specs.declared.question.Listing.{Listing}
+use Rattle.lrs_machine.specs.declared.question.RowsWanted.{RowsWanted}
 use Rattle.lrs_machine.specs.declared.total.Total.{Total}
 use Rattle.lrs_report.specs.declared.diagrams.diagram.Diagram.{Diagram}
 use Rattle.lrs_report_lists.specs.declared.length_lists.table.ValueLength.{ValueLength}
 use Rattle.lrs_report_lists.proofs.Writing.{appends_none}
-use Rattle.lrs_report_answers.specs.declared.places.answer.Whereabouts.{Whereabouts}
 use Rattle.lrs_report_answers.specs.declared.told.Told.{Told}
 use Rattle.lrs_report_answers.specs.declared.told.Told.TheVariants as told
 use Rattle.lrs_sheet_questions.specs.Lines.{told_lines}
@@ -16,14 +16,14 @@ use Rattle.lrs_sheet_questions.proofs.lines.write_told.Goals as goal
 
 -- what no sheet asks is told in no line
 untold : (key : List ℕ) (t : Told)
-    → ((x : Route) × (t ≡ told.Route x)) ⊎ ((x : Diagram) × (t ≡ told.Diagram x)) ⊎ ((x : List Total) × (t ≡ told.Totals x)) ⊎ ((x : Whereabouts) × (t ≡ told.Where x))
-    ⊎ ((x : List ValueLength) × (t ≡ told.Lengths x)) ⊎ ((x : Listing) × (y : Bor Image) × (t ≡ told.Listing x y)) ⊎ ((x : ℕ) × (t ≡ told.Health x))
+    → ((x : Route) × (t ≡ told.Route x)) ⊎ ((x : Diagram) × (t ≡ told.Diagram x)) ⊎ ((x : List Total) × (t ≡ told.Totals x)) ⊎ ((x : List ValueLength) × (t ≡ told.Lengths x))
+    ⊎ ((x : RowsWanted) × (y : Bor Image) × (t ≡ told.Rows x y)) ⊎ ((x : Listing) × (y : Bor Image) × (t ≡ told.Listing x y)) ⊎ ((x : ℕ) × (t ≡ told.Health x))
     → told_lines key t ≡ []
 untold key t (inl (x, is)) = ap (told_lines key) is
 untold key t (inr (inl (x, is))) = ap (told_lines key) is
 untold key t (inr (inr (inl (x, is)))) = ap (told_lines key) is
 untold key t (inr (inr (inr (inl (x, is))))) = ap (told_lines key) is
-untold key t (inr (inr (inr (inr (inl (x, is)))))) = ap (told_lines key) is
+untold key t (inr (inr (inr (inr (inl (x, y, is)))))) = ap (told_lines key) is
 untold key t (inr (inr (inr (inr (inr (inl (x, y, is))))))) = ap (told_lines key) is
 untold key t (inr (inr (inr (inr (inr (inr (x, is))))))) = ap (told_lines key) is
 

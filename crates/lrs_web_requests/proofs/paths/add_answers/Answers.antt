@@ -11,4 +11,5 @@ returns c =
     let i4 = c.in_ok-insert-4.ensures in
     let i5 = c.in_ok-insert-5.ensures in
     let i6 = c.in_ok-insert-6.ensures in
-    rw (i6.1, i5.1, i4.1, i3.1, i2.1, i1.1)
+    let i7 = c.in_ok-insert-7.ensures in
+    rw (i7.1, i6.1, i5.1, i4.1, i3.1, i2.1, i1.1)

@@ -13,4 +13,5 @@ returns c =
     let i6 = c.in_ok-insert-6.ensures in
     let i7 = c.in_ok-insert-7.ensures in
     let i8 = c.in_ok-insert-8.ensures in
-    rw (i8.1, i7.1, i6.1, i5.1, i4.1, i3.1, i2.1, i1.1)
+    let i9 = c.in_ok-insert-9.ensures in
+    rw (i9.1, i8.1, i7.1, i6.1, i5.1, i4.1, i3.1, i2.1, i1.1)

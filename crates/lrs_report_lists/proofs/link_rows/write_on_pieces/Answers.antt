@@ -1,0 +1,61 @@
+use Rattle.std.proofs.Common.{Bor, ◌≡◌, ◌+◌, ◌∙◌, ◌++◌, false, refl, ap, sym, get_or, arith}
+use Rattle.std.specs.Prelude.{ℕ}
+use Rattle.std.specs.List.{flat_map}
+use Rattle.std.specs.Option.{option_map}
+use Rattle.lrs_element.specs.Pieces.{piece_len}
+use Rattle.lrs_element.specs.declared.link.Piece.{Piece}
+use Rattle.lrs_events.specs.declared.class.Asset.{Asset}
+use Rattle.lrs_report_lists.specs.LinkRows.{on_piece_text}
+use Rattle.lrs_report_lists.specs.PlacedPieces.{placed_from}
+use Rattle.lrs_report_lists.proofs.Placed.{filled_next, text_end, text_from, text_next}
+use Rattle.lrs_report_lists.proofs.Writing.{leads_end, leads_first, leads_next}
+use Rattle.lrs_report_lists.proofs.link_rows.write_on_pieces.Goals as goal
+
+abbrev no_piece : Piece
+no_piece = record { link = 0; from = 0; to = 0; forward = false }
+
+pub loop-piece-init : goal.loop-piece-init
+loop-piece-init g c =
+    let line = on_piece_text (option_map (λ (a : Bor Asset). a.now) c.args.asset) c.args.route.now c.args.row.now in
+    record {
+      written = leads_first (g.W.Write.contents c.args.writer.now) (text_from line c.args.pieces.now 0 0) (flat_map line (placed_from 0 c.args.pieces.now)) refl;
+      low = omega arith;
+      filled = c.requires.filled;
+    }
+
+pub write_on_piece-requires : goal.write_on_piece-requires
+write_on_piece-requires g c = (filled_next c.loop-piece.piece-index c.args.pieces.now no_piece c.loop-piece-test.true c.loop-piece.invariant.filled).0
+
+pub len-start-requires : goal.len-start-requires
+len-start-requires g c = (filled_next c.loop-piece.piece-index c.args.pieces.now no_piece c.loop-piece-test.true c.loop-piece.invariant.filled).0
+
+pub overflow_add-start : goal.overflow_add-start
+overflow_add-start g c =
+    let low = c.loop-piece.invariant.low in
+    let few = c.requires.few in
+    let small = c.len-start.ensures.small in
+    omega arith
+
+pub loop-piece-preserved : goal.loop-piece-preserved
+loop-piece-preserved g c =
+    let line = on_piece_text (option_map (λ (a : Bor Asset). a.now) c.args.asset) c.args.route.now c.args.row.now in
+    let ps = c.args.pieces.now in
+    let i = c.loop-piece.piece-index in
+    let at = c.loop-piece.start in
+    let p = get_or ps i no_piece in
+    let low = c.loop-piece.invariant.low in
+    let small = c.len-start.ensures.small in
+    let end : at + piece_len p ≡ at + c.len-start.result = ap (λ (n : ℕ). at + n) (sym c.len-start.ensures.len) in
+    record {
+      written = leads_next (g.W.Write.contents c.args.writer.now) (g.W.Write.contents c.loop-piece.writer) (g.W.Write.contents c.write_on_piece.new.writer) (line (at, p)) (text_from line ps (at + c.len-start.result) (i + 1)) (text_from line ps at i)
+          (flat_map line (placed_from 0 ps)) c.loop-piece.invariant.written (text_next line ps i at no_piece c.loop-piece-test.true ∙ ap (λ (n : ℕ). line (at, p) ++ text_from line ps n (i + 1)) end) c.in_ok-write_on_piece.ensures;
+      low = omega arith;
+      filled = (filled_next i ps no_piece c.loop-piece-test.true c.loop-piece.invariant.filled).1;
+    }
+
+pub returns : goal.returns
+returns g c =
+    let line = on_piece_text (option_map (λ (a : Bor Asset). a.now) c.args.asset) c.args.route.now c.args.row.now in
+    let ps = c.args.pieces.now in
+    leads_end (g.W.Write.contents c.args.writer.now) (g.W.Write.contents c.loop-piece.writer) (text_from line ps c.loop-piece.start c.loop-piece.piece-index) (flat_map line (placed_from 0 ps)) c.loop-piece.invariant.written
+    (text_end line ps c.loop-piece.piece-index c.loop-piece.start (omega arith))

@@ -1,0 +1,14 @@
+use Rattle.std.proofs.Common.{[], ap}
+use Rattle.std.specs.Option.{option_map_or}
+use Rattle.std.specs.Prelude.{Option}
+use Rattle.lrs_measure.specs.Fraction.{Fraction}
+use Rattle.lrs_measure.specs.FractionTexts.{fraction_text}
+use Rattle.lrs_report_lists.specs.Measures.{measure_text}
+use Rattle.lrs_report_lists.proofs.Writing.{as_text, appends_none}
+use Rattle.lrs_report_lists.proofs.measures.write_exact.Goals as goal
+
+pub returns-in-Some : goal.returns-in-Some
+returns-in-Some g c = as_text c.write.result _ _ _ (measure_text c.args.route.now.marks c.args.chainage) c.write.ensures.bytes (ap (λ (o : Option Fraction). option_map_or fraction_text o []) c.in-Some.ensures.measure)
+
+pub returns-in-None : goal.returns-in-None
+returns-in-None g c = rw (← c.in-None.ensures.measure) (appends_none (g.W.Write.contents c.args.writer.now))

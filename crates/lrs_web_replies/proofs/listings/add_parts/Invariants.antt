@@ -1,8 +1,0 @@
-use Rattle.std.proofs.Common.{Some, take}
-use Rattle.std.specs.List.{flat_map}
-use Rattle.std.specs.Io.KnownBytes.{Appends}
-use Rattle.lrs_web_replies.specs.Parts.{gone_part}
-use Rattle.lrs_web_replies.proofs.listings.add_parts.Given as goal
-
-abbrev pub invariant-loop-gone : goal.invariant-loop-gone
-invariant-loop-gone l = Appends (Some l.fn.bytes.items) (Some l.bytes.items) (flat_map (gone_part l.edit l.assets.rows) (take l.gone-index l.ledger))
