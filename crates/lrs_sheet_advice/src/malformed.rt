@@ -43,6 +43,7 @@ fn say_words(line: &mut AdviceLine, flaw: Flaw) -> Result<(), AllocError> {
 /// Says what is wrong with a word of a list: with the first part of it that is wrong, or else with the whole.
 fn say_word_flaw(line: &mut AdviceLine, word: &[u8], is_piece: bool) -> Result<(), AllocError> {
     match wrong_part(word, is_piece) {
+        _ if word.is_empty() => say_words(line, Flaw::Empty),
         Some((part, text)) => {
             line.say(words_before(part))?;
             line.quote(text)?;
