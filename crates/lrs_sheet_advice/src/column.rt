@@ -35,30 +35,8 @@ fn column_name(kind: Sheet, field: Field) -> &'static [u8]
     column(kind, column_of(kind, field))
 }
 
-/// Says what a field of an edit sheet is for its verb. In a survey the header says it.
-fn say_use(line: &mut AdviceLine, kind: Sheet, field: Field, slot: Slot) -> Result<(), AllocError> {
-    if kind == Sheet::Edits && !matches!(field, Field::Key | Field::Verb) {
-        line.say(", ")?;
-        line.say(name_of(slot))?;
-    }
-    line.say(")")
-}
-
-/// Says a column by its letter and its name in the header, and in an edit sheet what it is for its verb:
-/// `C (a, the route)`, or in a survey `D (route)`.
-fn say_place(
-    line: &mut AdviceLine,
-    kind: Sheet,
-    field: Field,
-    slot: Slot,
-) -> Result<(), AllocError> {
-    line.say_bytes(&[letter_of(kind, field)])?;
-    line.say(" (")?;
-    line.say_bytes(column_name(kind, field))?;
-    say_use(line, kind, field, slot)
-}
-
-/// Says in which column a field stands: `column C (a, the route): `.
+/// Says in which column a field stands, by its letter and its name in the header, and in an edit sheet what it is for
+/// its verb: `column C (a, the route): `, or in a survey `column D (route): `.
 pub(crate) fn say_column(
     line: &mut AdviceLine,
     kind: Sheet,
@@ -66,20 +44,12 @@ pub(crate) fn say_column(
     slot: Slot,
 ) -> Result<(), AllocError> {
     line.say("column ")?;
-    say_place(line, kind, field, slot)?;
-    line.say(": ")
-}
-
-/// Says in which columns the start and the end of a stretch stand: `column H (f, from) or I (g, to): `.
-pub(crate) fn say_both_columns(
-    line: &mut AdviceLine,
-    kind: Sheet,
-    start: (Field, Slot),
-    end: (Field, Slot),
-) -> Result<(), AllocError> {
-    line.say("column ")?;
-    say_place(line, kind, start.0, start.1)?;
-    line.say(" or ")?;
-    say_place(line, kind, end.0, end.1)?;
-    line.say(": ")
+    line.say_bytes(&[letter_of(kind, field)])?;
+    line.say(" (")?;
+    line.say_bytes(column_name(kind, field))?;
+    if kind == Sheet::Edits && !matches!(field, Field::Key | Field::Verb) {
+        line.say(", ")?;
+        line.say(name_of(slot))?;
+    }
+    line.say("): ")
 }

@@ -13,7 +13,6 @@ mod item;
 pub mod laws;
 mod line;
 mod malformed;
-mod part;
 mod place;
 mod records;
 mod refused;

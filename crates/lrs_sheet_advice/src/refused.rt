@@ -3,18 +3,15 @@
 ghost use Rattle.std.specs.Prelude.{◌≡◌, ◌++◌, OnOk};
 ghost use Rattle.lrs_sheet_advice.specs.Refusals as spec;
 
-use crate::cause::{end_of, field_of, read_cause};
-use crate::column::{say_both_columns, say_column};
+use crate::cause::{field_of, read_cause};
+use crate::column::say_column;
 use crate::line::AdviceLine;
 use crate::malformed::{say_item, say_malformed};
 use crate::records::Records;
 use crate::reply::cause_text;
 use crate::sentence::sentence;
 use crate::slot::slot_of;
-use lrs_machine::{Cause, Field};
-use lrs_measure::limits::LONGEST_ROUTE;
-use lrs_measure::read_digits;
-use lrs_sheet_records::Verb;
+use lrs_machine::Cause;
 use std::alloc::{AllocError, Global};
 
 /// Says on which line a record starts.
@@ -75,77 +72,11 @@ fn say_named(
             line.say_number(alloc, asset)
         }
         Cause::BadPiece(place) | Cause::Taken(place) => {
-            say_item(alloc, line, "piece ", text, place)
+            say_item(alloc, line, "piece", text, place)
         }
-        Cause::BadMarks(place) => say_item(alloc, line, "mark ", text, place),
+        Cause::BadMarks(place) => say_item(alloc, line, "mark", text, place),
         _ => Ok(()),
     }
-}
-
-/// The field in which the record says where a stretch ends, if it says it.
-fn end_in(records: &Records<'_>) -> Option<Field> {
-    let end = end_of(records.verb()?)?;
-    if records.text_of(end).is_empty() {
-        None
-    } else {
-        Some(end)
-    }
-}
-
-/// The chainage in a field.
-fn chainage_in(records: &Records<'_>, field: Field) -> u64 {
-    read_digits(records.text_of(field), LONGEST_ROUTE).unwrap_or(0)
-}
-
-/// Which of two chainages is farther along the route: the end, where they are equal.
-fn farther(records: &Records<'_>, start: Field, end: Field) -> Field {
-    if chainage_in(records, start) > chainage_in(records, end) {
-        start
-    } else {
-        end
-    }
-}
-
-/// Says in which columns the ends of a stretch stand, one of which leads off the route or counts from no referent of it.
-/// Of two chainages the farther one leads off the route.
-fn say_ends(
-    line: &mut AdviceLine,
-    records: &Records<'_>,
-    start: Field,
-    end: Field,
-) -> Result<(), AllocError> {
-    let verb = records.verb();
-    if let Some(Verb::Realign) = verb {
-        let field = farther(records, start, end);
-        return say_column(line, records.kind(), field, slot_of(verb, field));
-    }
-    let (first, last) = (slot_of(verb, start), slot_of(verb, end));
-    say_both_columns(line, records.kind(), (start, first), (end, last))
-}
-
-/// Says in which column what a cause is about stands.
-fn say_place(
-    line: &mut AdviceLine,
-    records: &Records<'_>,
-    cause: Cause,
-    field: Field,
-) -> Result<(), AllocError> {
-    match (cause, end_in(records)) {
-        (Cause::NoRef | Cause::OffRoute, Some(end)) => say_ends(line, records, field, end),
-        _ => say_column(line, records.kind(), field, slot_of(records.verb(), field)),
-    }
-}
-
-/// Says what a cause means, and what to do about it. `text` is that of the field that it is about.
-fn say_meaning(
-    alloc: Global,
-    line: &mut AdviceLine,
-    records: &Records<'_>,
-    cause: Cause,
-    text: &[u8],
-) -> Result<(), AllocError> {
-    say_named(alloc, line, cause, text)?;
-    line.say(sentence(cause, records.verb(), end_in(records).is_some()))
 }
 
 /// Says why the record is refused, and what to do about it.
@@ -155,14 +86,18 @@ fn say_cause(
     records: &Records<'_>,
     cause: Cause,
 ) -> Result<(), AllocError> {
-    let Some(field) = field_of(cause, records.verb()) else {
-        return say_meaning(alloc, line, records, cause, b"");
-    };
-    say_place(line, records, cause, field)?;
-    match cause {
-        Cause::Malformed(_) => say_malformed(alloc, line, records, field),
-        _ => say_meaning(alloc, line, records, cause, records.text_of(field)),
+    let verb = records.verb();
+    let mut text: &[u8] = b"";
+    if let Some(field) = field_of(cause, verb) {
+        let slot = slot_of(verb, field);
+        say_column(line, records.kind(), field, slot)?;
+        if let Cause::Malformed(_) = cause {
+            return say_malformed(alloc, line, records, field, slot);
+        }
+        text = records.text_of(field);
     }
+    say_named(alloc, line, cause, text)?;
+    line.say(sentence(cause, verb, !text.is_empty()))
 }
 
 /// Says what is wrong with the record of a refusal, and what to do about it.

@@ -4,8 +4,8 @@ ghost use Rattle.std.specs.Prelude.{◌≡◌, ◌==◌};
 ghost use Rattle.std.specs.List.{position};
 ghost use Rattle.lrs_sheet_advice.specs.Refusals as spec;
 
-use crate::item::first_word;
 use lrs_measure::alphabet::is_lone_dash;
+use lrs_sheet_records::cut_at;
 
 /// What follows the key of a refusal.
 const REFUSED: &[u8] = b",refused,";
@@ -43,10 +43,20 @@ pub(crate) fn cause_text(reply: &[u8]) -> &[u8] {
     &rest[REFUSED.len()..]
 }
 
+/// What stands before the first comma of a reply.
+fn first_part(reply: &[u8]) -> &[u8]
+    ensures { result.now ≡ spec.first_part reply.now }
+{
+    match cut_at(reply, b',') {
+        (first, None) => first,
+        (first, Some(_)) => first,
+    }
+}
+
 /// The key of a reply, which is empty where the record has none that is well formed.
 pub(crate) fn key_text(reply: &[u8]) -> &[u8]
     ensures { result.now ≡ spec.key_of reply.now }
 {
-    let key = first_word(reply, b',');
+    let key = first_part(reply);
     if is_lone_dash(key) { b"" } else { key }
 }
