@@ -1,4 +1,4 @@
-use Rattle.std.proofs.Common.{◌≡◌, ◌∷◌, [], ◌++◌, ℕ, List, ap, append_assoc, ◌∙◌}
+use Rattle.std.proofs.Common.{◌∷◌, [], ◌++◌, ℕ, List}
 use Rattle.std.specs.Fmt.{decimal}
 use Rattle.std.specs.List.{flat_map}
 use Rattle.std.specs.Prelude.{codes}
@@ -19,4 +19,4 @@ returns g c =
     let lines : List Expr → List ℕ = λ es. flat_map (expression_line key w.route) es in
     let two = appends_more start first second head (count c.len.result) c.in_ok-write_at.ensures c.in_ok-write_position_count.ensures in
     appends_last c.write_expressions.result start second (g.W.Write.contents c.write_expressions.new.writer) (head ++ count c.len.result) (lines c.as_slice.result.now) (where_lines key w) two c.write_expressions.ensures
-    (append_assoc head (count c.len.result) (lines c.as_slice.result.now) ∙ (λ i. head ++ (count (c.len.ensures i) ++ lines (c.as_slice.ensures i))))
+    (λ i. head ++ count (c.len.ensures i) ++ lines (c.as_slice.ensures i))
