@@ -71,7 +71,8 @@ def test_what_a_spreadsheet_would_take_for_something_else(db):
     plain = b"".join(is_in_cells(db, words) for words in LISTS)
     found = {cell for row in cells(plain) for cell in row}
     assert {"-A1", "-1", "1-2", "MAR1", "1:2", "1E5", "007", "1/3"} <= found
-    assert not [cell for cell in found if re.search('["=@\t]|^[+]', cell)]
+    # the direction of a piece
+    assert not [cell for cell in found - {"+"} if re.search('["=@\t]|^[+]', cell)]
 
 
 def test_lists_of_drawn_sheets():

@@ -90,7 +90,7 @@ pub record AsksOneThing (Passes : Asked → Type 0) (input : Text) : Type 0 wher
 
 -- ---- of calls
 
--- a sheet, a survey, or a request for anything but what is gone
+-- a sheet, a survey, or a request for anything but what is gone and histories
 abbrev pub IsCallOfState : Call → Type 0
 IsCallOfState (call.Edits bytes) = ⊤
 IsCallOfState (call.Survey bytes) = ⊤

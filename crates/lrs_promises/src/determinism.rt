@@ -34,7 +34,7 @@ pub fn a_state_determines_its_inventory()
 
 /// The bytes of calls, and the state before them, determine the bytes that they write and the state after them, over any
 /// keepers: of sheets and surveys that end whole or are broken off for a fault of their own, and of requests for anything
-/// but what is gone, which is listed by the rows of the ledgers.
+/// but what is gone and histories, which are listed by the rows of the ledgers.
 pub fn calls_determine_their_replies<K: Keeper, J: Keeper>()
     ensures { CallsEndAlike K.may_hold J.may_hold }
 {}
