@@ -237,8 +237,8 @@ listing_answer format i (listing.Pieces route) = in_format format (pieces_data r
 listing_answer format i (listing.Gone wanted) = in_format format (all_gone_data wanted i) (gone_text wanted i)
 listing_answer format i (listing.History asset) = in_format format (history_data asset i) (history_text asset i)
 listing_answer format i (listing.Log from until) = csv_answer (log_text from until i)
+listing_answer format i (listing.LogOfKey key) = csv_answer (edits_text (edits_under key (state_of i).done))
 
 -- the rows that are asked for, in a format
 abbrev pub rows_answer : Format → Image → RowsWanted → Answer
 rows_answer format i w = in_format format (rows_data w i) (rows_text w i)
-listing_answer format i (listing.LogOfKey key) = csv_answer (edits_text (edits_under key (state_of i).done))

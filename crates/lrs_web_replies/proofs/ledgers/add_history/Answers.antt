@@ -16,9 +16,9 @@ returns c =
     let asset = c.args.asset in
     let entered = map (entered_data i.edits) (filter (is_part_of asset) i.entered) in
     let left = map (left_data i.edits) (filter (is_gone_of asset) i.gone) in
-    let first = ap (λ (es : List Edit). flat_map (entered_part asset es) c.as_slice-2.result.now) c.as_slice.ensures.value
-    ∙ ap (flat_map (entered_part asset i.edits)) c.as_slice-2.ensures.value ∙ of_chosen (is_part_of asset) (entered_data i.edits) i.entered in
-    let second = ap (λ (es : List Edit). flat_map (left_part asset es) c.as_slice-3.result.now) c.as_slice.ensures.value
-    ∙ ap (flat_map (left_part asset i.edits)) c.as_slice-3.ensures.value ∙ of_chosen (is_gone_of asset) (left_data i.edits) i.gone in
+    let first = ap (λ (es : List Edit). flat_map (entered_part asset es) c.as_slice.result.now) c.as_slice-edits.ensures.value
+    ∙ ap (flat_map (entered_part asset i.edits)) c.as_slice.ensures.value ∙ of_chosen (is_part_of asset) (entered_data i.edits) i.entered in
+    let second = ap (λ (es : List Edit). flat_map (left_part asset es) c.as_slice-2.result.now) c.as_slice-edits.ensures.value
+    ∙ ap (flat_map (left_part asset i.edits)) c.as_slice-2.ensures.value ∙ of_chosen (is_gone_of asset) (left_data i.edits) i.gone in
     appends_last c.add_each_left.result (Some c.args.bytes.now.items) (Some c.add_each_entered.new.bytes.items) (Some c.add_each_left.new.bytes.items) _ _ (flat_map item_text (history_items asset i)) c.in_ok-add_each_entered.ensures c.add_each_left.ensures
-    (ap (λ t. t ++ flat_map (left_part asset c.as_slice.result.now) c.as_slice-3.result.now) first ∙ ap (λ t. flat_map item_text entered ++ t) second ∙ sym (flat_map-append item_text entered left))
+    (ap (λ t. t ++ flat_map (left_part asset c.as_slice-edits.result.now) c.as_slice-2.result.now) first ∙ ap (λ t. flat_map item_text entered ++ t) second ∙ sym (flat_map-append item_text entered left))

@@ -27,14 +27,14 @@ loop-piece-init c =
 pub add_on_piece-requires : goal.add_on_piece-requires
 add_on_piece-requires c = (filled_next c.loop-piece.piece-index c.args.pieces.now no_piece c.loop-piece-test.true c.loop-piece.invariant.filled).0
 
-pub len-requires : goal.len-requires
-len-requires c = (filled_next c.loop-piece.piece-index c.args.pieces.now no_piece c.loop-piece-test.true c.loop-piece.invariant.filled).0
+pub len-start-requires : goal.len-start-requires
+len-start-requires c = (filled_next c.loop-piece.piece-index c.args.pieces.now no_piece c.loop-piece-test.true c.loop-piece.invariant.filled).0
 
 pub overflow_add-start : goal.overflow_add-start
 overflow_add-start c =
     let low = c.loop-piece.invariant.low in
     let few = c.requires.few in
-    let small = c.len.ensures.small in
+    let small = c.len-start.ensures.small in
     omega arith
 
 pub loop-piece-preserved : goal.loop-piece-preserved
@@ -45,10 +45,10 @@ loop-piece-preserved c =
     let at = c.loop-piece.start in
     let p = get_or ps i no_piece in
     let low = c.loop-piece.invariant.low in
-    let small = c.len.ensures.small in
-    let end : at + piece_len p ≡ at + c.len.result = ap (λ (n : ℕ). at + n) (sym c.len.ensures.len) in
+    let small = c.len-start.ensures.small in
+    let end : at + piece_len p ≡ at + c.len-start.result = ap (λ (n : ℕ). at + n) (sym c.len-start.ensures.len) in
     record {
-      added = leads_next (Some c.args.bytes.now.items) (Some c.loop-piece.bytes.items) (Some c.add_on_piece.new.bytes.items) (text (at, p)) (text_from text ps (at + c.len.result) (i + 1)) (text_from text ps at i)
+      added = leads_next (Some c.args.bytes.now.items) (Some c.loop-piece.bytes.items) (Some c.add_on_piece.new.bytes.items) (text (at, p)) (text_from text ps (at + c.len-start.result) (i + 1)) (text_from text ps at i)
           (flat_map text (placed_from 0 ps)) c.loop-piece.invariant.added (text_next text ps i at no_piece c.loop-piece-test.true ∙ ap (λ (n : ℕ). text (at, p) ++ text_from text ps n (i + 1)) end) c.in_ok-add_on_piece.ensures;
       low = omega arith;
       filled = (filled_next i ps no_piece c.loop-piece-test.true c.loop-piece.invariant.filled).1;
