@@ -75,7 +75,7 @@ is_read path.Health = true
 is_read _ = false
 
 -- an inventory with the ledgers of another
-abbrev with_ledgers : Image → Image → Image
+abbrev pub with_ledgers : Image → Image → Image
 with_ledgers i j = record j { entered = i.entered; gone = i.gone }
 
 -- who holds a place does not hang on the ledgers
@@ -89,12 +89,12 @@ place_moved i j e (Ok (r, chainage)) (Ok w) h = record {
 place_moved i j e (Ok at) (Err fault) h = h
 place_moved i j e (Err fault) r h = h
 
-where_moved : (i j : Image) → state_of (with_ledgers i j) ≡ state_of j → (s : AskedPlace) (r : Result Whereabouts AskFault) → IsWhereabouts (with_ledgers i j) s r → IsWhereabouts j s r
+pub where_moved : (i j : Image) → state_of (with_ledgers i j) ≡ state_of j → (s : AskedPlace) (r : Result Whereabouts AskFault) → IsWhereabouts (with_ledgers i j) s r → IsWhereabouts j s r
 where_moved i j e (spot.OnRoute route place) r h = place_moved (with_ledgers i j) j e (place_of j (spot.OnRoute route place)) r h
 where_moved i j e (spot.OnLink link mm) r h = place_moved (with_ledgers i j) j e (place_of j (spot.OnLink link mm)) r h
 
 -- what passes by one test passes by another
-tells_moved : {A : Type 0} (Passes Meets : Result A AskFault → Type 0) (told_of : A → Told) → ((r : Result A AskFault) → Passes r → Meets r) → (said : Result Told AskFault) → Tells Passes told_of said → Tells Meets told_of said
+pub tells_moved : {A : Type 0} (Passes Meets : Result A AskFault → Type 0) (told_of : A → Told) → ((r : Result A AskFault) → Passes r → Meets r) → (said : Result Told AskFault) → Tells Passes told_of said → Tells Meets told_of said
 tells_moved Passes Meets told_of to (Ok t) (x, passes, is) = (x, to (Ok x) passes, is)
 tells_moved Passes Meets told_of to (Err fault) passes = to (Err fault) passes
 

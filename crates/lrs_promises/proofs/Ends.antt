@@ -35,10 +35,11 @@ use Rattle.lrs_web.specs.Questions.{AnswersQuestions, RepliesToQuestions}
 use Rattle.lrs_web.specs.RequestAnswers.{Does, sheet_at}
 use Rattle.lrs_web.specs.Sheets.{DoesSheet, IsAnswerAfter, answer_after}
 use Rattle.lrs_promises.specs.Calls.{Did, is_decided}
-use Rattle.lrs_promises.specs.Determinism.{CallsEndAlike, EndAlike, IsCallOfState, IsOfState, IsQuestion, OnlyAsks, QuestionSheetsEndAlike, QuestionsEndAlike, ResumedEndAlike, SheetsEndAlike, StandAlike, WroteAlike}
+use Rattle.lrs_promises.specs.Determinism.{CallsEndAlike, EndAlike, IsCallOfState, IsOfState, IsQuestion, OnlyAsks, QuestionSheetsEndAlike, QuestionsEndAlike, ResumedEndAlike, SameInventories, SheetsEndAlike, StandAlike, WroteAlike}
 use Rattle.lrs_promises.specs.declared.calls.Call.{Call}
 use Rattle.lrs_promises.specs.declared.calls.Call.TheVariants as call
 use Rattle.lrs_promises.proofs.Agreeing.{image_alike, state_alike}
+use Rattle.lrs_promises.proofs.OneInventory.{same_inventories}
 use Rattle.lrs_promises.proofs.Framed.{Alike, Framed, PassAlike, each, empty, framed_alike, neither, other_header, other_width, whole}
 use Rattle.lrs_promises.proofs.Given.{answer_decided, call_gave, undecided}
 use Rattle.lrs_promises.proofs.Once.{some_is_not_none}
@@ -136,7 +137,7 @@ asked_so i input old written (Err fault.Memory) d h = absurd (false≢true d)
 asked_so i input old written (Err (fault.Desk e)) d h = absurd (false≢true d)
 
 pub question_sheets_end_alike : QuestionSheetsEndAlike
-question_sheets_end_alike i j input old written earlier other ended end same d e runs run =
+question_sheets_end_alike i j input old written earlier other ended end same one_inventory d e runs run =
     by ended end (framed_alike IsQuestionHeader width input question_tally [] [] [] (λ header records more is one two. refl) (written ≡ old) (other ≡ earlier)
     (λ records replies. AreReplied i records replies (Some old) (Some written)) (λ records replies. AreReplied j records replies (Some earlier) (Some other)) ended end
     (asked_so i input old written ended d runs) (asked_so j input earlier other end e run))
@@ -146,7 +147,7 @@ question_sheets_end_alike i j input old written earlier other ended end same d e
         → WroteAlike old written earlier other ended end
     by _ _ (neither ended keeps kept) = record { reply = []; one = keeps ∙ sym (append-nil old); same = kept ∙ sym (append-nil earlier); ends = refl }
     by _ _ (each end records replies more done did) =
-        let alike = replies_alike i j same records replies more done.replied did.replied in
+        let alike = replies_alike i j same one_inventory records replies more done.replied did.replied in
         record {
           reply = question_lines replies;
           one = done.written;
@@ -181,11 +182,20 @@ same_answer ended end lines more one two h is served too also =
     let lines_are : lines ≡ more = h.one ∙ sym h.same in
     ap answer_text (answer_of_end ended lines one is served ∙ (λ i. answer_after (h.ends i) (lines_are i)) ∙ sym (answer_of_end end more two too also))
 
--- and so are those to questions, over images of one state
-questions_alike : (body : Text) (one two : Answer) (i j : Image) → state_of i ≡ state_of j → RepliesToQuestions i body one → (one.status ≡ 503 → ⊥) → RepliesToQuestions j body two → (two.status ≡ 503 → ⊥)
+equal_inventories : (i j : Image) → i ≡ j → SameInventories i j
+equal_inventories i j same = record {
+  links = ap (λ (x : Image). x.links) same;
+  classes = ap (λ (x : Image). x.classes) same;
+  assets = ap (λ (x : Image). x.assets) same;
+  routes = ap (λ (x : Image). x.routes) same;
+  edits = ap (λ (x : Image). x.edits) same;
+}
+
+-- and so are those to questions, over images of one state and one inventory
+questions_alike : (body : Text) (one two : Answer) (i j : Image) → state_of i ≡ state_of j → SameInventories i j → RepliesToQuestions i body one → (one.status ≡ 503 → ⊥) → RepliesToQuestions j body two → (two.status ≡ 503 → ⊥)
     → answer_text one ≡ answer_text two
-questions_alike body one two i j same (ended, lines, runs, is) served (end, more, run, too) also =
-    let h = question_sheets_end_alike i j body [] lines [] more ended end same (answer_decided ended lines one is served) (answer_decided end more two too also) runs run in
+questions_alike body one two i j same one_inventory (ended, lines, runs, is) served (end, more, run, too) also =
+    let h = question_sheets_end_alike i j body [] lines [] more ended end same one_inventory (answer_decided ended lines one is served) (answer_decided end more two too also) runs run in
     same_answer ended end lines more one two h is served too also
 
 module _ {K J : Type 0} (holds : K → Result Image Table → Type 0) (has : J → Result Image Table → Type 0) where
@@ -194,7 +204,7 @@ module _ {K J : Type 0} (holds : K → Result Image Table → Type 0) (has : J �
       → MatchOption kind (AnswersQuestions body before two after) (λ k. DoesSheet has k resumes body before two after) → (two.status ≡ 503 → ⊥)
       → SameEnd (answer_text one) (answer_text two) (state_of new.image) (state_of after.image)
   posted_alike None resumes body one two old new before after stand did served done also = record {
-    wrote = questions_alike body one two old.image before.image stand.state (answered_so _ one served did.1) served (answered_so _ two also done.1) also;
+    wrote = questions_alike body one two old.image before.image stand.state (same_inventories old.image before.image stand.sound stand.also stand.state) (answered_so _ one served did.1) served (answered_so _ two also done.1) also;
     state = ap (λ (d : DeskView K). state_of d.image) did.0 ∙ stand.state ∙ sym (ap (λ (d : DeskView J). state_of d.image) done.0);
   }
   posted_alike (Some kind) true body one two old new before after stand (inr (twice, repeated, same, is)) served (inr (again, repeats, remains, too)) also = record {
@@ -284,7 +294,7 @@ module _ {K J : Type 0} (holds : K → Result Image Table → Type 0) (has : J �
       → MatchOption kind (AnswersQuestions body before two after) (λ k. DoesSheet has k resumes body before two after) → (two.status ≡ 503 → ⊥)
       → (answer_text one ≡ answer_text two) × (new ≡ old) × (after ≡ before)
   posted_asks None resumes body one two old new before after asks same did served done also =
-      (questions_alike body one two old.image before.image (ap state_of same) (answered_so _ one served did.1) served (answered_so _ two also done.1) also, did.0, done.0)
+      (questions_alike body one two old.image before.image (ap state_of same) (equal_inventories old.image before.image same) (answered_so _ one served did.1) served (answered_so _ two also done.1) also, did.0, done.0)
   posted_asks (Some kind) resumes body one two old new before after asks same did served done also = absurd (some_is_not_none kind asks)
 
   question_alike : (asked : Asked) (one two : Answer) (old new : DeskView K) (before after : DeskView J) → OnlyAsks asked → old.image ≡ before.image

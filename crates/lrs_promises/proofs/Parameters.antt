@@ -1,5 +1,5 @@
 -- What the parameters of a query say is one thing.
-use Rattle.std.proofs.Common.{◌≡◌, ℕ, Option, Some, None, refl, sym, ap, subst, ◌∙◌, arith}
+use Rattle.std.proofs.Common.{◌≡◌, ℕ, List, Option, Some, None, refl, sym, ap, subst, ◌∙◌, arith}
 use Rattle.std.specs.Prelude.{◌∷◌, ◌++◌, codes}
 use Rattle.std.specs.Str.Parse.{IsNumeral}
 use Rattle.std.proofs.lemmas.Bool.{false≢true}
@@ -71,17 +71,20 @@ no_digits method.Abs p h = let less = h.1.0 in omega (arith, less)
 no_digits method.Rel p h = let less = h.1.0 in omega (arith, less)
 no_digits method.Int p h = let less = h.1.0 in omega (arith, less)
 
+first_same : (x y : ℕ) (xs ys : List ℕ) → x ∷ xs ≡ y ∷ ys → x ≡ y
+first_same x y xs ys e = cc
+
 -- the method and the position behind the colon
 one_method_before : (m n : Method) (p q : Text) → method_text m ++ 58 ∷ p ≡ method_text n ++ 58 ∷ q → (m ≡ n) × (p ≡ q)
 one_method_before method.Abs method.Abs p q h = (refl, cc)
 one_method_before method.Rel method.Rel p q h = (refl, cc)
 one_method_before method.Int method.Int p q h = (refl, cc)
-one_method_before method.Abs method.Rel p q h = absurd (cc h)
-one_method_before method.Abs method.Int p q h = absurd (cc h)
-one_method_before method.Rel method.Abs p q h = absurd (cc h)
-one_method_before method.Rel method.Int p q h = absurd (cc h)
-one_method_before method.Int method.Abs p q h = absurd (cc h)
-one_method_before method.Int method.Rel p q h = absurd (cc h)
+one_method_before method.Abs method.Rel p q h = let same = first_same 97 114 _ _ h in (let never : ⊥ = omega (arith, same) in absurd never)
+one_method_before method.Abs method.Int p q h = let same = first_same 97 105 _ _ h in (let never : ⊥ = omega (arith, same) in absurd never)
+one_method_before method.Rel method.Abs p q h = let same = first_same 114 97 _ _ h in (let never : ⊥ = omega (arith, same) in absurd never)
+one_method_before method.Rel method.Int p q h = let same = first_same 114 105 _ _ h in (let never : ⊥ = omega (arith, same) in absurd never)
+one_method_before method.Int method.Abs p q h = let same = first_same 105 97 _ _ h in (let never : ⊥ = omega (arith, same) in absurd never)
+one_method_before method.Int method.Rel p q h = let same = first_same 105 114 _ _ h in (let never : ⊥ = omega (arith, same) in absurd never)
 
 pub one_place : (text : Text) (x y : Place) → SaysPlace text x → SaysPlace text y → x ≡ y
 one_place text (Chainage c) (Chainage d) h g = ap Chainage (h.value ∙ sym g.value)

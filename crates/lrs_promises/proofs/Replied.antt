@@ -26,6 +26,10 @@ use Rattle.lrs_sheet_records.specs.Shapes.{StatesBy}
 use Rattle.lrs_sheet_records.proofs.OneCommand.{one-malformed}
 use Rattle.lrs_sheet_records.proofs.OneQuestion.{nameless, one-question, well-formed-asked}
 use Rattle.lrs_sheet_questions.specs.Replies.{AreReplied, IsReplied, Reply, malformed, reply_of}
+use Rattle.lrs_report_answers.specs.Place.Answers.{IsWhereabouts}
+use Rattle.lrs_promises.specs.Determinism.{SameInventories}
+use Rattle.lrs_promises.proofs.Agreeing.{tells_moved, where_moved, with_ledgers}
+use Rattle.lrs_promises.proofs.Places.{where_once}
 use Rattle.lrs_promises.proofs.Once.{OneUnlessMemory, at_once, same_some, segmented_once, some_is_not_none, tells_once, unless_memory}
 use Rattle.lrs_promises.proofs.Translated.{by_method_once, on_link_once, stated_above}
 
@@ -41,7 +45,11 @@ found_once s asset r q h g some also = by (get s.assets asset) h g
 stated_in : (fields : List Text) (name : Text) (e : Expr) → StatesBy name (text_at fields 4) e → 0 < (number_of e).den
 stated_in fields name e (method, by, states) = stated_above method (text_at fields 4) e states
 
-module _ (i j : Image) (same : state_of i ≡ state_of j) (fields : List Text) where
+module _ (i j : Image) (same : state_of i ≡ state_of j) (alike : SameInventories i j) (fields : List Text) where
+  -- but for their ledgers they are one
+  is_with_ledgers : i ≡ with_ledgers i j
+  is_with_ledgers t = record { links = alike.links t; classes = alike.classes t; assets = alike.assets t; routes = alike.routes t; entered = i.entered; gone = i.gone; edits = alike.edits t }
+
   -- what is told of two images of one state is one answer, unless memory runs out
   told_alike : (key : Text) (q : Question) → SaysQuestion fields key q → (said other : Result Told AskFault) → IsTold i q said → IsTold j q other → (said ≡ Err Memory → ⊥) → (other ≡ Err Memory → ⊥) → said ≡ other
   told_alike key (question.At route e) says said other h g some also =
@@ -60,7 +68,11 @@ module _ (i j : Image) (same : state_of i ≡ state_of j) (fields : List Text) w
   told_alike key (question.Route route) says said other h g some also = absurd (nameless (subst (Contains all_questions) says.same_question says.is_question))
   told_alike key (question.Diagram route classes from to) says said other h g some also = absurd (nameless (subst (Contains all_questions) says.same_question says.is_question))
   told_alike key question.Totals says said other h g some also = absurd (nameless (subst (Contains all_questions) says.same_question says.is_question))
-  told_alike key (question.Where spot) says said other h g some also = absurd (nameless (subst (Contains all_questions) says.same_question says.is_question))
+  told_alike key (question.Where spot) says said other h g some also =
+      let moved = tells_moved (IsWhereabouts (with_ledgers i j) spot) (IsWhereabouts j spot) told.Where (where_moved i j (ap state_of (sym is_with_ledgers) ∙ same) spot) said
+      (subst (λ (x : Image). Tells (IsWhereabouts x spot) told.Where said) is_with_ledgers h) in
+      tells_once (IsWhereabouts j spot) told.Where (where_once j spot) said other moved g some also
+  told_alike key (question.Rows asked) says said other h g some also = absurd (nameless (subst (Contains all_questions) says.same_question says.is_question))
   told_alike key (question.Lengths route) says said other h g some also = absurd (nameless (subst (Contains all_questions) says.same_question says.is_question))
   told_alike key (question.List listing) says said other h g some also = absurd (nameless (subst (Contains all_questions) says.same_question says.is_question))
   told_alike key question.Health says said other h g some also = absurd (nameless (subst (Contains all_questions) says.same_question says.is_question))
@@ -82,13 +94,13 @@ module _ (i j : Image) (same : state_of i ≡ state_of j) (fields : List Text) w
       is ∙ ap (λ (f : Field). malformed fields f) (one-malformed all_questions question_shapes fields at at' first first') ∙ sym is'
 
 -- and so are those of records
-pub replies_alike : (i j : Image) → state_of i ≡ state_of j → (records : List (List Text)) (replies more : List Reply) → AreReplied i records replies → AreReplied j records more → replies ≡ more
-replies_alike i j same [] [] [] h g = refl
-replies_alike i j same [] [] (p ∷ more) h g = absurd g
-replies_alike i j same [] (r ∷ replies) more h g = absurd h
-replies_alike i j same (fields ∷ records) [] more h g = absurd h
-replies_alike i j same (fields ∷ records) (r ∷ replies) [] h g = absurd g
-replies_alike i j same (fields ∷ records) (r ∷ replies) (p ∷ more) h g =
-    let first = reply_alike i j same fields r p h.0 g.0 in
-    let rest = replies_alike i j same records replies more h.1 g.1 in
+pub replies_alike : (i j : Image) → state_of i ≡ state_of j → SameInventories i j → (records : List (List Text)) (replies more : List Reply) → AreReplied i records replies → AreReplied j records more → replies ≡ more
+replies_alike i j same alike [] [] [] h g = refl
+replies_alike i j same alike [] [] (p ∷ more) h g = absurd g
+replies_alike i j same alike [] (r ∷ replies) more h g = absurd h
+replies_alike i j same alike (fields ∷ records) [] more h g = absurd h
+replies_alike i j same alike (fields ∷ records) (r ∷ replies) [] h g = absurd g
+replies_alike i j same alike (fields ∷ records) (r ∷ replies) (p ∷ more) h g =
+    let first = reply_alike i j same alike fields r p h.0 g.0 in
+    let rest = replies_alike i j same alike records replies more h.1 g.1 in
     λ k. first k ∷ rest k

@@ -48,13 +48,6 @@ ResumedEndAlike = (sheet : Sheet) (failed broken : Bool) (together others : ℕ)
     → Resumes failed sheet together limits input before after (Some old) (Some written) ended → Resumes broken sheet others limits input before instead (Some earlier) (Some other) end
     → EndAlike old written earlier other after instead ended end
 
--- The same sheet of questions is answered alike over any two images of the same state.
-abbrev pub QuestionSheetsEndAlike : Type 0
-QuestionSheetsEndAlike = (i j : Image) (input old written earlier other : Text) (ended end : Result QuestionTally SheetFault)
-    → state_of i ≡ state_of j → is_decided ended ≡ true → is_decided end ≡ true
-    → RunsQuestions i input (Some old) (Some written) ended → RunsQuestions j input (Some earlier) (Some other) end
-    → WroteAlike old written earlier other ended end
-
 -- ---- the inventory
 
 -- the same inventories, but for the rows of their ledgers
@@ -68,6 +61,15 @@ pub record SameInventories (i j : Image) : Type 0 where
 -- Sound inventories of one state are the same, but for the rows of their ledgers: one edit may have entered or removed a stretch as one row, or as two that touch.
 abbrev pub InventoriesAreOne : Type 0
 InventoriesAreOne = (i j : Image) → IsSound i → IsSound j → state_of i ≡ state_of j → SameInventories i j
+
+-- ---- sheets of questions
+
+-- The same sheet of questions is answered alike over any two images of the same state that are the same inventories but for the rows of their ledgers, as sound ones are: a place is told by the referents of its route, in the order in which an image has them.
+abbrev pub QuestionSheetsEndAlike : Type 0
+QuestionSheetsEndAlike = (i j : Image) (input old written earlier other : Text) (ended end : Result QuestionTally SheetFault)
+    → state_of i ≡ state_of j → SameInventories i j → is_decided ended ≡ true → is_decided end ≡ true
+    → RunsQuestions i input (Some old) (Some written) ended → RunsQuestions j input (Some earlier) (Some other) end
+    → WroteAlike old written earlier other ended end
 
 -- ---- what is asked
 

@@ -22,7 +22,8 @@ pub fn a_resumed_sheet_determines_its_end()
     ensures { ResumedEndAlike }
 {}
 
-/// The bytes of a sheet of questions and the state determine how it ends, and the bytes that are written.
+/// The bytes of a sheet of questions and the inventory, but for the rows of its ledgers, determine how it ends, and the
+/// bytes that are written.
 pub fn a_sheet_of_questions_determines_its_answers()
     ensures { QuestionSheetsEndAlike }
 {}
