@@ -38,9 +38,12 @@ const STRIP: &str = "STRIP A1 L 5.000
        3.000        5.000            -
 ";
 
-const ROWS: &str =
-    "route,from,to,from_measure,to_measure,side,asset,class,value,offset,entered_by\n\
-    A1,1000,3000,1000,3000,B,7,SPEED,80,0,4\n";
+const ROWS: &str = "route,from,to,from_measure,to_measure,side,asset,class,value,offset,entry\n\
+    A1,1000,3000,1000.000,3000.000,B,7,SPEED,80,0,4\n";
+
+const HISTORY: &str = "edit,key,verb,event,link,from,to,side\n\
+    4,s4,enter,entered,1,1000,3000,L\n\
+    4,s4,enter,entered,1,1000,3000,R\n";
 
 const QUESTIONS: &str = "key,question,a,b,c,d\nq1,at,A1,abs,1500,\nq2,find,8,,,\n";
 
@@ -234,9 +237,10 @@ const JOBS: [(&str, &str, &str, u8); 20] = [
     (
         "gone /bin/sh",
         "",
-        "edit,reason,asset,class,value,link,from,to,side\n",
+        "edit,key,verb,reason,asset,class,value,link,from,to,side\n",
         0,
     ),
+    ("history /bin/sh 7", "", HISTORY, 0),
     ("log /bin/sh", "", FIRST, 0),
     ("audit /bin/sh", "", "sound, and as its log says\n", 0),
     (
