@@ -202,7 +202,7 @@ fn gives(host: &HostRuntime, rt: &impl Abort, words: &str, text: &str, wanted: &
 
 /// Jobs by their words, with the text of their sheet; what each writes, and the status of the program behind it. Of a path it
 /// is looked whether something is there: so files in memory are named as one that is.
-const JOBS: [(&str, &str, &str, u8); 20] = [
+const JOBS: [(&str, &str, &str, u8); 21] = [
     ("edit /bin/sh sheet", EDITS, REPLIES, 1),
     ("check /bin/sh sheet", EDITS, REPLIES, 1),
     (
