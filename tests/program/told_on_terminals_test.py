@@ -75,7 +75,6 @@ QUESTIONS = [
     ("diagram DB A38 --to rel:KM16+0", "A38 to 4000.166 m (measure 15999.999)"),
     ("where DB A38 abs:16000", "A38 at 4000.166 m (measure 16000)"),
     ("where DB A38 int:1/2", "A38 at 3900.000 m (measure 15899.750)"),
-    ("rows DB --route A38 --from abs:24001/2", "A38 from 0.501 m (measure 12000.500)"),
     # a hint is of the chainage alone
     (
         "rows DB --route A38 --from abs:14000 --to 16000",
