@@ -280,7 +280,7 @@ def ledger_of(path, name):
     found = look(
         path,
         f"SELECT x.edit, e.token, e.line, {cause}, x.asset, a.class, a.value, x.link, x.lo, x.hi, x.side FROM {name} x JOIN edit e ON e.number = x.edit"
-        f" JOIN asset a ON a.number = x.asset ORDER BY x.edit, {cause}, x.asset, x.link, x.lo, x.side",
+        f" JOIN asset a ON a.number = x.asset ORDER BY x.edit, 4, x.asset, x.link, x.lo, x.side",
     )[0]
     return [[edit, key, line.split(",")[0], ["retired", "abandoned", "entered"][why], *others, "LR"[side]] for edit, key, line, why, *others, side in found]
 
