@@ -200,7 +200,7 @@ def lists_of(port):
 
 def printed_rows(path):
     """The rows of a file, as a command prints them."""
-    ended = run("rows", str(path))
+    ended = run("rows", str(path), "--exact")
     assert (ended.stderr, ended.status) == (b"", 0)
     return sorted(ended.stdout.decode().splitlines()[1:])
 

@@ -124,6 +124,7 @@ def test_the_rows_of_a_route_lead_to_histories(later):
     browser.shows("#rows-said", "4 of 4 rows")
     browser.clicks('#rows a[href="#asset/20"]')
     browser.shows("#asset-said", "SPEED 60.")
+    browser.shows("#entered", "168")
     assert record(later, "#entered")["edit"] == "168"
     browser.shows("#past-said", "entered, 0 taken away since.")
     browser.runs("history.back()")
