@@ -79,8 +79,9 @@ def test_lists_of_text_come_back_as_the_plain_ones(tmp_path):
     """So nothing in them became a formula, a date or a number."""
     db = tmp_path / "roads.db"
     assert edit(db, MISTAKEN).status == 0
-    for words in (["rows"], ["log"]):
-        ends(run(*words, str(db)), (SAVED / f"{words[0]}.csv").read_bytes(), 0)
+    ends(run("log", str(db)), (SAVED / "log.csv").read_bytes(), 0)
+    # saved from release 0.8.17, which named the last column otherwise
+    ends(run("rows", str(db), "--exact"), (SAVED / "rows.csv").read_bytes().replace(b",entered_by\n", b",entry\n"), 0)
 
 
 def test_a_workbook_is_no_text():
