@@ -32,7 +32,8 @@ pub use line::Line;
 pub use operands::{AssetNumber, Chainage, LateralOffset, MarkList, PieceList};
 pub use place::read_place;
 pub use question::{
-    AskedPlace, Destination, GoneWanted, Listing, Place, Question, RowForm, RowsAsked, RowsWanted,
+    AskedPlace, Destination, GoneWanted, Listing, OverlayAsked, OverlayWanted, Place, Question,
+    RowForm, RowsAsked, RowsWanted,
 };
 pub use segment::{SegFault, Segment};
 pub use stops::Fault;

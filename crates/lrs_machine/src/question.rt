@@ -1,7 +1,7 @@
 //! Questions: what can be asked of an inventory.
 
 use crate::key::Key;
-use lrs_events::{ClassName, Side};
+use lrs_events::{ClassName, LinkSide, Side};
 use lrs_measure::Rows;
 use lrs_position::{Expr, RouteName, Target};
 
@@ -64,6 +64,29 @@ pub struct RowsWanted {
     pub class: Option<ClassName>,
     pub asset: Option<u64>,
     pub form: RowForm,
+}
+
+/// What is asked of the values of exclusive classes side by side: on a route, on a side, between two places of the route, and
+/// only where a class has no value. What is not asked leaves out nothing.
+#[derive(Drop)]
+pub struct OverlayAsked {
+    pub classes: Rows<ClassName>,
+    pub route: Option<RouteName>,
+    pub side: Option<LinkSide>,
+    pub from: Option<Place>,
+    pub to: Option<Place>,
+    pub gaps: bool,
+}
+
+/// The same where the places are found: a segment has a millimetre at or behind chainage `from` and before chainage `to`.
+#[derive(Drop)]
+pub struct OverlayWanted {
+    pub classes: Rows<ClassName>,
+    pub route: Option<RouteName>,
+    pub side: Option<LinkSide>,
+    pub from: Option<u64>,
+    pub to: Option<u64>,
+    pub gaps: bool,
 }
 
 /// What is asked of parts that were retired or abandoned: to be taken away by an edit, by edits from a number on, by edits up
@@ -149,6 +172,8 @@ pub enum Question {
     Lengths(Option<RouteName>),
     /// The stretches that assets hold.
     Rows(RowsAsked),
+    /// The segments of routes by exclusive classes, with their values side by side.
+    Overlay(OverlayAsked),
     /// A list of the inventory.
     List(Listing),
     /// How many edits were accepted.
