@@ -6,9 +6,8 @@ use Rattle.std.specs.Cmp.Lexicographic.{nat_list_cmp_total}
 use Rattle.std.specs.List.{list_all}
 use Rattle.std.specs.List.Sorted.{IsSortedBy}
 use Rattle.std.proofs.lemmas.Bool.{and_from, and_parts, both_ways, cases_Bool, eq-eqb, eqb-true, le-ltb, ltb-false, or_cases, or_left, or_right}
-use Rattle.std.proofs.lemmas.List.Sorted.{IsPermutation-trans, IsStrictWeakOrder-by_number, ranks_by, sum_by-IsPermutation}
+use Rattle.std.proofs.lemmas.List.Sorted.{IsStrictWeakOrder-by_number, ranks_by, sum_by-IsPermutation}
 use Rattle.lrs_measure.specs.Lists.{each_two}
-use Rattle.lrs_measure.specs.OrderedLists.{insert_all}
 use Rattle.lrs_measure.specs.Texts.{name_before, same_name}
 use Rattle.lrs_measure.proofs.EachTwo.{two_passing}
 use Rattle.lrs_measure.proofs.Filters.{each_two-filter}
