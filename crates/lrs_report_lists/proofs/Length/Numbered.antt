@@ -1,20 +1,20 @@
 -- How many assets have one of the numbers of a list: as many as the list has different numbers.
-use Rattle.std.proofs.Common.{◌≡◌, ℕ, suc, ◌+◌, ◌-◌, ◌<◌, ◌≤◌, Bool, true, false, not, cond, ◌⊎◌, inl, inr, List, [], ◌∷◌, ◌++◌, length, map, take, get_or, sum_by, length-take-le, get_or-take, refl, sym, ap, subst, ◌∙◌, arith, take_all}
-use Rattle.std.specs.Prelude.{◌||◌, nat_eq, nat_lt, IsPermutation, count_by}
+use Rattle.std.proofs.Common.{◌≡◌, ℕ, ◌+◌, ◌-◌, ◌<◌, ◌≤◌, Bool, true, false, not, inl, List, [], ◌∷◌, ◌++◌, length, map, take, get_or, length-take-le, get_or-take, refl, sym, ap, subst, ◌∙◌, arith, take_all}
+use Rattle.std.specs.Prelude.{◌||◌, nat_eq, IsPermutation, count_by}
 use Rattle.std.specs.List.{list_all, list_any}
 use Rattle.std.specs.List.Sorted.{IsSorted}
 use Rattle.std.specs.Cmp.{nat_cmp_total, both_ways as same_truth}
 use Rattle.std.specs.Ordering.{nat_cmp, is_lt}
-use Rattle.std.proofs.lemmas.Bool.{both_ways, and_parts, cases_Bool, eq-eqb, eqb-true, false≢true, false_from_ne_true, ltb-true}
+use Rattle.std.proofs.lemmas.Bool.{both_ways, eq-eqb, eqb-true, false≢true, false_from_ne_true, ltb-true}
 use Rattle.std.proofs.lemmas.List.{take_more}
-use Rattle.std.proofs.lemmas.List.Folds.{list_any-append, list_all-append, list_all-map}
+use Rattle.std.proofs.lemmas.List.Folds.{list_any-append, list_all-map}
 use Rattle.std.proofs.lemmas.List.Sorted.{sorted_far, ranks_by, list_any-IsPermutation, All-permutation}
-use Rattle.std.proofs.lemmas.List.Sums.{sum_by-cons, AllPass-from_list_all, list_all-from_AllPass}
+use Rattle.std.proofs.lemmas.List.Sums.{AllPass-from_list_all, list_all-from_AllPass}
 use Rattle.std.proofs.lemmas.Map.Keys.{ge_from_not_lt}
 use Rattle.lrs_measure.specs.Lists.{In, each_two}
 use Rattle.lrs_measure.proofs.Counts.{at_most_one, none_passes, some_counted}
 use Rattle.lrs_measure.proofs.Members.{any_found, any_of, list_any-map, In-append_right}
-use Rattle.lrs_measure.proofs.Places.{place_in, member_at, passes_at}
+use Rattle.lrs_measure.proofs.Places.{place_in, passes_at}
 use Rattle.lrs_events.specs.declared.class.Asset.{Asset}
 use Rattle.lrs_machine.specs.Sound.{asset_before}
 use Rattle.lrs_report_lists.specs.declared.length_lists.entries.LengthEntry.{LengthEntry}
@@ -22,7 +22,7 @@ use Rattle.lrs_report_lists.specs.Length.Parts.{holders, is_held_by, is_number_o
 use Rattle.lrs_report_lists.proofs.Length.Counts.{counted-or}
 use Rattle.lrs_report_lists.proofs.Length.Tests.{or_nothing}
 
--- ---- numbers of assets
+-- ---- the assets of numbers
 
 module _ (assets : List Asset) (order : each_two asset_before assets ≡ true) where
   -- of one number there is one asset

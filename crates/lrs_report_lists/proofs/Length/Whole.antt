@@ -20,7 +20,7 @@ use Rattle.lrs_events.specs.declared.side.Side.{Side}
 use Rattle.lrs_events.specs.declared.span.Span.{Span}
 use Rattle.lrs_machine.specs.declared.image.Image.{Image}
 use Rattle.lrs_machine.specs.declared.image.RouteRow.{RouteRow}
-use Rattle.lrs_machine.specs.Sound.{IsSound, RouteCourse, RouteSpans, are_spans_of, course_before, courses_of, is_course, is_on_a_link, is_span, asset_before, keeps_exclusive, spans_of}
+use Rattle.lrs_machine.specs.Sound.{IsSound, RouteCourse, RouteSpans, are_spans_of, asset_before, course_before, courses_of, is_course, is_on_a_link, is_span, keeps_exclusive, spans_of}
 use Rattle.lrs_image.proofs.Tables.{passes}
 use Rattle.lrs_position.specs.Routes.{is_route_course}
 use Rattle.lrs_report_lists.specs.declared.length_lists.entries.LengthEntry.{LengthEntry}
