@@ -6,7 +6,7 @@ use Rattle.lrs_report_answers.proofs.SideBySide.{among_next}
 use Rattle.lrs_report_answers.proofs.overlay_lines.write_on_each.Goals as goal
 
 pub write_on_route-requires : goal.write_on_route-requires
-write_on_route-requires g c = (among_next c.in-Some.route_row.now c.next.new.self c.loop-route_row.route_row-iterator c.args.inventory.now.routes c.loop-route_row.invariant.0 c.in-Some.ensures.steps).0
+write_on_route-requires g c = record { known = (among_next c.in-Some.route_row.now c.next.new.self c.loop-route_row.route_row-iterator c.args.inventory.now.routes c.loop-route_row.invariant.0 c.in-Some.ensures.steps).0 }
 
 pub loop-route_row-preserved : goal.loop-route_row-preserved
 loop-route_row-preserved g c =
