@@ -1,5 +1,5 @@
 -- Fields of a line, columns of a text, and the places of names.
-use Rattle.std.proofs.Common.{◌≡◌, ◌∙◌, ◌⊎◌, ◌<◌, ◌+◌, ◌&&◌, ◌||◌, ℕ, suc, Bool, true, false, true≢false, not, cond, List, [], ◌∷◌, ◌++◌, map, length, Option, Some, None, Ok, Err, Result, inl, inr, is_some, option_map, IfNone, IfSome, refl, sym, ap, subst, append_assoc, append-nil, zero-add, arith}
+use Rattle.std.proofs.Common.{◌≡◌, ◌∙◌, ◌⊎◌, ◌<◌, ◌+◌, ◌&&◌, ◌||◌, ℕ, suc, Bool, true, false, true≢false, not, cond, List, [], ◌∷◌, ◌++◌, map, length, Option, Some, None, Ok, Err, Result, inl, inr, is_some, option_map, IfNone, IfSome, refl, sym, ap, append_assoc, append-nil, zero-add, arith}
 use Rattle.std.specs.Prelude.{◌==◌, IfErr, IfOk, nat_eq}
 use Rattle.std.specs.List.{flat_map, join_with_byte, list_all}
 use Rattle.std.specs.Io.KnownBytes.{Appends}

@@ -65,7 +65,7 @@ pub record HasAnswered (i : Image) (q : Question) (form : ListForm) (old new : O
 -- why an answer was not written, by the kind of the error: there is no memory for it, or the writer failed
 abbrev pub unwritten_by : ErrorKind → Unanswered
 unwritten_by OutOfMemory = Memory
-unwritten_by other = Write
+unwritten_by _ = Write
 
 -- an answer that passes was written, or nothing was and this fault passes; where memory ran out or the writer failed, nothing is said
 abbrev pub IsPrinted : {A U : Type 0} → (Result A AskFault → Type 0) → (A → Text) → Option (List ℕ) → Option (List ℕ) → Result U Unanswered → Type 0

@@ -72,11 +72,6 @@ pub record IsFormOf (j : Job) (q : Question) (form : ListForm) : Type 0 where
   pub columns : ArePicked (columns_of q) (columns_given j) form.columns
   pub as_text : form.as_text ≡ has_text_cells j
 
--- the work is this question, in that form
-abbrev pub IsFormedOf : Job → Question → Work → Type 0
-IsFormedOf j q (work.Question question form) = (question ≡ q) × IsFormOf j q form
-IsFormedOf j q w = ⊥
-
 -- `edit` does an edit sheet, `survey` a survey, `check` tries one, `ask` answers a sheet of questions, `audit` audits, `log --sum` sums the log, `serve` serves where and how its words say, and every other job asks what they say, and has the answer written in the form that it says
 abbrev pub IsWorkOf : Job → Work → Type 0
 IsWorkOf (job.Edit db sheet sums resume all whole) (work.Sheet kind from resumes at_once with_end) = (kind ≡ Edits) × (from.now ≡ sheet.now) × (resumes ≡ resume) × (at_once ≡ all) × (with_end ≡ whole)

@@ -2,7 +2,7 @@
 
 ghost use Rattle.std.specs.Prelude.{◌≡◌, IfOk, IfErr, option_map};
 ghost use Rattle.lrs_cli_tasks.specs.Columns.{CannotPick, columns_of};
-ghost use Rattle.lrs_cli_tasks.specs.Tasks.{IsFormedOf, IsTaskOf, IsUnread, columns_given, has_text_cells, kind_of};
+ghost use Rattle.lrs_cli_tasks.specs.Tasks.{IsFormOf, IsTaskOf, IsUnread, columns_given, has_text_cells, kind_of};
 
 use crate::columns::picked_columns;
 use lrs_cli_words::{Job, QuestionFault, Service, question_of, service_of, summed_of};
@@ -123,22 +123,15 @@ fn columns_given<'a>(job: &Job<'a>) -> Option<&'a str>
     }
 }
 
-// A question of a job is answered in the form that the job says.
-fn question_work<'a>(
-    alloc: Global,
-    job: &Job<'_>,
-    question: Question,
-) -> Result<Work<'a>, QuestionFault>
-    ensures work { IfOk result (IsFormedOf job.now question) }
-    ensures unread { IfErr result (CannotPick (columns_of question) (columns_given job.now)) }
+// The form in which the list that answers a question of a job is written.
+fn form_of(alloc: Global, job: &Job<'_>, question: &Question) -> Result<ListForm, QuestionFault>
+    ensures form { IfOk result (IsFormOf job.now question.now) }
+    ensures unread { IfErr result (CannotPick (columns_of question.now) (columns_given job.now)) }
 {
-    match picked_columns(alloc, &question, columns_given(job)) {
-        Ok(columns) => Ok(Work::Question {
-            question,
-            form: ListForm {
-                columns,
-                as_text: writes_text_cells(job),
-            },
+    match picked_columns(alloc, question, columns_given(job)) {
+        Ok(columns) => Ok(ListForm {
+            columns,
+            as_text: writes_text_cells(job),
         }),
         Err(fault) => Err(fault),
     }
@@ -222,7 +215,10 @@ pub fn task_of<'a>(alloc: Global, job: &Job<'a>) -> Result<Task<'a>, QuestionFau
         | Job::Gone { db, .. }
         | Job::History { db, .. }
         | Job::Log { db, .. } => match question_of(alloc, job)? {
-            Some(question) => (db, question_work(alloc, job, question)?),
+            Some(question) => match form_of(alloc, job, &question) {
+                Ok(form) => (db, Work::Question { question, form }),
+                Err(fault) => return Err(fault),
+            },
             None => unreachable!(),
         },
     };

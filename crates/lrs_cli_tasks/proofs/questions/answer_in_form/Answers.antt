@@ -5,3 +5,8 @@ pub returns-in_ok-print_in_form-in-Ok-clause-answered : goal.returns-in_ok-print
 returns-in_ok-print_in_form-in-Ok-clause-answered g c =
     told_in_form c.args.desk.now.image c.args.question c.args.form.now (g.W.Write.contents c.args.to) c.in-Ok.ensures.0 c.new-text.result.items c.print_answer.new.writer.items _
     c.in-Ok.ensures.1 c.new-text.ensures.items c.in-Ok.ensures.2 (rw c.as_slice.ensures.value at c.in_ok-print_in_form-in-Ok.ensures.written)
+
+pub returns-in-Err-Asked-clause-answered : goal.returns-in-Err-Asked-clause-answered
+returns-in-Err-Asked-clause-answered g c =
+    let printed = rw c.in-Err-Asked.field-0-is at (rw c.in-Err-Asked.is at c.print_answer.ensures) in
+    refused_in_form c.args.desk.now.image c.args.question c.args.form.now (g.W.Write.contents c.args.to) c.in-Err-Asked.fault c.refusal.result printed.0 (rw c.in-Err-Asked.fault-is at c.refusal.ensures)
