@@ -55,7 +55,7 @@ fn write_line<W: Write>(
     to: &mut W,
     key: Key,
     word: &str,
-    pub(crate) stage: Stage,
+    stage: Stage,
     line: &[u8],
 ) -> io::Result<()>
     requires line { line.now ≡ take (line_length line.now) line.now }
@@ -85,7 +85,7 @@ pub(crate) struct Entries<'a, W: Write> {
     ghost staged: { stage ≡ stage_of given.text },
     ghost told: { HasTold is_broken given.start (W.contents to.now)
         (told_of (front_of key word.now) given.text) } by { HasTold-prop is_broken given.start
-        (W.contents to.now) (told_of (front_of key word.now) given.text) },
+            (W.contents to.now) (told_of (front_of key word.now) given.text) },
 }
 
 impl<'a, W: Write> Write for Entries<'a, W> {
