@@ -78,7 +78,7 @@ fn write_line<W: Write>(
 pub(crate) struct Entries<'a, W: Write> {
     pub(crate) to: &'a mut W,
     pub(crate) key: Key,
-    pub(crate) word: &'a str,
+    pub(crate) word: &'static str,
     pub(crate) stage: Stage,
     pub(crate) is_broken: bool,
     pub(crate) given: Given,

@@ -109,7 +109,7 @@ fn pass_entries<W: Write>(
     alloc: Global,
     to: &mut W,
     key: Key,
-    word: &str,
+    word: &'static str,
     told: &Told<'_>,
 ) -> io::Result<()>
     ghost start: { Option (List ℕ) }
