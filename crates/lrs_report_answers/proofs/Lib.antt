@@ -14,3 +14,4 @@ pub mod Everywhere
 pub mod Banded
 pub mod Tally
 pub mod Place
+pub mod SideBySide

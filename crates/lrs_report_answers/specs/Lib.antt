@@ -10,5 +10,6 @@ pub mod Causes
 pub mod DrawnRows
 pub mod Stretches
 pub mod Listings
+pub mod Overlay
 pub mod Tally
 pub mod Place

@@ -1,5 +1,5 @@
 -- What is told to a question that is asked of an inventory.
-use Rattle.std.specs.Prelude.{◌≡◌, ℕ, List, length, Some, None, Result, Ok, Err, MatchOption}
+use Rattle.std.specs.Prelude.{◌≡◌, ℕ, List, length, Option, Some, None, Result, Ok, Err, MatchOption}
 use Rattle.std.specs.List.{find}
 use Rattle.std.specs.Option.{option_map_or}
 use Rattle.lrs_measure.specs.Fraction.{Fraction}
@@ -9,27 +9,33 @@ use Rattle.lrs_position.specs.declared.expression.Target.{Target}
 use Rattle.lrs_position.specs.declared.route.Route.{Route}
 use Rattle.lrs_position.specs.LinkPositions.{IsLinkPosition}
 use Rattle.lrs_position.specs.Translations.{RoundTrip, Translates}
+use Rattle.lrs_events.specs.declared.side.Side.TheVariants.{L}
 use Rattle.lrs_machine.specs.declared.image.Image.{Image}
 use Rattle.lrs_machine.specs.declared.question.Destination.TheVariants as destination
+use Rattle.lrs_machine.specs.declared.question.OverlayAsked.{OverlayAsked}
 use Rattle.lrs_machine.specs.declared.question.Question.{Question}
 use Rattle.lrs_machine.specs.declared.question.Question.TheVariants as question
 use Rattle.lrs_machine.specs.declared.question.RowsAsked.{RowsAsked}
+use Rattle.lrs_machine.specs.declared.segment.SegFault.{SegFault}
 use Rattle.lrs_machine.specs.declared.total.Total.{Total}
 use Rattle.lrs_machine.specs.Image.{state_of}
 use Rattle.lrs_machine.specs.Register.{get}
+use Rattle.lrs_machine.specs.Segments.{segment_fault}
 use Rattle.lrs_machine.specs.State.{State}
 use Rattle.lrs_image.specs.Change.{is_named}
 use Rattle.lrs_report_lists.specs.Absence.{missing_row}
 use Rattle.lrs_report_answers.specs.declared.fault.AskFault.{AskFault}
+use Rattle.lrs_report_answers.specs.declared.fault.AskFault.TheVariants.{Seg}
 use Rattle.lrs_report_answers.specs.declared.told.Told.{Told}
 use Rattle.lrs_report_answers.specs.declared.told.Told.TheVariants as told
 use Rattle.lrs_report_answers.specs.Answers.{AsksRoute, IsAt, UnlessMemory, UnlessMissing, route_missing}
 use Rattle.lrs_report_answers.specs.DrawnRows.{IsDrawn}
 use Rattle.lrs_report_answers.specs.AssetStretches.{IsFound}
-use Rattle.lrs_report_answers.specs.Listings.{AreLengthsOf, IsInventory, IsListing, wanted_of}
+use Rattle.lrs_report_answers.specs.Listings.{AreLengthsOf, IsInventory, IsListing, missing_route, wanted_of}
+use Rattle.lrs_report_answers.specs.Overlay.{overlay_wanted}
 use Rattle.lrs_report_answers.specs.Stretches.{OnStretch}
 use Rattle.lrs_report_answers.specs.Place.Answers.{IsWhereabouts}
-use Rattle.lrs_report_answers.specs.RouteSegments.{IsSegmented}
+use Rattle.lrs_report_answers.specs.RouteSegments.{IsSegmented, class_list}
 use Rattle.lrs_report_answers.specs.Totals.{totals_of}
 
 -- a position on the route of a name, by another method
@@ -63,6 +69,18 @@ AreRows i asked =
     UnlessMissing (missing_row i (wanted_of asked None None))
     (OnStretch i asked.route asked.from asked.to (λ first last. Tells (IsInventory i) (told.Rows (wanted_of asked first last))))
 
+-- the classes refuse the segments; else this passes
+abbrev pub UnlessRefused : {A : Type 0} → Option SegFault → (Result A AskFault → Type 0) → Result A AskFault → Type 0
+UnlessRefused None Passes result = Passes result
+UnlessRefused (Some fault) Passes result = result ≡ Err (Seg fault)
+
+-- The answer is the segments of the inventory between the ends that are asked for; or the route is missing, or the first fault of the classes, or that of an end.
+abbrev pub IsOverlay : Image → OverlayAsked → Result Told AskFault → Type 0
+IsOverlay i asked =
+    UnlessMissing (missing_route i asked.route)
+    (UnlessRefused (segment_fault (class_list (state_of i)) asked.classes L)
+    (OnStretch i asked.route asked.from asked.to (λ first last. Tells (IsInventory i) (told.Overlay (overlay_wanted asked first last)))))
+
 -- What an inventory tells to each question.
 abbrev pub IsTold : Image → Question → Result Told AskFault → Type 0
 IsTold i (question.At route e) = Tells (IsAt (state_of i) route e) (told.At route)
@@ -76,5 +94,6 @@ IsTold i (question.Find asset) = Tells (IsFound (state_of i) asset) told.Found
 IsTold i (question.Where spot) = Tells (IsWhereabouts i spot) told.Where
 IsTold i (question.Lengths route) = Tells (AreLengthsOf i route) told.Lengths
 IsTold i (question.Rows asked) = AreRows i asked
+IsTold i (question.Overlay asked) = IsOverlay i asked
 IsTold i (question.List l) = Tells (IsListing i l) (told.Listing l)
 IsTold i question.Health = λ result. result ≡ Ok (told.Health (length i.edits))

@@ -1,8 +1,10 @@
 //! Questions of every kind, by one call: the command line, sheets of questions and HTTP ask the same way.
 
 ghost use Rattle.std.specs.Prelude.{◌≡◌, Err, None, Some};
+ghost use Rattle.lrs_events.specs.declared.side.Side.TheVariants.{L};
 ghost use Rattle.lrs_image.specs.OpenLists.{image_of};
 ghost use Rattle.lrs_machine.specs.Image.{state_of};
+ghost use Rattle.lrs_machine.specs.Segments.{segment_fault};
 ghost use Rattle.lrs_machine.specs.Sound.{IsSound};
 ghost use Rattle.lrs_report_answers.specs.Stretches.{OnStretch};
 ghost use Rattle.lrs_report_answers.specs.declared.told.Told.TheVariants as told;
@@ -11,11 +13,13 @@ ghost use Rattle.lrs_report_answers.specs.AssetStretches.{IsFound};
 ghost use Rattle.lrs_report_answers.specs.DrawnRows.{IsDrawn};
 ghost use Rattle.lrs_report_answers.specs.Listings.{AreLengthsOf, IsInventory, IsListing, has_key};
 ghost use Rattle.lrs_report_answers.specs.Listings as spec;
+ghost use Rattle.lrs_report_answers.specs.Overlay.{overlay_wanted};
 ghost use Rattle.lrs_report_answers.specs.Place.Answers.{IsWhereabouts};
-ghost use Rattle.lrs_report_answers.specs.RouteSegments.{IsSegmented};
+ghost use Rattle.lrs_report_answers.specs.RouteSegments.{IsSegmented, class_list};
 ghost use Rattle.lrs_report_answers.specs.Tally.RunningCounts.{IsCounted};
-ghost use Rattle.lrs_report_answers.specs.ToldAnswers.{AreRows, AreTotals, IsNamedRoute, IsOnLink, IsTold, IsTranslated, Tells, length_on};
+ghost use Rattle.lrs_report_answers.specs.ToldAnswers.{AreRows, AreTotals, IsNamedRoute, IsOnLink, IsOverlay, IsTold, IsTranslated, Tells, UnlessRefused, length_on};
 
+use crate::class_faults::class_fault;
 use crate::tallies::Counts;
 use crate::{
     AskFault, End, Told, at, diagram, end_of, find, length_of, named_route, segments, to_link,
@@ -25,8 +29,8 @@ use lrs_events::{ClassName, Side};
 use lrs_image::ImageLists;
 use lrs_inventory::Inventory;
 use lrs_machine::{
-    AskedPlace, Destination, GoneWanted, Key, Listing, Missing, Place, Question, RowsAsked,
-    RowsWanted,
+    AskedPlace, Destination, GoneWanted, Key, Listing, Missing, OverlayAsked, OverlayWanted, Place,
+    Question, RowsAsked, RowsWanted,
 };
 use lrs_measure::Rows;
 use lrs_position::{Expr, RouteName, Target};
@@ -333,12 +337,70 @@ fn tell_rows<'a>(inventory: &'a Inventory, asked: &RowsAsked) -> Result<Told<'a>
     tell_rows_between(inventory, asked)
 }
 
+/// What is asked for, where the ends of the stretch are found.
+fn overlay_wanted(asked: OverlayAsked, from: Option<u64>, to: Option<u64>) -> OverlayWanted
+    ensures { result ≡ overlay_wanted asked from to }
+{
+    OverlayWanted {
+        classes: asked.classes,
+        route: asked.route,
+        side: asked.side,
+        from,
+        to,
+        gaps: asked.gaps,
+    }
+}
+
+fn tell_overlay_between<'a>(
+    inventory: &'a Inventory,
+    asked: OverlayAsked,
+) -> Result<Told<'a>, AskFault>
+    ensures answer { OnStretch inventory.now asked.route asked.from asked.to
+        (λ first last. Tells (IsInventory inventory.now)
+        (told.Overlay (overlay_wanted asked first last))) result }
+    ensures never { result ≡ Err AskFault.MustReopen → ⊥ }
+{
+    let from = end_of(inventory, asked.route, End::From, asked.from)?;
+    let to = end_of(inventory, asked.route, End::To, asked.to)?;
+    let wanted = overlay_wanted(asked, from, to);
+    Ok(Told::Overlay { wanted, inventory })
+}
+
+/// Tells the values of exclusive classes side by side, on a route that is there or on all.
+fn tell_side_by_side<'a>(
+    inventory: &'a Inventory,
+    asked: OverlayAsked,
+) -> Result<Told<'a>, AskFault>
+    ensures answer { UnlessRefused
+        (segment_fault (class_list (state_of inventory.now)) asked.classes L)
+        (OnStretch inventory.now asked.route asked.from asked.to
+        (λ first last. Tells (IsInventory inventory.now)
+        (told.Overlay (overlay_wanted asked first last)))) result }
+    ensures never { result ≡ Err AskFault.MustReopen → ⊥ }
+{
+    if let Some(fault) = class_fault(inventory, asked.classes.as_slice()) {
+        return Err(AskFault::Seg(fault));
+    }
+    tell_overlay_between(inventory, asked)
+}
+
+fn tell_overlay<'a>(inventory: &'a Inventory, asked: OverlayAsked) -> Result<Told<'a>, AskFault>
+    ensures answer { IsOverlay inventory.now asked result }
+    ensures never { result ≡ Err AskFault.MustReopen → ⊥ }
+{
+    if let Some(missing) = missing_route(inventory.kept(), asked.route) {
+        return Err(AskFault::Missing(missing));
+    }
+    tell_side_by_side(inventory, asked)
+}
+
 /// Answers a question of any kind. `counts` are those of the inventory.
 ///
 /// # Errors
 /// Those of the function for its kind: `at`, `named_route`, `segments`, `translate`, `to_link`, `diagram`, `Counts::totals`,
-/// `find` or `whereabouts`; `Missing` of the first thing that lengths, rows or a listing name and the inventory does not have;
-/// then those of `end_of`, of the start of a stretch before those of its end; never `MustReopen`.
+/// `find` or `whereabouts`; `Missing` of the first thing that lengths, rows, an overlay or a listing name and the inventory does
+/// not have; then of an overlay `Seg` of the first class that is not there, else of the first that is not exclusive; then those
+/// of `end_of`, of the start of a stretch before those of its end; never `MustReopen`.
 pub fn tell<'a>(
     alloc: Global,
     inventory: &'a Inventory,
@@ -376,6 +438,7 @@ pub fn tell<'a>(
         Question::Where(spot) => tell_where(alloc, inventory, spot),
         Question::Lengths(route) => tell_lengths(alloc, inventory, route),
         Question::Rows(asked) => tell_rows(inventory, &asked),
+        Question::Overlay(asked) => tell_overlay(inventory, asked),
         Question::List(listing) => tell_listing(inventory, listing),
         Question::Health => Ok(Told::Health(inventory.edits())),
     }

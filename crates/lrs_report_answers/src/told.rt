@@ -3,7 +3,7 @@
 use crate::{AtAnswer, FoundRow, RouteSegments, Whereabouts};
 use lrs_events::{ClassName, Side};
 use lrs_inventory::Inventory;
-use lrs_machine::{Listing, RowsWanted, Total};
+use lrs_machine::{Listing, OverlayWanted, RowsWanted, Total};
 use lrs_measure::{Frac, Rows};
 use lrs_position::{Expr, Route, RouteName};
 use lrs_report::Diagram;
@@ -52,6 +52,12 @@ pub enum Told<'a> {
     /// The rows of this inventory that are wanted, which has all that they name. Each row is made where it is written.
     Rows {
         wanted: RowsWanted,
+        inventory: &'a Inventory,
+    },
+    /// The segments of this inventory that are wanted, with the values of exclusive classes side by side. It has the route that
+    /// they name, and the classes. Each segment is made where it is written.
+    Overlay {
+        wanted: OverlayWanted,
         inventory: &'a Inventory,
     },
     /// What is listed of this inventory, which has all that the listing names. Each entry is made where it is written.

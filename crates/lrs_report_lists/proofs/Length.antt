@@ -5,6 +5,8 @@ pub mod Ranks
 pub mod Swept
 pub mod Groups
 pub mod Axis
+pub mod Numbered
+pub mod Holders
 pub mod Whole
 pub mod Sides
 pub mod Unique

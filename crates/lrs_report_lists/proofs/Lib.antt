@@ -4,6 +4,7 @@ pub mod Chosen
 pub mod Plain
 pub mod Stretch
 pub mod Length
+pub mod RoadOrder
 pub mod FewestPieces
 pub mod CoursePieces
 pub mod Placed

@@ -1,7 +1,8 @@
--- Laws of lists: a row of a stretch has a millimetre of it, a row holds the same on the links under it, and no field has to be quoted.
-use Rattle.std.specs.Prelude.{◌≡◌, ◌↔◌, ⊤, ℕ, ◌+◌, ◌<◌, ◌≤◌, ◌^◌, Bool, true, false, ◌&&◌, not, nat_eq, nat_le, nat_lt, IsTrue, pos, [], ◌∷◌, Option, Some, None}
+-- Laws of lists: a row of a stretch has a millimetre of it, the rows that are told are those that are asked for, a row holds the same on the links under it, and no field has to be quoted.
+use Rattle.std.specs.Prelude.{◌≡◌, ◌↔◌, ⊤, ℕ, ◌+◌, ◌<◌, ◌≤◌, ◌^◌, Bool, true, false, ◌&&◌, not, nat_eq, nat_le, nat_lt, IsTrue, pos, List, [], ◌∷◌, filter, IsPermutation, Option, Some, None}
 use Rattle.std.specs.List.{list_all, list_any}
 use Rattle.std.specs.Fmt.{decimal}
+use Rattle.lrs_measure.specs.Lists.{each_two}
 use Rattle.lrs_measure.specs.FractionTexts.{fraction_text, metres_text}
 use Rattle.lrs_position.specs.Names.{is_referent_name, is_route_name}
 use Rattle.lrs_element.specs.declared.link.Piece.{Piece}
@@ -10,15 +11,18 @@ use Rattle.lrs_events.specs.declared.side.LinkSide.{LinkSide}
 use Rattle.lrs_events.specs.declared.side.Side.{Side}
 use Rattle.lrs_events.specs.declared.span.Span.{Span}
 use Rattle.lrs_events.specs.Members.{has_side}
+use Rattle.lrs_events.specs.Spans.{are_rows}
 use Rattle.lrs_events.specs.Places.{along_link}
 use Rattle.lrs_events.specs.Names.{is_class_name, is_value}
 use Rattle.lrs_machine.specs.Keys.{is_key}
 use Rattle.lrs_machine.specs.Lines.{Text, line_of}
 use Rattle.lrs_machine.specs.declared.command.Command.{Command}
+use Rattle.lrs_machine.specs.declared.question.RowsWanted.{RowsWanted}
 use Rattle.lrs_report_lists.specs.declared.link_rows.LinkStretch.{LinkStretch}
 use Rattle.lrs_report_lists.specs.Lines.{verb_in}
 use Rattle.lrs_report_lists.specs.LinkRows.{on_piece, seen_along}
-use Rattle.lrs_report_lists.specs.WantedRows.{has_between}
+use Rattle.lrs_report_lists.specs.RoadOrder.{in_road_order, road_before}
+use Rattle.lrs_report_lists.specs.WantedRows.{has_between, is_wanted}
 
 -- the chainage is at or behind the start of the stretch that is asked for
 abbrev pub IsBehind : Option ℕ → ℕ → Type 0
@@ -40,6 +44,14 @@ pub record IsOfBoth (from to : Option ℕ) (r : Span) (j : ℕ) : Type 0 where
 -- A row is of a stretch exactly where they have a millimetre in common.
 abbrev pub RowsHaveAMillimetre : Type 0
 RowsHaveAMillimetre = (from to : Option ℕ) (r : Span) → IsTrue (has_between from to r) ↔ ((j : ℕ) × IsOfBoth from to r j)
+
+-- These are the rows of a route that are asked for, each as often as the route has it, and each two are in the order of the road.
+pub record AreToldOf (w : RowsWanted) (rows told : List Span) : Type 0 where
+  pub same : IsPermutation (filter (is_wanted w) rows) told
+  pub order : each_two road_before told ≡ true
+
+abbrev pub RowsAreToldInOrder : Type 0
+RowsAreToldInOrder = (w : RowsWanted) (rows : List Span) → IsTrue (are_rows rows) → AreToldOf w rows (in_road_order (filter (is_wanted w) rows))
 
 -- the byte means nothing in CSV: it is no quotation mark, no comma and no end of a line
 abbrev pub is_plain_byte : ℕ → Bool

@@ -4,6 +4,7 @@ pub mod PlacedPieces
 pub mod Lines
 pub mod LinkRows
 pub mod WantedRows
+pub mod RoadOrder
 pub mod Lists
 pub mod Parts
 pub mod Laws

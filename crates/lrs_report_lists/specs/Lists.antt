@@ -1,4 +1,4 @@
--- The lists of an inventory: a header, and a line for each entry in the order in which the image keeps them.
+-- The lists of an inventory: a header, and a line for each entry in the order in which the image keeps them; rows in that of the road.
 use Rattle.std.specs.Prelude.{ℕ, Bool, List, [], ◌∷◌, ◌++◌, codes, filter, Option}
 use Rattle.std.specs.List.{flat_map}
 use Rattle.lrs_measure.specs.Texts.{Name}
@@ -13,6 +13,7 @@ use Rattle.lrs_machine.specs.declared.question.RowsWanted.{RowsWanted}
 use Rattle.lrs_report_lists.specs.Lines.{class_line, csv_line, entered_line, gone_line, left_line, link_line, mark_line, piece_line, ref_line, route_line}
 use Rattle.lrs_report_lists.specs.LinkRows.{link_rows_header, row_text}
 use Rattle.lrs_report_lists.specs.PlacedPieces.{placed_pieces}
+use Rattle.lrs_report_lists.specs.RoadOrder.{in_road_order}
 use Rattle.lrs_report_lists.specs.WantedRows.{is_gone_of, is_gone_wanted, is_of_route, is_part_of, is_wanted}
 
 -- every route
@@ -56,7 +57,7 @@ pieces_on e = flat_map (piece_line e.route.name) (placed_pieces e.route.course)
 abbrev pub pieces_text : Option Name → Image → Text
 pieces_text route i = pieces_header ++ flat_map pieces_on (routes_named route i)
 
--- every row that is asked for, of every route that is asked for, in the form that is asked for
+-- every row that is asked for, of every route that is asked for, in the form that is asked for: by route, and then in the order of the road
 abbrev pub route_rows_header : Text
 route_rows_header =
     csv_line
@@ -79,7 +80,7 @@ rows_header Exact = route_rows_header
 rows_header OnLinks = link_rows_header
 
 abbrev pub rows_of : RowsWanted → List Asset → RouteRow → Text
-rows_of w assets e = flat_map (row_text w.form assets e.route) (filter (is_wanted w) e.spans)
+rows_of w assets e = flat_map (row_text w.form assets e.route) (in_road_order (filter (is_wanted w) e.spans))
 
 abbrev pub rows_text : RowsWanted → Image → Text
 rows_text w i = rows_header w.form ++ flat_map (rows_of w i.assets) (filter (is_of_route w.route) i.routes)

@@ -13,11 +13,9 @@ use Rattle.lrs_machine.specs.Lines.{Text}
 use Rattle.lrs_machine.specs.declared.image.Edit.{Edit}
 use Rattle.lrs_machine.specs.declared.image.Image.{Image}
 use Rattle.lrs_machine.specs.declared.question.GoneWanted.{GoneWanted}
-use Rattle.lrs_machine.specs.declared.question.RowsWanted.{RowsWanted}
 use Rattle.lrs_report_lists.specs.Lines.{asset_numbered, direction_text, edit_numbered, entered_line, gone_line_with, key_text, left_line, link_side_text, reason_text, said_of, verb_text}
-use Rattle.lrs_report_lists.specs.LinkRows.{row_text}
 use Rattle.lrs_report_lists.specs.Measures.{measure_field}
-use Rattle.lrs_report_lists.specs.WantedRows.{is_asset_of, is_edit_wanted, is_gone_of, is_part_of, is_wanted}
+use Rattle.lrs_report_lists.specs.WantedRows.{is_asset_of, is_edit_wanted, is_gone_of, is_part_of}
 
 -- of a row: route, from and to
 abbrev pub place_part : Name → Span → Text
@@ -34,10 +32,6 @@ holder_part r = 44 ∷ (side_text r.side ++ 44 ∷ (decimal r.asset ++ 44 ∷ (r
 -- value, lateral offset and edit, and the end of the line
 abbrev pub asset_part : Option Asset → Text
 asset_part a = said_of (λ x. x.value) a ++ 44 ∷ (said_of (λ x. decimal x.lateral) a ++ 44 ∷ (said_of (λ x. decimal x.entered_by) a ++ 10 ∷ []))
-
--- a row where it is asked for
-abbrev pub wanted_text : RowsWanted → List Asset → Route → Span → Text
-wanted_text w assets route r = if is_wanted w r then row_text w.form assets route r else []
 
 -- of a piece: the route, from and to, and then the link, its millimetres, the direction, and the end of the line
 abbrev pub chainages_part : Name → ℕ → ℕ → Text

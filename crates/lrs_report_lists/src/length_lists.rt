@@ -3,6 +3,7 @@
 
 mod assets;
 mod entries;
+mod held_assets;
 mod held_lengths;
 pub mod laws;
 mod lines;

@@ -10,18 +10,19 @@ ghost use Rattle.lrs_image.specs.OpenLists.{image_of};
 ghost use Rattle.lrs_report_lists.specs.Lines.{row_line_with};
 ghost use Rattle.lrs_report_lists.specs.LinkRows.{row_text, row_text_with};
 ghost use Rattle.lrs_report_lists.specs.Lists.{rows_header, rows_of, rows_text};
-ghost use Rattle.lrs_report_lists.specs.Parts.{asset_part, holder_part, measures_part, place_part, wanted_text};
+ghost use Rattle.lrs_report_lists.specs.Parts.{asset_part, holder_part, measures_part, place_part};
 ghost use Rattle.lrs_report_lists.specs.WantedRows.{is_of_route};
 
 use crate::assets::asset_numbered;
 use crate::link_rows::write_on_links;
 use crate::measures::write_measure;
-use crate::wanted::is_wanted;
+use crate::road_order::rows_in_road_order;
 use lrs_events::{Asset, Span};
 use lrs_image::ImageLists;
 use lrs_machine::{RouteRow, RowForm, RowsWanted};
 use lrs_ordered::Chunked;
 use lrs_position::{Route, RouteName};
+use std::alloc::Global;
 use std::io;
 use std::io::Write;
 
@@ -123,43 +124,26 @@ fn write_row<W: Write>(
     write_in_form(writer, form, asset_numbered(assets, row.asset), route, row)
 }
 
-/// Writes a row where it is asked for.
-fn write_wanted_row<W: Write>(
-    writer: &mut W,
-    wanted: &RowsWanted,
-    assets: &Chunked<Asset>,
-    route: &Route,
-    row: &Span,
-) -> io::Result<()>
-    requires order { each_two asset_before assets.now.rows ≡ true }
-    ensures { OnOk result (Appends (W.contents writer.old) (W.contents writer.new)
-        (wanted_text wanted.now assets.now.rows route.now row.now)) }
-{
-    if is_wanted(wanted, row) {
-        return write_row(writer, wanted.form, assets, route, row);
-    }
-    Ok(())
-}
-
 fn write_rows_on<W: Write>(
     writer: &mut W,
-    wanted: &RowsWanted,
+    form: RowForm,
     assets: &Chunked<Asset>,
     route: &Route,
     rows: &[Span],
 ) -> io::Result<()>
     requires order { each_two asset_before assets.now.rows ≡ true }
     ensures { OnOk result (Appends (W.contents writer.old) (W.contents writer.new)
-        (flat_map (wanted_text wanted.now assets.now.rows route.now) rows.now)) }
+        (flat_map (row_text form assets.now.rows route.now) rows.now)) }
 {
     for row in rows {
-        write_wanted_row(writer, wanted, assets, route, row)?;
+        write_row(writer, form, assets, route, row)?;
     }
     Ok(())
 }
 
 /// Writes the rows of a route that are asked for.
 fn write_rows_of<W: Write>(
+    alloc: Global,
     writer: &mut W,
     wanted: &RowsWanted,
     assets: &Chunked<Asset>,
@@ -169,16 +153,12 @@ fn write_rows_of<W: Write>(
     ensures { OnOk result (Appends (W.contents writer.old) (W.contents writer.new)
         (rows_of wanted.now assets.now.rows route_row.now)) }
 {
-    write_rows_on(
-        writer,
-        wanted,
-        assets,
-        &route_row.route,
-        route_row.spans.rows(),
-    )
+    let rows = rows_in_road_order(alloc, wanted, route_row.spans.rows())?;
+    write_rows_on(writer, wanted.form, assets, &route_row.route, &rows)
 }
 
 fn write_each_row<W: Write>(
+    alloc: Global,
     writer: &mut W,
     wanted: &RowsWanted,
     assets: &Chunked<Asset>,
@@ -189,13 +169,14 @@ fn write_each_row<W: Write>(
         (flat_map (rows_of wanted.now assets.now.rows) routes.now.rows)) }
 {
     for route_row in routes.iter() {
-        write_rows_of(writer, wanted, assets, route_row)?;
+        write_rows_of(alloc, writer, wanted, assets, route_row)?;
     }
     Ok(())
 }
 
 /// Writes the rows that are asked for of one route, if there is one.
 fn write_rows_of_some<W: Write>(
+    alloc: Global,
     writer: &mut W,
     wanted: &RowsWanted,
     assets: &Chunked<Asset>,
@@ -206,13 +187,14 @@ fn write_rows_of_some<W: Write>(
         (option_map_or (rows_of wanted.now assets.now.rows) (option_map (λ e. e.now) route_row.entry) [])) }
 {
     match route_row {
-        Some(route_row) => write_rows_of(writer, wanted, assets, route_row),
+        Some(route_row) => write_rows_of(alloc, writer, wanted, assets, route_row),
         None => Ok(()),
     }
 }
 
 /// Writes the rows that are asked for. A route that is named is found by search.
 fn write_asked<W: Write>(
+    alloc: Global,
     writer: &mut W,
     wanted: &RowsWanted,
     assets: &Chunked<Asset>,
@@ -225,8 +207,8 @@ fn write_asked<W: Write>(
         (filter (is_of_route wanted.now.route) routes.now.rows))) }
 {
     match &wanted.route {
-        Some(name) => write_rows_of_some(writer, wanted, assets, routes.find(name)),
-        None => write_each_row(writer, wanted, assets, routes),
+        Some(name) => write_rows_of_some(alloc, writer, wanted, assets, routes.find(name)),
+        None => write_each_row(alloc, writer, wanted, assets, routes),
     }
 }
 
@@ -244,8 +226,9 @@ fn write_header<W: Write>(writer: &mut W, form: RowForm) -> io::Result<()>
     }
 }
 
-/// Writes each row that is asked for, by route, and then as the route keeps them, by class, asset and start, in the form that
-/// is asked for. The header says what a line has.
+/// Writes each row that is asked for, in the form that is asked for: by route, and then in the order of the road, by the
+/// chainage at which the rows begin, then side, left before right before both, then class and asset. The header says what a
+/// line has.
 ///
 /// On routes: `route,from,to,from_measure,to_measure,side,asset,class,value,offset,entry`. From and to are chainages in
 /// millimetres; a point's `to` is `from + 1`. The measures there are exact, or decimals of three places, a half going up. The
@@ -255,11 +238,14 @@ fn write_header<W: Write>(writer: &mut W, form: RowForm) -> io::Result<()>
 /// a millimetre of, in the order of the route. From and to are millimetres of the link, from below to, and the side is seen
 /// along the link.
 ///
-/// It takes no memory beyond the writer's, and does not flush the writer.
+/// Beyond the writer's memory it takes that for the rows of one route at a time that are asked for, to sort them. It does not
+/// flush the writer.
 ///
 /// # Errors
-/// That of the writer. Part of the list may be written then. A route, a class or an asset that is not known has no rows.
+/// That of the writer, and `OutOfMemory` when memory runs out. Part of the list may be written then. A route, a class or an
+/// asset that is not known has no rows.
 pub fn write_rows<W: Write>(
+    alloc: Global,
     writer: &mut W,
     kept: &ImageLists,
     wanted: &RowsWanted,
@@ -269,5 +255,5 @@ pub fn write_rows<W: Write>(
         (rows_text wanted.now (image_of kept.now))) }
 {
     write_header(writer, wanted.form)?;
-    write_asked(writer, wanted, &kept.assets, &kept.routes)
+    write_asked(alloc, writer, wanted, &kept.assets, &kept.routes)
 }

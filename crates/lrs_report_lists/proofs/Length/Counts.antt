@@ -62,10 +62,14 @@ one-or-other true c h = ap (λ d. 1 + cond d 1 0) (sym (h refl))
 one-or-other false c h = sym (zero-add (cond c 1 0))
 
 -- what passes the one test or the other, and never both
+pub counted-or : {X : Type 0} (p q : X → Bool) (xs : List X) → ((x : X) → p x ≡ true → q x ≡ false) → count_by (λ x. p x || q x) xs ≡ count_by p xs + count_by q xs
+counted-or p q xs apart =
+    sum-agree (λ x. cond (p x || q x) 1 0) (λ x. cond (p x) 1 0 + cond (q x) 1 0) xs (λ x. one-or-other (p x) (q x) (apart x))
+    ∙ sum-plus (λ x. cond (p x) 1 0) (λ x. cond (q x) 1 0) xs
+
+-- ... of a stretch
 pub count-or : (p q : ℕ → Bool) (a n : ℕ) → ((x : ℕ) → p x ≡ true → q x ≡ false) → count (λ x. p x || q x) a n ≡ count p a n + count q a n
-count-or p q a n apart =
-    sum-agree (λ x. cond (p x || q x) 1 0) (λ x. cond (p x) 1 0 + cond (q x) 1 0) (range_with_len a n) (λ x. one-or-other (p x) (q x) (apart x))
-    ∙ sum-plus (λ x. cond (p x) 1 0) (λ x. cond (q x) 1 0) (range_with_len a n)
+count-or p q a n apart = counted-or p q (range_with_len a n) apart
 
 -- ---- a stretch of a stretch
 

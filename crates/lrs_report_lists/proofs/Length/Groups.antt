@@ -1,6 +1,6 @@
 -- Stretches of one class and value in front of others: they are a group, and their lengths stand in front in the table.
 use Rattle.std.proofs.Common.{◌≡◌, ℕ, suc, ◌+◌, ◌<◌, Bool, true, false, not, cond, List, [], ◌∷◌, ◌++◌, length, take, drop, get_or, refl, sym, ap, ap₂, subst, ◌∙◌, arith, append_assoc, append-nil, take-append-drop}
-use Rattle.std.specs.Prelude.{◌&&◌, ◌||◌}
+use Rattle.std.specs.Prelude.{◌&&◌, ◌||◌, nat_eq}
 use Rattle.std.specs.List.{list_all, list_any, prefix_len, count_by, range_with_len, AllByRecursion}
 use Rattle.std.specs.Cmp.Lexicographic.{bytes_decides}
 use Rattle.std.proofs.lemmas.Bool.{both_ways, and_parts, and_from, or_left, false_from_ne_true, not_from_false}
@@ -9,11 +9,13 @@ use Rattle.std.proofs.lemmas.List.Sums.{prefix_len-le-length}
 use Rattle.lrs_measure.specs.Lists.{In, each_two}
 use Rattle.lrs_measure.specs.Texts.{Name, same_name}
 use Rattle.lrs_measure.proofs.Members.{any_found, any_of, all_at, all_of, all_weaker}
+use Rattle.lrs_events.specs.declared.class.Asset.{Asset}
 use Rattle.lrs_events.specs.declared.side.Side.{Side}
+use Rattle.lrs_machine.specs.Sound.{asset_before}
 use Rattle.lrs_report_lists.specs.declared.length_lists.entries.LengthEntry.{LengthEntry}
 use Rattle.lrs_report_lists.specs.declared.length_lists.table.ValueLength.{ValueLength}
 use Rattle.lrs_report_lists.specs.Length.Lengths.{has_either, has_left, has_right, is_length_of, key_before, length_before}
-use Rattle.lrs_report_lists.specs.Length.Parts.{HasHeld, IsGroup, IsTable, begins_by, ends_by, held, held_by, is_entry_of, is_later, is_over, not_behind}
+use Rattle.lrs_report_lists.specs.Length.Parts.{HasHeld, IsGroup, IsTable, begins_by, ends_by, held, held_by, holders, holders_by, is_entry_of, is_held_by, is_later, is_over, not_behind}
 use Rattle.lrs_report_lists.proofs.Length.Ranks.{before_by, is_behind, key_tie, rise_together, same_by, still_later}
 use Rattle.lrs_report_lists.proofs.Length.Tests.{any-all, any-none, front_passes, one_more, or_nothing, two-drop, two-take, two-weaker}
 
@@ -122,26 +124,37 @@ module _ (group others : List LengthEntry) (row : ValueLength) (some : list_any 
   group_differs l h = all_weaker is_row (λ e. not (is_entry_of l.class l.value e)) group
       (λ e mine. not_from_false (is_entry_of l.class l.value e) (same_key row.class row.value l.class l.value e mine ∙ not_alike (row.class, row.value) (l.class, l.value) h)) alike
 
+  -- what some stretch of the group does, some stretch of its class and value does
+  own_any : (does : LengthEntry → Bool) → list_any (λ e. is_row e && does e) (group ++ others) ≡ list_any does group
+  own_any does =
+      list_any-append (λ e. is_row e && does e) group others
+      ∙ (λ i. any-all is_row does group alike i || any-none is_row does others others_differ i)
+      ∙ or_nothing (list_any does group)
+
   -- what the group holds is what is held by its class and value
   own_held : (counted : Side → Bool) (n : ℕ) → held_by counted row.class row.value (group ++ others) n ≡ held counted group n
-  own_held counted n = λ i. count_by (λ x. at x i) (range_with_len 0 n)
-    where
-      at : (x : ℕ) → list_any (λ e. is_row e && is_over counted x e) (group ++ others) ≡ list_any (is_over counted x) group
-      at x =
-          list_any-append (λ e. is_row e && is_over counted x e) group others
-          ∙ (λ i. any-all is_row (is_over counted x) group alike i || any-none is_row (is_over counted x) others others_differ i)
-          ∙ or_nothing (list_any (is_over counted x) group)
+  own_held counted n = λ i. count_by (λ x. own_any (is_over counted x) i) (range_with_len 0 n)
+
+  -- ... and the assets that hold it are those of its class and value
+  own_holders : (assets : List Asset) → holders_by row.class row.value (group ++ others) assets ≡ holders group assets
+  own_holders assets = λ i. count_by (λ a. own_any (λ e. nat_eq e.asset a.number) i) assets
+
+  -- what some stretch of another line does, some of the others does
+  other_any : (does : LengthEntry → Bool) (l : ValueLength) → length_before row l ≡ true
+      → list_any (λ e. is_entry_of l.class l.value e && does e) (group ++ others) ≡ list_any (λ e. is_entry_of l.class l.value e && does e) others
+  other_any does l h =
+      list_any-append (λ e. is_entry_of l.class l.value e && does e) group others
+      ∙ ap (λ b. b || list_any (λ e. is_entry_of l.class l.value e && does e) others) (any-none (is_entry_of l.class l.value) does group (group_differs l h))
 
   -- the others hold what they held
   other_held : (counted : Side → Bool) (n : ℕ) (l : ValueLength) → length_before row l ≡ true → held_by counted l.class l.value (group ++ others) n ≡ held_by counted l.class l.value others n
-  other_held counted n l h = λ i. count_by (λ x. at x i) (range_with_len 0 n)
-    where
-      at : (x : ℕ) → list_any (λ e. is_entry_of l.class l.value e && is_over counted x e) (group ++ others) ≡ list_any (λ e. is_entry_of l.class l.value e && is_over counted x e) others
-      at x =
-          list_any-append (λ e. is_entry_of l.class l.value e && is_over counted x e) group others
-          ∙ ap (λ b. b || list_any (λ e. is_entry_of l.class l.value e && is_over counted x e) others) (any-none (is_entry_of l.class l.value) (is_over counted x) group (group_differs l h))
+  other_held counted n l h = λ i. count_by (λ x. other_any (is_over counted x) l h i) (range_with_len 0 n)
 
-  module _ (n : ℕ) (more : List ValueLength) (table : IsTable n others more) where
+  -- ... and are held by the assets that held them
+  other_holders : (assets : List Asset) (l : ValueLength) → length_before row l ≡ true → holders_by l.class l.value (group ++ others) assets ≡ holders_by l.class l.value others assets
+  other_holders assets l h = λ i. count_by (λ a. other_any (λ e. nat_eq e.asset a.number) l h i) assets
+
+  module _ (n : ℕ) (assets : List Asset) (more : List ValueLength) (table : IsTable n assets others more) where
     ahead : (l : ValueLength) → In l more → length_before row l ≡ true
     ahead l m =
         let own = and_from (same_name l.class l.class) (same_name l.value l.value) (own_name l.class) (own_name l.value) in
@@ -152,7 +165,7 @@ module _ (group others : List LengthEntry) (row : ValueLength) (some : list_any 
         ap₂ (λ x y. key_before row.class row.value x y) (sym ((bytes_decides e.class l.class).0 both.0)) (sym ((bytes_decides e.value l.value).0 both.1))
         ∙ all_at (λ f. key_before row.class row.value f.class f.value) e others later found.1
 
-    kept : (ls : List ValueLength) → list_all (length_before row) ls ≡ true → AllByRecursion (HasHeld n others) ls → AllByRecursion (HasHeld n (group ++ others)) ls
+    kept : (ls : List ValueLength) → list_all (length_before row) ls ≡ true → AllByRecursion (HasHeld n assets others) ls → AllByRecursion (HasHeld n assets (group ++ others)) ls
     kept [] h all = tt
     kept (l ∷ ls) h all =
         let both = and_parts (length_before row l) (list_all (length_before row) ls) h in (
@@ -160,13 +173,14 @@ module _ (group others : List LengthEntry) (row : ValueLength) (some : list_any 
             left_is = all.0.left_is ∙ sym (other_held has_left n l both.0);
             right_is = all.0.right_is ∙ sym (other_held has_right n l both.0);
             length_is = all.0.length_is ∙ sym (other_held has_either n l both.0);
+            assets_is = all.0.assets_is ∙ sym (other_holders assets l both.0);
           },
           kept ls both.1 all.1,
         )
 
     -- The line of the group in front of those of the others.
-    pub line_in_front : row.left ≡ held has_left group n → row.right ≡ held has_right group n → row.length ≡ held has_either group n → IsTable n (group ++ others) (row ∷ more)
-    line_in_front left right either =
+    pub line_in_front : row.left ≡ held has_left group n → row.right ≡ held has_right group n → row.length ≡ held has_either group n → row.assets ≡ holders group assets → IsTable n assets (group ++ others) (row ∷ more)
+    line_in_front left right either count =
         let front = all_of (length_before row) more ahead in
         record {
           order = and_from (list_all (length_before row) more) (each_two length_before more) front table.order;
@@ -178,13 +192,14 @@ module _ (group others : List LengthEntry) (row : ValueLength) (some : list_any 
               left_is = left ∙ sym (own_held has_left n);
               right_is = right ∙ sym (own_held has_right n);
               length_is = either ∙ sym (own_held has_either n);
+              assets_is = count ∙ sym (own_holders assets);
             },
             kept more front table.counts,
           );
         }
 
-pub no_lines : (n : ℕ) → IsTable n [] []
-no_lines n = record { order = refl; exact = λ class value. refl; counts = tt }
+pub no_lines : (n : ℕ) (assets : List Asset) → IsTable n assets [] []
+no_lines n assets = record { order = refl; exact = λ class value. refl; counts = tt }
 
 -- ---- the loop
 
@@ -192,10 +207,12 @@ no_lines n = record { order = refl; exact = λ class value. refl; counts = tt }
 pub record Leads (entries rest : List LengthEntry) (lines : List ValueLength) : Type 0 where
   pub order : each_two not_behind rest ≡ true
   pub ends : (n : ℕ) → list_all (ends_by n) entries ≡ true → list_all (ends_by n) rest ≡ true
-  pub table : (n : ℕ) → list_all (ends_by n) entries ≡ true → (more : List ValueLength) → IsTable n rest more → IsTable n entries (lines ++ more)
+  pub known : (assets : List Asset) → list_all (is_held_by assets) entries ≡ true → list_all (is_held_by assets) rest ≡ true
+  pub table : (n : ℕ) (assets : List Asset) → list_all (ends_by n) entries ≡ true → each_two asset_before assets ≡ true → list_all (is_held_by assets) entries ≡ true
+      → (more : List ValueLength) → IsTable n assets rest more → IsTable n assets entries (lines ++ more)
 
 pub leads_first : (entries : List LengthEntry) → each_two not_behind entries ≡ true → Leads entries entries []
-leads_first entries order = record { order = order; ends = λ n h. h; table = λ n h more t. t }
+leads_first entries order = record { order = order; ends = λ n h. h; known = λ assets h. h; table = λ n assets h o k more t. t }
 
 pub leads_next : (entries rest : List LengthEntry) (lines : List ValueLength) (first : LengthEntry) (count : ℕ) (row : ValueLength) (group others : List LengthEntry)
     → Leads entries rest lines → IsGroup first rest count → group ≡ take count rest → others ≡ drop count rest
@@ -203,23 +220,28 @@ pub leads_next : (entries rest : List LengthEntry) (lines : List ValueLength) (f
     → ((n : ℕ) → list_all (ends_by n) group ≡ true → row.left ≡ held has_left group n)
     → ((n : ℕ) → list_all (ends_by n) group ≡ true → row.right ≡ held has_right group n)
     → ((n : ℕ) → list_all (ends_by n) group ≡ true → row.length ≡ held has_either group n)
+    → ((assets : List Asset) → each_two asset_before assets ≡ true → list_all (is_held_by assets) group ≡ true → row.assets ≡ holders group assets)
     → Leads entries others (lines ++ row ∷ [])
-leads_next entries rest lines first count row group others leads is g o class value left right either =
+leads_next entries rest lines first count row group others leads is g o class value left right either holds =
     let whole : rest ≡ group ++ others = sym ((λ i. g i ++ o i) ∙ take-append-drop count rest) in
     let ends : (n : ℕ) → list_all (ends_by n) entries ≡ true → (list_all (ends_by n) group ≡ true) × (list_all (ends_by n) others ≡ true) = λ n h.
     and_parts (list_all (ends_by n) group) (list_all (ends_by n) others) (sym (list_all-append (ends_by n) group others) ∙ ap (list_all (ends_by n)) (sym whole) ∙ leads.ends n h) in
+    let known : (assets : List Asset) → list_all (is_held_by assets) entries ≡ true → (list_all (is_held_by assets) group ≡ true) × (list_all (is_held_by assets) others ≡ true) = λ assets h.
+    and_parts (list_all (is_held_by assets) group) (list_all (is_held_by assets) others) (sym (list_all-append (is_held_by assets) group others) ∙ ap (list_all (is_held_by assets)) (sym whole) ∙ leads.known assets h) in
     let some : list_any (is_entry_of row.class row.value) group ≡ true = (λ i. list_any (is_entry_of (class i) (value i)) (g i)) ∙ is.has_first in
     let alike : list_all (is_entry_of row.class row.value) group ≡ true = (λ i. list_all (is_entry_of (class i) (value i)) (g i)) ∙ is.alike in
     let later : list_all (λ e. key_before row.class row.value e.class e.value) others ≡ true = (λ i. list_all (λ e. key_before (class i) (value i) e.class e.value) (o i)) ∙ is.later in
     record {
       order = ap (each_two not_behind) o ∙ is.order;
       ends = λ n h. (ends n h).1;
-      table = λ n h more t.
+      known = λ assets h. (known assets h).1;
+      table = λ n assets h order k more t.
           let in_group = (ends n h).0 in
-          let front = line_in_front group others row some alike later n more t (left n in_group) (right n in_group) (either n in_group) in
-          subst (IsTable n entries) (sym (append_assoc lines (row ∷ []) more)) (leads.table n h (row ∷ more) (subst (λ (z : List LengthEntry). IsTable n z (row ∷ more)) (sym whole) front));
+          let front = line_in_front group others row some alike later n assets more t (left n in_group) (right n in_group) (either n in_group) (holds assets order (known assets k).0) in
+          subst (IsTable n assets entries) (sym (append_assoc lines (row ∷ []) more)) (leads.table n assets h order k (row ∷ more) (subst (λ (z : List LengthEntry). IsTable n assets z (row ∷ more)) (sym whole) front));
     }
 
-pub leads_end : (entries rest : List LengthEntry) (lines : List ValueLength) → Leads entries rest lines → rest ≡ [] → (n : ℕ) → list_all (ends_by n) entries ≡ true → IsTable n entries lines
-leads_end entries rest lines leads e n h =
-    subst (IsTable n entries) (append-nil lines) (leads.table n h [] (subst (λ (z : List LengthEntry). IsTable n z []) (sym e) (no_lines n)))
+pub leads_end : (entries rest : List LengthEntry) (lines : List ValueLength) → Leads entries rest lines → rest ≡ [] → (n : ℕ) (assets : List Asset) → list_all (ends_by n) entries ≡ true → each_two asset_before assets ≡ true → list_all (is_held_by assets) entries ≡ true
+    → IsTable n assets entries lines
+leads_end entries rest lines leads e n assets h order known =
+    subst (IsTable n assets entries) (append-nil lines) (leads.table n assets h order known [] (subst (λ (z : List LengthEntry). IsTable n assets z []) (sym e) (no_lines n assets)))

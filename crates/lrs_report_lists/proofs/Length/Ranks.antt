@@ -25,7 +25,7 @@ names_tell c d h k = by (name_cmp c d) refl
     by Equal e = texts_ties c d ∙ ap is_eq (sym e)
     by Greater e = absurd (both_ways (name_before d c) k (ap is_lt (nat_list_cmp_total.antisymm d c ∙ ap ordering_reverse (sym e))))
 
-name_tie : {X : Type 0} (key : X → Name) → IsTie (λ x y. name_before (key x) (key y)) (λ x y. same_name (key x) (key y))
+pub name_tie : {X : Type 0} (key : X → Name) → IsTie (λ x y. name_before (key x) (key y)) (λ x y. same_name (key x) (key y))
 name_tie key = record {
   not_first = λ x y h. ap (λ z. name_before (key x) z) (sym ((bytes_decides (key x) (key y)).0 h)) ∙ itself name_before names_rank (key x);
   not_second = λ x y h. ap (λ z. name_before z (key x)) (sym ((bytes_decides (key x) (key y)).0 h)) ∙ itself name_before names_rank (key x);

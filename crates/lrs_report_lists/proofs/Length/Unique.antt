@@ -12,7 +12,7 @@ use Rattle.lrs_machine.specs.declared.image.RouteRow.{RouteRow}
 use Rattle.lrs_report_lists.specs.WantedRows.{is_of_route}
 use Rattle.lrs_report_lists.specs.declared.length_lists.table.ValueLength.{ValueLength}
 use Rattle.lrs_report_lists.specs.Length.Laws.{LengthsAreUnique}
-use Rattle.lrs_report_lists.specs.Length.Lengths.{HasLengths, has_either, has_left, has_right, is_length_of, key_before, length_before, length_of}
+use Rattle.lrs_report_lists.specs.Length.Lengths.{HasLengths, assets_of, has_either, has_left, has_right, is_length_of, key_before, length_before, length_of}
 use Rattle.lrs_report_lists.proofs.Length.Ranks.{key_ranks, key_tie}
 
 own_key : (l : ValueLength) → is_length_of l.class l.value l ≡ true
@@ -55,7 +55,8 @@ module _ (assets : List Asset) (routes : List RouteRow) where
       let left = hy.left_is ∙ (λ i. length_of has_left assets routes (class i) (value i)) ∙ sym hx.left_is in
       let right = hy.right_is ∙ (λ i. length_of has_right assets routes (class i) (value i)) ∙ sym hx.right_is in
       let either = hy.length_is ∙ (λ i. length_of has_either assets routes (class i) (value i)) ∙ sym hx.length_is in
-      λ i. record { class = class i; value = value i; left = left i; right = right i; length = either i }
+      let count = hy.assets_is ∙ (λ i. assets_of assets routes (class i) (value i)) ∙ sym hx.assets_is in
+      λ i. record { class = class i; value = value i; left = left i; right = right i; length = either i; assets = count i }
 
   first_same : (x y : ValueLength) → HasLengths assets routes x → HasLengths assets routes y → (is_length_of x.class x.value y ≡ true) ⊎ (length_before y x ≡ true) → (is_length_of y.class y.value x ≡ true) ⊎ (length_before x y ≡ true) → y ≡ x
   first_same x y hx hy (inl e) k = same_entry x y hx hy e

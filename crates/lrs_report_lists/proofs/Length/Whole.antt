@@ -1,6 +1,6 @@
 -- From the table of stretches to the lengths of the image, and what a sound image says of its routes.
 use Rattle.std.proofs.Common.{◌≡◌, ℕ, ◌<◌, ◌≤◌, ◌^◌, Bool, true, false, not, cond, List, [], ◌∷◌, length, filter, refl, sym, ◌∙◌, arith, sum_by}
-use Rattle.std.specs.Prelude.{◌&&◌, nat_lt, nat_le, IsPermutation}
+use Rattle.std.specs.Prelude.{◌&&◌, nat_eq, nat_lt, nat_le, IsPermutation}
 use Rattle.std.specs.List.{list_all, count_by, range_with_len, AllByRecursion}
 use Rattle.std.proofs.lemmas.Bool.{and_parts, and_from, or_parts, not-true, leb-true, ltb-false, ltb-true, le-leb}
 use Rattle.std.proofs.lemmas.List.{length-map}
@@ -20,41 +20,50 @@ use Rattle.lrs_events.specs.declared.side.Side.{Side}
 use Rattle.lrs_events.specs.declared.span.Span.{Span}
 use Rattle.lrs_machine.specs.declared.image.Image.{Image}
 use Rattle.lrs_machine.specs.declared.image.RouteRow.{RouteRow}
-use Rattle.lrs_machine.specs.Sound.{IsSound, RouteCourse, RouteSpans, are_spans_of, course_before, courses_of, is_course, is_on_a_link, is_span, keeps_exclusive, spans_of}
+use Rattle.lrs_machine.specs.Sound.{IsSound, RouteCourse, RouteSpans, are_spans_of, asset_before, course_before, courses_of, is_course, is_on_a_link, is_span, keeps_exclusive, spans_of}
 use Rattle.lrs_image.proofs.Tables.{passes}
 use Rattle.lrs_position.specs.Routes.{is_route_course}
 use Rattle.lrs_report_lists.specs.declared.length_lists.entries.LengthEntry.{LengthEntry}
 use Rattle.lrs_report_lists.specs.declared.length_lists.table.ValueLength.{ValueLength}
 use Rattle.lrs_report_lists.specs.Length.Lengths.{AreLengthsOn, HasLengths, has_either, has_left, has_right}
-use Rattle.lrs_report_lists.specs.Length.Parts.{HasHeld, IsTable, ends_by, entries_of, has_rows_on, held_by, is_entry_of, is_over, lies_on, route_length}
+use Rattle.lrs_report_lists.specs.Length.Parts.{HasHeld, IsTable, ends_by, entries_of, has_rows_on, held_by, holders_by, is_entry_of, is_held_by, is_over, lies_on, route_length}
 use Rattle.lrs_report_lists.proofs.Length.Axis.{all_end, all_held, routes_told}
+use Rattle.lrs_report_lists.proofs.Length.Holders.{all_holders, has_known, routes_held_by}
 
 -- ---- the lengths
 
-module _ (assets : List Asset) (routes : List RouteRow) (sorted : List LengthEntry) (on : list_all has_rows_on routes ≡ true) (same : IsPermutation (entries_of assets 0 routes) sorted) where
+module _ (assets : List Asset) (routes : List RouteRow) (sorted : List LengthEntry) (order : each_two asset_before assets ≡ true) (on : list_all has_rows_on routes ≡ true) (known : list_all (has_known assets) routes ≡ true)
+    (same : IsPermutation (entries_of assets 0 routes) sorted) where
   abbrev whole : ℕ
   whole = sum_by route_length routes
 
   ends : list_all (ends_by whole) sorted ≡ true
   ends = list_all-from_AllPass (ends_by whole) sorted (All-permutation (λ e. ends_by whole e ≡ true) (entries_of assets 0 routes) sorted same (AllPass-from_list_all (ends_by whole) (entries_of assets 0 routes) (all_end assets routes on)))
 
+  held_by_assets : list_all (is_held_by assets) sorted ≡ true
+  held_by_assets = list_all-from_AllPass (is_held_by assets) sorted (All-permutation (λ e. is_held_by assets e ≡ true) (entries_of assets 0 routes) sorted same (AllPass-from_list_all (is_held_by assets) (entries_of assets 0 routes) (routes_held_by assets 0 routes known)))
+
   same_held : (counted : Side → Bool) (class value : Name) → held_by counted class value sorted whole ≡ held_by counted class value (entries_of assets 0 routes) whole
   same_held counted class value = λ i. count_by (λ x. sym (list_any-IsPermutation (λ e. is_entry_of class value e && is_over counted x e) (entries_of assets 0 routes) sorted same) i) (range_with_len 0 whole)
 
-  lengths_each : (lines : List ValueLength) → AllByRecursion (HasHeld whole sorted) lines → AllByRecursion (HasLengths assets routes) lines
+  same_holders : (class value : Name) → holders_by class value sorted assets ≡ holders_by class value (entries_of assets 0 routes) assets
+  same_holders class value = λ i. count_by (λ a. sym (list_any-IsPermutation (λ e. is_entry_of class value e && nat_eq e.asset a.number) (entries_of assets 0 routes) sorted same) i) assets
+
+  lengths_each : (lines : List ValueLength) → AllByRecursion (HasHeld whole assets sorted) lines → AllByRecursion (HasLengths assets routes) lines
   lengths_each [] all = tt
   lengths_each (l ∷ ls) all = (
     record {
       left_is = all.0.left_is ∙ same_held has_left l.class l.value ∙ all_held assets l.class l.value has_left routes on;
       right_is = all.0.right_is ∙ same_held has_right l.class l.value ∙ all_held assets l.class l.value has_right routes on;
       length_is = all.0.length_is ∙ same_held has_either l.class l.value ∙ all_held assets l.class l.value has_either routes on;
+      assets_is = all.0.assets_is ∙ same_holders l.class l.value ∙ all_holders assets order l.class l.value routes known;
     },
     lengths_each ls all.1,
   )
 
-  pub lengths_are : (lines : List ValueLength) → ((n : ℕ) → list_all (ends_by n) sorted ≡ true → IsTable n sorted lines) → AreLengthsOn assets routes lines
+  pub lengths_are : (lines : List ValueLength) → ((n : ℕ) (assets : List Asset) → list_all (ends_by n) sorted ≡ true → each_two asset_before assets ≡ true → list_all (is_held_by assets) sorted ≡ true → IsTable n assets sorted lines) → AreLengthsOn assets routes lines
   lengths_are lines table =
-      let all = table whole ends in
+      let all = table whole assets ends order held_by_assets in
       record {
         order = all.order;
         exact = λ class value.
@@ -89,10 +98,19 @@ route_lies assets e h =
     let rows = and_parts (list_all is_row e.spans && each_two span_before e.spans) (each_two are_apart e.spans) both.0 in
     rows_lie assets (route_length e) e.spans (and_parts (list_all is_row e.spans) (each_two span_before e.spans) rows.0).0 both.1
 
+spans_pass : (i : Image) → IsSound i → list_all (are_spans_of i.assets) (spans_of i) ≡ true
+spans_pass i h = (and_parts (list_all (are_spans_of i.assets) (spans_of i)) (list_all (keeps_exclusive i.links i.assets (spans_of i)) i.classes) (passes i h).spans).0
+
+-- the assets of all rows are known
+pub rows_are_known : (i : Image) → IsSound i → list_all (has_known i.assets) i.routes ≡ true
+rows_are_known i h =
+    all_weaker (λ e. are_spans_of i.assets (spans_on e)) (has_known i.assets) i.routes
+    (λ e k. (and_parts (are_rows e.spans) (list_all (is_span i.assets (length e.route.course)) e.spans) k).1)
+    (sym (list_all-map (are_spans_of i.assets) spans_on i.routes) ∙ spans_pass i h)
+
 pub rows_on_routes : (i : Image) → IsSound i → list_all has_rows_on i.routes ≡ true
 rows_on_routes i h =
-    let spans = (and_parts (list_all (are_spans_of i.assets) (spans_of i)) (list_all (keeps_exclusive i.links i.assets (spans_of i)) i.classes) (passes i h).spans).0 in
-    all_weaker (λ e. are_spans_of i.assets (spans_on e)) has_rows_on i.routes (route_lies i.assets) (sym (list_all-map (are_spans_of i.assets) spans_on i.routes) ∙ spans)
+    all_weaker (λ e. are_spans_of i.assets (spans_on e)) has_rows_on i.routes (route_lies i.assets) (sym (list_all-map (are_spans_of i.assets) spans_on i.routes) ∙ spans_pass i h)
 
 course_within : (course : List Ground) → is_route_course course ≡ true → length course ≤ longest_route
 course_within course h =

@@ -1,5 +1,5 @@
--- How much of the routes the assets of one class and one value hold: each millimetre of a route once, however many of these assets hold it.
-use Rattle.std.specs.Prelude.{◌≡◌, ℕ, Bool, true, false, ◌||◌, ◌&&◌, nat_le, nat_lt, List, length, filter, sum_by, count_by, Option}
+-- How many assets of one class and one value have a row on routes, and how much of the routes they hold: each millimetre of a route once, however many of these assets hold it.
+use Rattle.std.specs.Prelude.{◌≡◌, ℕ, Bool, true, false, ◌||◌, ◌&&◌, nat_eq, nat_le, nat_lt, List, length, filter, sum_by, count_by, Option}
 use Rattle.std.specs.List.{list_any, range_with_len, AllByRecursion}
 use Rattle.std.specs.Option.{option_map_or}
 use Rattle.lrs_measure.specs.Lists.{each_two}
@@ -45,6 +45,14 @@ length_of counted assets routes class value = sum_by (length_on counted assets c
 abbrev pub is_told : List Asset → List RouteRow → Name → Name → Bool
 is_told assets routes class value = list_any (λ e. list_any (tells assets class value) e.spans) routes
 
+-- some row on these routes is of the asset
+abbrev pub has_row : List RouteRow → ℕ → Bool
+has_row routes asset = list_any (λ e. list_any (λ r. nat_eq r.asset asset) e.spans) routes
+
+-- how many assets of the class and the value have a row on these routes
+abbrev pub assets_of : List Asset → List RouteRow → Name → Name → ℕ
+assets_of assets routes class value = count_by (λ a. same_name a.class class && same_name a.value value && has_row routes a.number) assets
+
 -- by class and then by value, each by the bytes of its text
 abbrev pub key_before : Name → Name → Name → Name → Bool
 key_before class value other_class other_value = name_before class other_class || (same_name class other_class && name_before value other_value)
@@ -55,13 +63,14 @@ length_before a b = key_before a.class a.value b.class b.value
 abbrev pub is_length_of : Name → Name → ValueLength → Bool
 is_length_of class value l = same_name l.class class && same_name l.value value
 
--- The lengths are those of the class and the value.
+-- The lengths, and the count of assets, are those of the class and the value.
 pub record HasLengths (assets : List Asset) (routes : List RouteRow) (l : ValueLength) : Type 0 where
   pub left_is : l.left ≡ length_of has_left assets routes l.class l.value
   pub right_is : l.right ≡ length_of has_right assets routes l.class l.value
   pub length_is : l.length ≡ length_of has_either assets routes l.class l.value
+  pub assets_is : l.assets ≡ assets_of assets routes l.class l.value
 
--- In order, one for each class and value that some row tells and for no others, with their lengths.
+-- In order, one for each class and value that some row tells and for no others, with their lengths and the counts of their assets.
 pub record AreLengthsOn (assets : List Asset) (routes : List RouteRow) (lengths : List ValueLength) : Type 0 where
   pub order : each_two length_before lengths ≡ true
   pub exact : (class value : Name) → list_any (is_length_of class value) lengths ≡ is_told assets routes class value

@@ -1,5 +1,5 @@
 -- How lengths are counted: what rows hold, as stretches of one axis along which the routes lie one behind the other.
-use Rattle.std.specs.Prelude.{◌≡◌, ℕ, ◌+◌, ◌-◌, ◌<◌, ◌≤◌, ◌^◌, max, Bool, true, ◌||◌, ◌&&◌, not, nat_le, nat_lt, if◌then◌else◌, List, [], ◌∷◌, ◌++◌, length, take, drop, count_by, Option, Some, None}
+use Rattle.std.specs.Prelude.{◌≡◌, ℕ, ◌+◌, ◌-◌, ◌<◌, ◌≤◌, ◌^◌, max, Bool, true, ◌||◌, ◌&&◌, not, nat_eq, nat_le, nat_lt, if◌then◌else◌, List, [], ◌∷◌, ◌++◌, length, take, drop, count_by, Option, Some, None}
 use Rattle.std.specs.List.{list_all, list_any, flat_map, range_with_len, AllByRecursion}
 use Rattle.std.specs.Option.{option_map_or}
 use Rattle.lrs_measure.specs.Lists.{each_two}
@@ -20,7 +20,7 @@ use Rattle.lrs_report_lists.specs.Length.Lengths.{has_either, has_left, has_righ
 
 -- what an asset holds by a row of the route that begins there
 abbrev pub entry_of : ℕ → Span → Asset → LengthEntry
-entry_of start r a = record { class = r.class; value = a.value; from = start + r.from; to = start + r.to; side = r.side }
+entry_of start r a = record { asset = r.asset; class = r.class; value = a.value; from = start + r.from; to = start + r.to; side = r.side }
 
 abbrev pub known_entry : ℕ → Span → Option Asset → List LengthEntry
 known_entry start r None = []
@@ -115,15 +115,38 @@ longer counted t e = if counted e.side then record { total = t.total + (e.to - m
 abbrev pub nothing_held : HeldLength
 nothing_held = record { total = 0; end = 0 }
 
+-- ---- assets
+
+-- the number is that of one of these assets
+abbrev pub is_number_of : List Asset → ℕ → Bool
+is_number_of assets n = list_any (λ a. nat_eq a.number n) assets
+
+-- how many of these assets have one of the numbers
+abbrev pub numbered : List ℕ → List Asset → ℕ
+numbered numbers assets = count_by (λ a. list_any (λ n. nat_eq n a.number) numbers) assets
+
+-- the stretch is held by one of these assets
+abbrev pub is_held_by : List Asset → LengthEntry → Bool
+is_held_by assets e = is_number_of assets e.asset
+
+-- how many of these assets hold some stretch
+abbrev pub holders : List LengthEntry → List Asset → ℕ
+holders entries assets = count_by (λ a. list_any (λ e. nat_eq e.asset a.number) entries) assets
+
+-- ... some stretch of the class and the value
+abbrev pub holders_by : Name → Name → List LengthEntry → List Asset → ℕ
+holders_by class value entries assets = count_by (λ a. list_any (λ e. is_entry_of class value e && nat_eq e.asset a.number) entries) assets
+
 -- ---- the table
 
--- The lengths are what stretches of the class and the value hold of the first n millimetres.
-pub record HasHeld (n : ℕ) (entries : List LengthEntry) (l : ValueLength) : Type 0 where
+-- The lengths are what stretches of the class and the value hold of the first n millimetres, and the count of assets is of those that hold them.
+pub record HasHeld (n : ℕ) (assets : List Asset) (entries : List LengthEntry) (l : ValueLength) : Type 0 where
   pub left_is : l.left ≡ held_by has_left l.class l.value entries n
   pub right_is : l.right ≡ held_by has_right l.class l.value entries n
   pub length_is : l.length ≡ held_by has_either l.class l.value entries n
+  pub assets_is : l.assets ≡ holders_by l.class l.value entries assets
 
-pub record IsTable (n : ℕ) (entries : List LengthEntry) (lengths : List ValueLength) : Type 0 where
+pub record IsTable (n : ℕ) (assets : List Asset) (entries : List LengthEntry) (lengths : List ValueLength) : Type 0 where
   pub order : each_two length_before lengths ≡ true
   pub exact : (class value : Name) → list_any (is_length_of class value) lengths ≡ list_any (is_entry_of class value) entries
-  pub counts : AllByRecursion (HasHeld n entries) lengths
+  pub counts : AllByRecursion (HasHeld n assets entries) lengths

@@ -18,6 +18,7 @@ use std::alloc::{AllocError, Global};
 /// A stretch that an asset of a class and a value holds, in millimetres of an axis along which routes lie one behind the other.
 #[derive(Clone, Copy)]
 pub(crate) struct LengthEntry {
+    pub asset: u64,
     pub class: ClassName,
     pub value: Value,
     pub from: u64,
@@ -32,6 +33,7 @@ fn entry_of(start: u64, row: &Span, asset: &Asset) -> LengthEntry
     ensures { result ≡ entry_of start row.now asset.now }
 {
     LengthEntry {
+        asset: row.asset,
         class: row.class,
         value: asset.value,
         from: start + row.from,

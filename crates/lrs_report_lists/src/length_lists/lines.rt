@@ -3,7 +3,7 @@
 ghost use Rattle.std.specs.Prelude.{OnOk};
 ghost use Rattle.std.specs.List.{flat_map};
 ghost use Rattle.std.specs.Io.KnownBytes.{Appends};
-ghost use Rattle.lrs_report_lists.specs.Length.Lines.{key_part, length_line, lengths_text, metres_part};
+ghost use Rattle.lrs_report_lists.specs.Length.Lines.{key_part, length_line, lengths_text, numbers_part};
 
 use crate::length_lists::table::ValueLength;
 use lrs_measure::Metres;
@@ -19,14 +19,15 @@ fn write_key<W: Write>(writer: &mut W, row: &ValueLength) -> io::Result<()>
     write!(writer, "{class},{value},")
 }
 
-fn write_metres<W: Write>(writer: &mut W, row: &ValueLength) -> io::Result<()>
+fn write_numbers<W: Write>(writer: &mut W, row: &ValueLength) -> io::Result<()>
     ensures { OnOk result (Appends (W.contents writer.old) (W.contents writer.new)
-        (metres_part row.now)) }
+        (numbers_part row.now)) }
 {
     let left = Metres::new(row.left);
     let right = Metres::new(row.right);
     let length = Metres::new(row.length);
-    writeln!(writer, "{left},{right},{length}")
+    let assets = row.assets;
+    writeln!(writer, "{left},{right},{length},{assets}")
 }
 
 fn write_line<W: Write>(writer: &mut W, row: &ValueLength) -> io::Result<()>
@@ -34,7 +35,7 @@ fn write_line<W: Write>(writer: &mut W, row: &ValueLength) -> io::Result<()>
         (length_line row.now)) }
 {
     write_key(writer, row)?;
-    write_metres(writer, row)
+    write_numbers(writer, row)
 }
 
 fn write_lines<W: Write>(writer: &mut W, rows: &[ValueLength]) -> io::Result<()>
@@ -47,8 +48,8 @@ fn write_lines<W: Write>(writer: &mut W, rows: &[ValueLength]) -> io::Result<()>
     Ok(())
 }
 
-/// Writes lengths of values: the header `class,value,left,right,length`, and a line for each, with the lengths in metres, with
-/// three decimals. It takes no memory beyond the writer's, and does not flush the writer.
+/// Writes lengths of values: the header `class,value,left,right,length,assets`, and a line for each, with the lengths in metres,
+/// with three decimals, and the number of assets. It takes no memory beyond the writer's, and does not flush the writer.
 ///
 /// # Errors
 /// That of the writer. Part of the lines may be written then.
@@ -56,6 +57,6 @@ pub fn write_lengths<W: Write>(writer: &mut W, rows: &[ValueLength]) -> io::Resu
     ensures { OnOk result (Appends (W.contents writer.old) (W.contents writer.new)
         (lengths_text rows.now)) }
 {
-    writer.write_all(b"class,value,left,right,length\n")?;
+    writer.write_all(b"class,value,left,right,length,assets\n")?;
     write_lines(writer, rows)
 }

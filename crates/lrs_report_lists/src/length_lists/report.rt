@@ -14,9 +14,9 @@ use lrs_measure::Rows;
 use lrs_position::RouteName;
 use std::alloc::{AllocError, Global};
 
-/// The lengths in millimetres of each class and value, by class and then by value, on one route or on all. A class and a value
-/// that hold nothing there are not among them. A point counts as the one millimetre that it holds. There are none on a route
-/// that is not known.
+/// The lengths in millimetres of each class and value, by class and then by value, on one route or on all, and how many assets of
+/// the class and the value have a row there: each asset once, however many rows it has. A class and a value that hold nothing
+/// there are not among them. A point counts as the one millimetre that it holds. There are none on a route that is not known.
 ///
 /// # Errors
 /// When memory runs out.

@@ -1,12 +1,15 @@
 //! The lengths of each class and value, from stretches in their order.
 
-ghost use Rattle.std.specs.Prelude.{◌≡◌, ℕ, ◌<◌, true, length, slice_index_or, IfOk};
+ghost use Rattle.std.specs.Prelude.{◌≡◌, ℕ, ◌<◌, true, List, length, slice_index_or, IfOk};
 ghost use Rattle.std.specs.List.{list_all, prefix_len};
 ghost use Rattle.lrs_measure.specs.Lists.{each_two};
+ghost use Rattle.lrs_events.specs.declared.class.Asset.{Asset};
+ghost use Rattle.lrs_machine.specs.Sound.{asset_before};
 ghost use Rattle.lrs_report_lists.specs.Length.Lengths.{has_either, has_left, has_right};
-ghost use Rattle.lrs_report_lists.specs.Length.Parts.{IsGroup, IsTable, begins_by, ends_by, held, is_entry_of, not_behind};
+ghost use Rattle.lrs_report_lists.specs.Length.Parts.{IsGroup, IsTable, begins_by, ends_by, held, is_entry_of, is_held_by, not_behind};
 
 use crate::length_lists::entries::LengthEntry;
+use crate::length_lists::held_assets::count_assets;
 use crate::length_lists::held_lengths::{Reach, held_length};
 use crate::length_lists::order::is_of;
 use lrs_events::{ClassName, Value};
@@ -14,7 +17,7 @@ use lrs_measure::Rows;
 use std::alloc::{AllocError, Global};
 
 /// How much of the routes the assets of one class and one value hold, in millimetres: on the left side, on the right side, and
-/// on either side, each millimetre of a route once, however many of these assets hold it.
+/// on either side, each millimetre of a route once, however many of these assets hold it; and how many assets these are.
 #[derive(Clone, Copy, PartialEq, Eq)]
 pub struct ValueLength {
     pub class: ClassName,
@@ -22,6 +25,7 @@ pub struct ValueLength {
     pub left: u64,
     pub right: u64,
     pub length: u64,
+    pub assets: u64,
 }
 
 /// How many of the first stretches are of the class and the value of another.
@@ -46,8 +50,8 @@ fn group_len(entries: &[LengthEntry], first: &LengthEntry) -> usize
     count_alike(entries, first)
 }
 
-/// The lengths of stretches of one class and one value, which the first one has.
-fn group_length(first: &LengthEntry, group: &[LengthEntry]) -> ValueLength
+/// The lengths of stretches of one class and one value, which the first one has, and which so many assets hold.
+fn group_length(first: &LengthEntry, group: &[LengthEntry], assets: u64) -> ValueLength
     requires order { each_two begins_by group.now ≡ true }
     ensures class { result.class ≡ first.now.class }
     ensures value { result.value ≡ first.now.value }
@@ -57,6 +61,7 @@ fn group_length(first: &LengthEntry, group: &[LengthEntry]) -> ValueLength
         → result.right ≡ held has_right group.now n }
     ensures length { (n : ℕ) → list_all (ends_by n) group.now ≡ true
         → result.length ≡ held has_either group.now n }
+    ensures assets { result.assets ≡ assets }
 {
     ValueLength {
         class: first.class,
@@ -64,17 +69,20 @@ fn group_length(first: &LengthEntry, group: &[LengthEntry]) -> ValueLength
         left: held_length(group, Reach::Left),
         right: held_length(group, Reach::Right),
         length: held_length(group, Reach::Either),
+        assets,
     }
 }
 
-/// The lengths of each class and value.
+/// The lengths of each class and value, and how many assets hold them.
 pub(crate) fn table_of(
     alloc: Global,
     entries: &[LengthEntry],
 ) -> Result<Rows<ValueLength>, AllocError>
     requires order { each_two not_behind entries.now ≡ true }
-    ensures { IfOk result (λ lengths. (n : ℕ) → list_all (ends_by n) entries.now ≡ true
-        → IsTable n entries.now lengths) }
+    ensures { IfOk result (λ lengths. (n : ℕ) (assets : List Asset)
+        → list_all (ends_by n) entries.now ≡ true → each_two asset_before assets ≡ true
+        → list_all (is_held_by assets) entries.now ≡ true
+        → IsTable n assets entries.now lengths) }
 {
     let mut lengths = Vec::new(alloc);
     let mut rest = entries;
@@ -82,7 +90,8 @@ pub(crate) fn table_of(
         let first = &rest[0];
         let count = group_len(rest, first);
         let (group, others) = rest.split_at(count);
-        lengths.push(group_length(first, group))?;
+        let assets = count_assets(alloc, group)?;
+        lengths.push(group_length(first, group, assets))?;
         rest = others;
     }
     Ok(Rows::from_vec(lengths))
