@@ -7,7 +7,7 @@ from program import TOP
 
 API = json.loads((TOP / "docs" / "openapi.json").read_text())
 WORDS = {"type", "pattern", "enum", "minimum", "maximum", "items", "minItems", "required", "properties", "$ref", "anyOf", "example"}
-TYPES = {"string": str, "integer": int, "array": list, "object": dict}
+TYPES = {"string": str, "integer": int, "array": list, "object": dict, "null": type(None)}
 
 
 def named(schema):
@@ -25,6 +25,8 @@ def fits(value, schema):
         return any(fits(value, one) for one in schema["anyOf"])
     if not isinstance(value, TYPES[schema["type"]]) or isinstance(value, bool):
         return False
+    if schema["type"] == "null":
+        return True
     if schema["type"] == "object":
         properties = schema["properties"]
         assert sorted(schema["required"]) == sorted(properties), schema

@@ -61,7 +61,7 @@ def test_the_page_has_each_option():
             assert re.search(rf"--{option}\b", shown), (command, option)
     for option in GENERAL:
         assert re.search(rf"^\.BI? {option}\b", shown, re.M), option
-    for option in ["--existing", "--explain", "--wait"]:
+    for option in GENERAL:
         assert option in run("--help").stdout.decode(), option
 
 

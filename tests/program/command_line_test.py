@@ -174,7 +174,7 @@ def test_sums_that_are_not_understood(words):
     is_misused(run(*words, given=FIRST))
 
 
-NAMES_OF_JOBS = ["edit", "survey", "check", "tidy", "serve", "at", "where", "translate", "strip", "diagram", "totals", "lengths", "find", "route", "ask", "list", "rows", "gone", "history", "log", "audit", "page"]
+NAMES_OF_JOBS = ["edit", "survey", "check", "tidy", "serve", "at", "where", "translate", "strip", "diagram", "totals", "lengths", "find", "route", "ask", "list", "rows", "overlay", "gone", "history", "log", "audit", "page"]
 
 
 OPTIONS = {
@@ -182,7 +182,10 @@ OPTIONS = {
     b"--resume": (b"Goes on after the last record of the sheet that was accepted before", ["edit", "survey"]),
     b"--all": (b"Does the sheet only if no record of it is refused", ["edit", "survey"]),
     b"--whole": (b"Does the sheet only if its last line has an end", ["edit", "survey"]),
-    b"--text": (b"Writes each cell as text, for a spreadsheet", ["lengths", "list", "rows", "gone", "history", "log"]),
+    b"--text": (b"Writes each cell as text, for a spreadsheet", ["lengths", "list", "rows", "overlay", "gone", "history", "log"]),
+    b"--columns <NAMES>": (b"Only these columns, in this order: names of the header, a comma between two", ["lengths", "list", "rows", "overlay", "gone", "history"]),
+    b"--gaps": (b"Only where a class has no value", ["overlay"]),
+    b"--side <SIDE>": (b"On this side, seen along the route: L or R; else on both", ["overlay"]),
     b"--on-links": (b"Stretches of links, with sides seen along the link", ["rows"]),
     b"--since <N>": (b"By edits from this number on", ["gone"]),
     b"--survey": (b"The sheet is a survey", ["check", "tidy"]),
@@ -282,6 +285,10 @@ NO_PAIRS = [
     (["list", "pieces", "--exact", "--route", "A1"], "--exact stands only beside refs"),
     (["list", "roads", "--route", "A1"], "WHAT is none of routes, links, classes, refs, marks and pieces"),
     (["list", "refs", "--route", "a1"], "ROUTE is no route name"),
+    (["overlay", "speed"], "CLASS is no class name"),
+    (["overlay", "SPEED", "--side", "B"], "SIDE is neither L nor R"),
+    (["overlay", "SPEED", "--route", "a1"], "ROUTE is no route name"),
+    (["overlay", "SPEED", "--from", "x"], "FROM is no place: millimetres, or abs:, rel: or int: before a position"),
     (["gone", "--edit", "0"], "EDIT is no number of an edit"),
     (["gone", "--since", "0"], "SINCE is no number of an edit"),
     (["gone", "--until", "x"], "UNTIL is no number of an edit"),
@@ -363,6 +370,11 @@ MISUSED_REPORTS = [
     ["rows", ":memory:", "--class", "speed"],
     ["rows", ":memory:", "--asset", "0"],
     ["rows", ":memory:", "--asset", "1", "--asset", "2"],
+    ["overlay", ":memory:"],
+    ["overlay", ":memory:", "SPEED", "--side"],
+    ["overlay", ":memory:", "SPEED", "--gaps", "--gaps"],
+    ["rows", ":memory:", "--columns"],
+    ["rows", ":memory:", "--columns", "route", "--columns", "from"],
     ["gone", ":memory:", "--edit", "0"],
     ["gone", ":memory:", "1"],
     ["gone", ":memory:", "--since"],

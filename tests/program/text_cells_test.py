@@ -24,6 +24,8 @@ LISTS = [
     ["gone"],
     ["rows", "--exact"],
     ["rows", "--on-links"],
+    ["rows", "--columns", "value,route,asset"],
+    ["overlay", "1E5"],
     ["gone", "--edit", "1"],
     ["gone", "--since", "2", "--until", "9"],
     ["log"],

@@ -33,6 +33,7 @@ EXAMPLES = {
     "ask": ("ask roads.db questions.csv", 3, "fault Read"),
     "list": ("list roads.db routes", 0, None),
     "rows": ("rows roads.db --route A1 --class SPEED", 1, "NoRoute"),
+    "overlay": ("overlay roads.db SPEED SURFACE --route A1", 1, "NoRoute"),
     "gone": ("gone roads.db --edit 17", 1, "NoEdit"),
     "history": ("history roads.db 10", 1, "NoAsset"),
     "log": ("log roads.db > log.csv", 0, None),

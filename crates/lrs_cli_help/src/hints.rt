@@ -33,6 +33,8 @@ fn wanted(word: BadWord, method: Option<&str>) -> &'static str {
             "a list without this option; --route is for refs, marks and pieces, --exact for refs"
         }
         BadWord::TwoForms => "a second form of rows; either --exact or --on-links",
+        BadWord::Columns => "no choice of columns; names of the header, a comma between two",
+        BadWord::RepeatedColumn => "a choice that has a column twice; each is named once",
         BadWord::Edit | BadWord::Since | BadWord::Until | BadWord::Number => {
             "no number of an edit; a whole number from 1, as 8 in the reply KEY,done,8"
         }

@@ -12,7 +12,10 @@ fn route_in<'a>(job: &Job<'a>) -> Option<&'a str> {
         | Job::Strip { route, .. }
         | Job::Diagram { route, .. }
         | Job::Route { route, .. } => Some(route),
-        Job::Rows { route, .. } | Job::Lengths { route, .. } | Job::List { route, .. } => *route,
+        Job::Rows { route, .. }
+        | Job::Overlay { route, .. }
+        | Job::Lengths { route, .. }
+        | Job::List { route, .. } => *route,
         _ => None,
     }
 }
@@ -46,9 +49,9 @@ fn unreadable_class<'a>(classes: &[&'a str]) -> Option<&'a str> {
 
 fn class_in<'a>(job: &Job<'a>) -> Option<&'a str> {
     match job {
-        Job::Strip { classes, .. } | Job::Diagram { classes, .. } => {
-            unreadable_class(classes.as_slice())
-        }
+        Job::Strip { classes, .. }
+        | Job::Diagram { classes, .. }
+        | Job::Overlay { classes, .. } => unreadable_class(classes.as_slice()),
         Job::Rows { class, .. } | Job::Gone { class, .. } => *class,
         _ => None,
     }
@@ -57,7 +60,9 @@ fn class_in<'a>(job: &Job<'a>) -> Option<&'a str> {
 // Where a stretch begins and where it ends.
 fn stretch_in<'a>(job: &Job<'a>) -> (Option<&'a str>, Option<&'a str>) {
     match job {
-        Job::Diagram { from, to, .. } | Job::Rows { from, to, .. } => (*from, *to),
+        Job::Diagram { from, to, .. }
+        | Job::Rows { from, to, .. }
+        | Job::Overlay { from, to, .. } => (*from, *to),
         _ => (None, None),
     }
 }
@@ -78,11 +83,25 @@ fn place_in<'a>(job: &Job<'a>) -> (Option<&'a str>, Option<&'a str>) {
     }
 }
 
+// The columns that are named of a list.
+fn columns_in<'a>(job: &Job<'a>) -> Option<&'a str> {
+    match job {
+        Job::Lengths { columns, .. }
+        | Job::List { columns, .. }
+        | Job::Rows { columns, .. }
+        | Job::Overlay { columns, .. }
+        | Job::Gone { columns, .. }
+        | Job::History { columns, .. } => *columns,
+        _ => None,
+    }
+}
+
 // Words that only one kind of job has.
 fn other_in<'a>(job: &Job<'a>, word: BadWord) -> Option<&'a str> {
     match (job, word) {
         (Job::Translate { to, .. }, BadWord::Destination) => Some(to),
         (Job::Strip { side, .. }, BadWord::Side) => Some(side),
+        (Job::Overlay { side, .. }, BadWord::Side) => *side,
         (Job::List { what, .. }, BadWord::What | BadWord::RouteOfList | BadWord::ExactOfList) => {
             Some(what)
         }
@@ -112,6 +131,7 @@ pub(crate) fn given<'a>(job: &Job<'a>, word: BadWord) -> Option<&'a str> {
         BadWord::Asset => asset_in(job),
         BadWord::Place | BadWord::Link => place_in(job).0,
         BadWord::Millimetre => place_in(job).1,
+        BadWord::Columns | BadWord::RepeatedColumn => columns_in(job),
         BadWord::Destination
         | BadWord::Side
         | BadWord::What
@@ -156,6 +176,7 @@ pub(crate) fn inventory_of<'a>(job: &Job<'a>) -> Option<&'a str> {
         | Job::Ask { db, .. }
         | Job::List { db, .. }
         | Job::Rows { db, .. }
+        | Job::Overlay { db, .. }
         | Job::Gone { db, .. }
         | Job::History { db, .. }
         | Job::Log { db, .. }

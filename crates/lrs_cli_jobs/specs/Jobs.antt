@@ -9,7 +9,6 @@ use Rattle.lrs_desk.specs.DeskView.{DeskView}
 use Rattle.lrs_desk.specs.declared.desk.OpenFault.{OpenFault}
 use Rattle.lrs_sheet_records.specs.declared.sheet.Sheet.{Sheet}
 use Rattle.lrs_sheet_log.specs.Sums.{identity_of}
-use Rattle.lrs_cli_words.specs.Questions.{IsFaultOf}
 use Rattle.lrs_cli_words.specs.declared.job.Job.{Job}
 use Rattle.lrs_cli_words.specs.declared.question.QuestionFault.{QuestionFault}
 use Rattle.lrs_cli_words.specs.declared.question.QuestionFault.TheVariants as unread
@@ -21,7 +20,7 @@ use Rattle.lrs_cli_sheets.specs.Trials.{EndsCheck, EndsRecords, IsAfterCommands}
 use Rattle.lrs_cli_sheets.specs.Audits.{EndsAudit}
 use Rattle.lrs_cli_sheets.specs.Tidyings.{EndsTidy}
 use Rattle.lrs_cli_tasks.specs.Faults.{fault_of_open}
-use Rattle.lrs_cli_tasks.specs.Tasks.{IsTaskOf}
+use Rattle.lrs_cli_tasks.specs.Tasks.{IsTaskOf, IsUnread}
 use Rattle.lrs_cli_tasks.specs.declared.endings.Ending.{Ending}
 use Rattle.lrs_cli_tasks.specs.declared.endings.Ending.TheVariants.{Done, Stopped, Unreadable}
 use Rattle.lrs_cli_tasks.specs.declared.fault.ProgramFault.{ProgramFault}
@@ -71,8 +70,8 @@ module _ {K : Type 0} (holds : K → Result Image Table → Type 0) (text_of : T
   HasWorked work.Audit before after old (Err fault) = (after ≡ before) × (fault ≡ Write)
   HasWorked (work.Sum up_to) before after old (Ok done) = (after ≡ before) × EndsSum before.image up_to old done.0 done.1
   HasWorked (work.Sum up_to) before after old (Err fault) = (after ≡ before) × IsUnprinted fault
-  HasWorked (work.Question question as_text) before after old (Ok done) = (after ≡ before) × HasAnswered before.image question as_text old done.0 done.1
-  HasWorked (work.Question question as_text) before after old (Err fault) = (after ≡ before) × IsUnprinted fault
+  HasWorked (work.Question question form) before after old (Ok done) = (after ≡ before) × HasAnswered before.image question form old done.0 done.1
+  HasWorked (work.Question question form) before after old (Err fault) = (after ≡ before) × IsUnprinted fault
   HasWorked (work.Questions from) before after old (Ok done) = (after ≡ before) × EndsQuestions before.image (text_of from.now) old done.0 done.1
   HasWorked (work.Questions from) before after old (Err fault) = (after ≡ before) × IsUnprinted fault
   HasWorked (work.Service service) before after old (Ok done) = EndsService holds service before after old done.0 done.1
@@ -114,7 +113,7 @@ IsNotOpened old given = (why : OpenFault) × EndsSilent old given (Stopped (faul
 -- a question, or a sheet of them, or the sum of the log, or a sheet that is only tried
 abbrev pub Looks : Work → Type 0
 Looks (work.Sum up_to) = ⊤
-Looks (work.Question question as_text) = ⊤
+Looks (work.Question question form) = ⊤
 Looks (work.Questions from) = ⊤
 Looks (work.Check kind from) = ⊤
 Looks w = ⊥
@@ -168,4 +167,4 @@ module _ {M F Q : Type 0} (memory : M → Result Image Table → Type 0) (file :
   abbrev pub EndsJob : Job → Option Text → Printed → Type 0
   EndsJob job old given =
       ((t : Task) × IsTaskOf job t × EndsTask t old given)
-      ⊎ ((fault : QuestionFault) × IsFaultOf job fault × EndsSilent old given (ending_of_words fault))
+      ⊎ ((fault : QuestionFault) × IsUnread job fault × EndsSilent old given (ending_of_words fault))

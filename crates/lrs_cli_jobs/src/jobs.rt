@@ -67,8 +67,8 @@ fn do_work<R: Runtime<A = Global> + Net, S: Sheets, W: Write + Drop, K: Keeper>(
             whole,
         } => do_records(world, desk, kind, resumes, all, whole, from, of_file, to),
         Work::Check { kind, from } => do_check(world, desk, kind, from, to),
-        Work::Question { question, as_text } => {
-            do_question(world.rt, world.shown, desk, question, as_text, to)
+        Work::Question { question, form } => {
+            do_question(world.rt, world.shown, desk, question, &form, to)
         }
         Work::Questions { from } => do_questions(world, desk, from, to),
         Work::Sum { up_to } => answer_sum(world.rt.alloc(), desk, up_to, to),

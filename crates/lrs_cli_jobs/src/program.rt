@@ -3,6 +3,7 @@
 use crate::explanation::explain;
 use crate::jobs::do_job;
 use crate::output::Output;
+use crate::question::hint_at_columns;
 use lrs_cli_help::{
     GivenWords, Options, expected_of, hint_at, is_error_read, is_reader_gone, options_of,
     read_words, verb_help, wait_of,
@@ -50,7 +51,10 @@ fn do_explained<F: Files, S: Sheets>(
         Err(fault) => Ending::Stopped(fault),
     };
     match ending {
-        Ending::Unreadable(word) if is_error_read(rt) => hint_at(rt, job, word),
+        Ending::Unreadable(word) if is_error_read(rt) => {
+            hint_at(rt, job, word);
+            hint_at_columns(rt, job, word);
+        }
         Ending::Stopped(fault) if is_explained(rt, world.shown, options, fault) => {
             explain(rt, job, options, fault, failure.get());
         }

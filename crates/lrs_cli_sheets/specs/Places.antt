@@ -32,11 +32,12 @@ on_route (Some route) (Some places) = Some (route, places)
 on_route (Some route) None = None
 on_route None places = None
 
--- the place that `where` asks for, and the stretch of a diagram or of rows of a route
+-- the place that `where` asks for, and the stretch of a diagram, of rows or of an overlay of a route
 abbrev pub places_in : Question → Option (Name × Places)
 places_in (question.Where (asked.OnRoute route place)) = Some (route, At place)
 places_in (question.Diagram route classes from to) = on_route (Some route) (ends from to)
 places_in (question.Rows wanted) = on_route wanted.route (ends wanted.from wanted.to)
+places_in (question.Overlay wanted) = on_route wanted.route (ends wanted.from wanted.to)
 places_in _ = None
 
 -- where a route is split, and what of it is realigned

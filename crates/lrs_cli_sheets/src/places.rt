@@ -59,6 +59,7 @@ pub(crate) fn places_in(question: &Question) -> Option<(RouteName, Places)>
             ..
         } => on_route(Some(*route), ends(*from, *to)),
         Question::Rows(asked) => on_route(asked.route, ends(asked.from, asked.to)),
+        Question::Overlay(asked) => on_route(asked.route, ends(asked.from, asked.to)),
         _ => None,
     }
 }

@@ -1,5 +1,6 @@
 pub mod Cells
 pub mod Lines
+pub mod Columns
 pub mod Questions
 pub mod Endings
 pub mod Sums

@@ -1,11 +1,15 @@
 -- What a job has the program do.
-use Rattle.std.specs.Prelude.{◌≡◌, ⊤, Bool, true, false, Option, Some, None, option_map}
+use Rattle.std.specs.Prelude.{◌≡◌, ◌⊎◌, ⊤, Bool, true, false, Option, Some, None, option_map}
 use Rattle.clap.specs.Words.{Text}
+use Rattle.lrs_machine.specs.declared.question.Question.{Question}
 use Rattle.lrs_sheet_records.specs.declared.sheet.Sheet.{Sheet}
 use Rattle.lrs_sheet_records.specs.declared.sheet.Sheet.TheVariants.{Edits, Survey}
 use Rattle.lrs_cli_words.specs.declared.job.Job.{Job}
 use Rattle.lrs_cli_words.specs.declared.job.Job.TheVariants as job
-use Rattle.lrs_cli_words.specs.Questions.{Asks, SaysService, SaysSummed}
+use Rattle.lrs_cli_words.specs.declared.question.QuestionFault.{QuestionFault}
+use Rattle.lrs_cli_words.specs.Questions.{Asks, IsFaultOf, SaysService, SaysSummed}
+use Rattle.lrs_cli_tasks.specs.Columns.{ArePicked, CannotPick, columns_of}
+use Rattle.lrs_cli_tasks.specs.declared.task.ListForm.{ListForm}
 use Rattle.lrs_cli_tasks.specs.declared.task.Task.{Task}
 use Rattle.lrs_cli_tasks.specs.declared.task.Task.TheVariants as task
 use Rattle.lrs_cli_tasks.specs.declared.task.Work.{Work}
@@ -22,14 +26,15 @@ inventory_of (job.Translate db route method position to) = Some db.now
 inventory_of (job.Strip db route side classes) = Some db.now
 inventory_of (job.Diagram db route classes from to) = Some db.now
 inventory_of (job.Totals db) = Some db.now
-inventory_of (job.Lengths db route text) = Some db.now
+inventory_of (job.Lengths db route text columns) = Some db.now
 inventory_of (job.Find db asset) = Some db.now
 inventory_of (job.Route db route) = Some db.now
 inventory_of (job.Ask db questions) = Some db.now
-inventory_of (job.List db what route exact text) = Some db.now
-inventory_of (job.Rows db route from to class asset exact on_links text) = Some db.now
-inventory_of (job.Gone db edit class since until text) = Some db.now
-inventory_of (job.History db asset text) = Some db.now
+inventory_of (job.List db what route exact text columns) = Some db.now
+inventory_of (job.Rows db route from to class asset exact on_links text columns) = Some db.now
+inventory_of (job.Overlay db classes route side from to gaps text columns) = Some db.now
+inventory_of (job.Gone db edit class since until text columns) = Some db.now
+inventory_of (job.History db asset text columns) = Some db.now
 inventory_of (job.Log db from until key text sum) = Some db.now
 inventory_of (job.Audit db) = Some db.now
 inventory_of (job.Serve db port max sums log end_on_fault most_reply page) = Some db.now
@@ -43,15 +48,36 @@ kind_of false = Edits
 
 -- each cell of what the job lists is written as text
 abbrev pub has_text_cells : Job → Bool
-has_text_cells (job.Lengths db route text) = text
-has_text_cells (job.List db what route exact text) = text
-has_text_cells (job.Rows db route from to class asset exact on_links text) = text
-has_text_cells (job.Gone db edit class since until text) = text
-has_text_cells (job.History db asset text) = text
+has_text_cells (job.Lengths db route text columns) = text
+has_text_cells (job.List db what route exact text columns) = text
+has_text_cells (job.Rows db route from to class asset exact on_links text columns) = text
+has_text_cells (job.Overlay db classes route side from to gaps text columns) = text
+has_text_cells (job.Gone db edit class since until text columns) = text
+has_text_cells (job.History db asset text columns) = text
 has_text_cells (job.Log db from until key text sum) = text
 has_text_cells _ = false
 
--- `edit` does an edit sheet, `survey` a survey, `check` tries one, `ask` answers a sheet of questions, `audit` audits, `log --sum` sums the log, `serve` serves where and how its words say, and every other job asks what they say, and has its cells written as text where it says so
+-- the text that names the columns of what the job lists
+abbrev pub columns_given : Job → Option Text
+columns_given (job.Lengths db route text columns) = option_map (λ w. w.now) columns
+columns_given (job.List db what route exact text columns) = option_map (λ w. w.now) columns
+columns_given (job.Rows db route from to class asset exact on_links text columns) = option_map (λ w. w.now) columns
+columns_given (job.Overlay db classes route side from to gaps text columns) = option_map (λ w. w.now) columns
+columns_given (job.Gone db edit class since until text columns) = option_map (λ w. w.now) columns
+columns_given (job.History db asset text columns) = option_map (λ w. w.now) columns
+columns_given _ = None
+
+-- the list that answers a question of the job is written in this form
+pub record IsFormOf (j : Job) (q : Question) (form : ListForm) : Type 0 where
+  pub columns : ArePicked (columns_of q) (columns_given j) form.columns
+  pub as_text : form.as_text ≡ has_text_cells j
+
+-- the work is this question, in that form
+abbrev pub IsFormedOf : Job → Question → Work → Type 0
+IsFormedOf j q (work.Question question form) = (question ≡ q) × IsFormOf j q form
+IsFormedOf j q w = ⊥
+
+-- `edit` does an edit sheet, `survey` a survey, `check` tries one, `ask` answers a sheet of questions, `audit` audits, `log --sum` sums the log, `serve` serves where and how its words say, and every other job asks what they say, and has the answer written in the form that it says
 abbrev pub IsWorkOf : Job → Work → Type 0
 IsWorkOf (job.Edit db sheet sums resume all whole) (work.Sheet kind from resumes at_once with_end) = (kind ≡ Edits) × (from.now ≡ sheet.now) × (resumes ≡ resume) × (at_once ≡ all) × (with_end ≡ whole)
 IsWorkOf (job.Survey db sheet sums resume all whole) (work.Sheet kind from resumes at_once with_end) = (kind ≡ Survey) × (from.now ≡ sheet.now) × (resumes ≡ resume) × (at_once ≡ all) × (with_end ≡ whole)
@@ -61,7 +87,7 @@ IsWorkOf (job.Audit db) work.Audit = ⊤
 IsWorkOf (job.Log db from until key text true) (work.Sum up_to) =
     SaysSummed (option_map (λ w. w.now) from) (option_map (λ w. w.now) until) (option_map (λ w. w.now) key) up_to
 IsWorkOf (job.Serve db port max sums log end_on_fault most_reply page) (work.Service service) = SaysService port.now max.now log end_on_fault (option_map (λ w. w.now) most_reply) page service
-IsWorkOf j (work.Question question as_text) = Asks j question × (as_text ≡ has_text_cells j)
+IsWorkOf j (work.Question question form) = Asks j question × IsFormOf j question form
 IsWorkOf j w = ⊥
 
 -- `page` has a folder, `tidy` a file, and every other job an inventory and what is done with it
@@ -70,3 +96,7 @@ IsTaskOf (job.Page dir) (task.Page folder) = folder.now ≡ dir.now
 IsTaskOf (job.Tidy file survey) (task.Tidy kind from) = (kind ≡ kind_of survey) × (from.now ≡ file.now)
 IsTaskOf j (task.Inventory db w) = (inventory_of j ≡ Some db.now) × IsWorkOf j w
 IsTaskOf j t = ⊥
+
+-- the fault is a word of the job that cannot be read, or its columns are none of the list that answers its question
+abbrev pub IsUnread : Job → QuestionFault → Type 0
+IsUnread j fault = IsFaultOf j fault ⊎ ((q : Question) × Asks j q × CannotPick (columns_of q) (columns_given j) fault)

@@ -3,17 +3,20 @@
 
 mod buffer;
 mod cells;
+mod columns;
 mod desk;
 mod endings;
 mod fault;
 mod lines;
 mod page;
 mod page_file;
+mod picked;
 mod questions;
 mod sums;
 mod task;
 
 pub use buffer::{behind, buffered};
+pub use columns::first_columns;
 pub use desk::{is_in_memory, open_full, open_in_memory};
 pub use endings::{Ending, status};
 pub use fault::{ProgramFault, table_name};
@@ -21,4 +24,4 @@ pub use page::do_page;
 pub use page_file::{PAGE, write_page};
 pub use questions::answer;
 pub use sums::answer_sum;
-pub use task::{Task, Work, task_of};
+pub use task::{ListForm, Task, Work, task_of};

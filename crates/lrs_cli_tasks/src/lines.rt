@@ -4,20 +4,22 @@ ghost use Rattle.std.specs.Prelude.{◌≡◌, OnOk};
 ghost use Rattle.std.specs.List.{flat_map};
 ghost use Rattle.std.specs.Io.KnownBytes.{Appends};
 ghost use Rattle.lrs_machine.specs.Lines.{method_text};
+ghost use Rattle.lrs_report_answers.specs.Overlay.{overlay_text};
 ghost use Rattle.lrs_report_lists.specs.Lists.{rows_text};
 ghost use Rattle.lrs_cli_tasks.specs.Lines.{at_text, expression_line, found_text, hit_text, link_position_text, listing_text, place_text, position_line, row_text, told_text, total_text, totals_text, whereabouts_text};
 
 use lrs_desk::Inventory;
-use lrs_machine::{Hit, Listing, RowsWanted, Total};
+use lrs_machine::{Hit, Listing, OverlayWanted, RowsWanted, Total};
 use lrs_measure::Frac;
 use lrs_position::{Expr, RouteName};
 use lrs_report::{strip_of, write_diagram};
-use lrs_report_answers::{AtAnswer, FoundRow, Told, Whereabouts};
+use lrs_report_answers::{AtAnswer, FoundRow, Told, Whereabouts, write_overlay};
 use lrs_report_lists::{
     write_classes, write_gone, write_history, write_lengths, write_links, write_marks,
     write_pieces, write_refs, write_routes, write_rows,
 };
 use lrs_sheet_log::{write_log, write_log_of_key, write_route_sheet};
+use std::alloc::Global;
 use std::io;
 use std::io::Write;
 
@@ -208,6 +210,7 @@ fn write_listing<W: Write>(
 
 /// Writes the rows of an inventory that are wanted, as CSV.
 fn write_wanted<W: Write>(
+    alloc: Global,
     writer: &mut W,
     inventory: &Inventory,
     wanted: &RowsWanted,
@@ -215,15 +218,33 @@ fn write_wanted<W: Write>(
     ensures { OnOk result (Appends (W.contents writer.old) (W.contents writer.new)
         (rows_text wanted.now inventory.now)) }
 {
-    write_rows(writer, inventory.kept(), wanted)
+    write_rows(alloc, writer, inventory.kept(), wanted)
 }
 
-/// Writes what is told to a question, in lines; lists as CSV, a route as an edit sheet, and a diagram as an SVG picture. It
-/// takes no memory beyond the writer's, and does not flush the writer.
+/// Writes the segments of an inventory that are wanted, with their values side by side, as CSV.
+fn write_segments<W: Write>(
+    alloc: Global,
+    writer: &mut W,
+    inventory: &Inventory,
+    wanted: &OverlayWanted,
+) -> io::Result<()>
+    ensures { OnOk result (Appends (W.contents writer.old) (W.contents writer.new)
+        (overlay_text wanted.now inventory.now)) }
+{
+    write_overlay(alloc, writer, inventory, wanted)
+}
+
+/// Writes what is told to a question, in lines; lists as CSV, a route as an edit sheet, and a diagram as an SVG picture.
+/// Rows and an overlay take memory for one route at a time; all else takes none beyond the writer's. It does not flush the
+/// writer.
 ///
 /// # Errors
-/// That of the writer. Part of the lines may be written then.
-pub(crate) fn write_told<W: Write>(writer: &mut W, told: Told<'_>) -> io::Result<()>
+/// That of the writer, and one of the kind `OutOfMemory`. Part of the lines may be written then.
+pub(crate) fn write_told<W: Write>(
+    alloc: Global,
+    writer: &mut W,
+    told: Told<'_>,
+) -> io::Result<()>
     ensures { OnOk result (Appends (W.contents writer.old) (W.contents writer.new)
         (told_text told.entry)) }
 {
@@ -244,7 +265,8 @@ pub(crate) fn write_told<W: Write>(writer: &mut W, told: Told<'_>) -> io::Result
         Told::Found(rows) => write_found(writer, rows.as_slice()),
         Told::Where(found) => write_whereabouts(writer, &found),
         Told::Lengths(rows) => write_lengths(writer, rows.as_slice()),
-        Told::Rows { wanted, inventory } => write_wanted(writer, inventory, &wanted),
+        Told::Rows { wanted, inventory } => write_wanted(alloc, writer, inventory, &wanted),
+        Told::Overlay { wanted, inventory } => write_segments(alloc, writer, inventory, &wanted),
         Told::Listing { listing, inventory } => write_listing(writer, inventory, &listing),
         Told::Health(edits) => write_health(writer, edits),
     }

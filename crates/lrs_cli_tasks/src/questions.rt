@@ -2,31 +2,49 @@
 
 ghost use Rattle.std.specs.Prelude.{◌≡◌, ◌⊎◌, IfOk, IfErr, Err, false, true};
 ghost use Rattle.std.specs.Io.KnownBytes.{Appends};
+ghost use Rattle.std.specs.IoError.{error_kind};
 ghost use Rattle.lrs_report_answers.specs.ToldAnswers.{IsTold};
-ghost use Rattle.lrs_cli_tasks.specs.Lines.{text_cells, told_text};
-ghost use Rattle.lrs_cli_tasks.specs.Questions.{HasAnswered, IsPrinted, ending_of, stop_of};
+ghost use Rattle.lrs_cli_tasks.specs.Columns.{picked_cells};
+ghost use Rattle.lrs_cli_tasks.specs.Lines.{told_text};
+ghost use Rattle.lrs_cli_tasks.specs.Questions.{HasAnswered, IsPrinted, ending_of, in_cells, output_in, plain_form, stop_of, unwritten_by};
 
 use crate::buffer::{behind, buffered};
 use crate::cells::write_text_cells;
 use crate::endings::Ending;
 use crate::fault::ProgramFault;
 use crate::lines::write_told;
+use crate::picked::write_picked;
+use crate::task::ListForm;
 use lrs_desk::{AskFault, Desk, Keeper, Question, Told};
 use lrs_report_answers::cause_of;
 use std::alloc::Global;
-use std::io::Write;
+use std::io;
+use std::io::{ErrorKind, Write};
 
 /// Why no answer was printed.
 #[derive(Clone, Copy)]
 pub enum Unanswered {
     /// The desk answered by this fault.
     Asked(AskFault),
+    /// Memory ran out while it was written.
+    Memory,
     /// It was not written, or not whole.
     Write,
 }
 
+// Why an answer was not written.
+fn unwritten(error: &io::Error) -> Unanswered
+    ensures { result ≡ unwritten_by (error_kind error.now) }
+{
+    match error.kind() {
+        ErrorKind::OutOfMemory => Unanswered::Memory,
+        _ => Unanswered::Write,
+    }
+}
+
 // The answer to a question.
 fn print_answer<K: Keeper, W: Write>(
+    alloc: Global,
     desk: &Desk<K>,
     question: Question,
     writer: &mut W,
@@ -36,9 +54,9 @@ fn print_answer<K: Keeper, W: Write>(
         (W.contents writer.new) result }
 {
     match desk.ask(question) {
-        Ok(told) => match write_told(writer, told) {
+        Ok(told) => match write_told(alloc, writer, told) {
             Ok(()) => Ok(()),
-            Err(_) => Err(Unanswered::Write),
+            Err(error) => Err(unwritten(&error)),
         },
         Err(fault) => Err(Unanswered::Asked(fault)),
     }
@@ -76,55 +94,103 @@ fn answer_as_it_is<K: Keeper, W: Write + Drop>(
     to: W,
 ) -> Result<(W, Ending), ProgramFault>
     requires behind { desk.now.is_ahead ≡ false }
-    ensures answered { IfOk result (λ done. HasAnswered desk.now.image question false
+    ensures answered { IfOk result (λ done. HasAnswered desk.now.image question plain_form
         (W.contents to) (W.contents done.0) done.1) }
     ensures faults { IfErr result (λ e. (e ≡ ProgramFault.Memory) ⊎ (e ≡ ProgramFault.Write)) }
 {
     let mut writer = buffered(alloc, to)?;
-    let ending = match print_answer(desk, question, &mut writer) {
+    let ending = match print_answer(alloc, desk, question, &mut writer) {
         Ok(()) => Ending::Done,
         Err(Unanswered::Asked(fault)) => refusal(fault),
+        Err(Unanswered::Memory) => return Err(ProgramFault::Memory),
         Err(Unanswered::Write) => return Err(ProgramFault::Write),
     };
     Ok((behind(writer)?, ending))
 }
 
-// Writes a CSV text through a buffer in front of the writer, each cell as text, and gives the writer back.
-fn print_cells<W: Write + Drop>(alloc: Global, text: &[u8], to: W) -> Result<W, ProgramFault>
+// The columns of a CSV text at these places.
+fn picked_text(alloc: Global, text: &[u8], places: &[usize]) -> Result<Vec<u8>, ProgramFault>
+    ensures picked { IfOk result (λ picked. picked.items ≡ picked_cells places.now text.now) }
+    ensures memory { IfErr result (λ e. e ≡ ProgramFault.Memory) }
+{
+    let mut picked = Vec::new(alloc);
+    match write_picked(&mut picked, places, text) {
+        Ok(()) => Ok(picked),
+        // of what is written into memory, that alone can run out
+        Err(_) => Err(ProgramFault::Memory),
+    }
+}
+
+// Writes a text through a buffer in front of the writer, as it is or each cell as text, and gives the writer back.
+fn print_cells<W: Write + Drop>(
+    alloc: Global,
+    text: &[u8],
+    as_text: bool,
+    to: W,
+) -> Result<W, ProgramFault>
     ensures written { IfOk result (λ w. Appends (W.contents to) (W.contents w)
-        (text_cells text.now)) }
+        (in_cells as_text text.now)) }
     ensures faults { IfErr result (λ e. (e ≡ ProgramFault.Memory) ⊎ (e ≡ ProgramFault.Write)) }
 {
     let mut writer = buffered(alloc, to)?;
-    match write_text_cells(&mut writer, text) {
+    let written = if as_text {
+        write_text_cells(&mut writer, text)
+    } else {
+        writer.write_all(text)
+    };
+    match written {
         Ok(()) => behind(writer),
         Err(_) => Err(ProgramFault::Write),
     }
 }
 
-// Answers a question with each cell of the answer as text. The answer is made in memory before.
-fn answer_in_cells<K: Keeper, W: Write + Drop>(
+// Writes a CSV text in a form, and gives the writer back.
+fn print_in_form<W: Write + Drop>(
+    alloc: Global,
+    text: &[u8],
+    form: &ListForm,
+    to: W,
+) -> Result<W, ProgramFault>
+    ensures written { IfOk result (λ w. Appends (W.contents to) (W.contents w)
+        (output_in form.now text.now)) }
+    ensures faults { IfErr result (λ e. (e ≡ ProgramFault.Memory) ⊎ (e ≡ ProgramFault.Write)) }
+{
+    match &form.columns {
+        Some(places) => match picked_text(alloc, text, places.as_slice()) {
+            Ok(picked) => print_cells(alloc, picked.as_slice(), form.as_text, to),
+            Err(fault) => Err(fault),
+        },
+        None => print_cells(alloc, text, form.as_text, to),
+    }
+}
+
+// Answers a question in a form. The answer is made in memory before.
+fn answer_in_form<K: Keeper, W: Write + Drop>(
     alloc: Global,
     desk: &Desk<K>,
     question: Question,
+    form: &ListForm,
     to: W,
 ) -> Result<(W, Ending), ProgramFault>
     requires behind { desk.now.is_ahead ≡ false }
-    ensures answered { IfOk result (λ done. HasAnswered desk.now.image question true
+    ensures answered { IfOk result (λ done. HasAnswered desk.now.image question form.now
         (W.contents to) (W.contents done.0) done.1) }
     ensures faults { IfErr result (λ e. (e ≡ ProgramFault.Memory) ⊎ (e ≡ ProgramFault.Write)) }
 {
     let mut text = Vec::new(alloc);
-    match print_answer(desk, question, &mut text) {
-        Ok(()) => Ok((print_cells(alloc, text.as_slice(), to)?, Ending::Done)),
+    match print_answer(alloc, desk, question, &mut text) {
+        Ok(()) => Ok((
+            print_in_form(alloc, text.as_slice(), form, to)?,
+            Ending::Done,
+        )),
         Err(Unanswered::Asked(fault)) => Ok((to, refusal(fault))),
         // of what is written into memory, that alone can run out
-        Err(Unanswered::Write) => Err(ProgramFault::Memory),
+        Err(Unanswered::Memory | Unanswered::Write) => Err(ProgramFault::Memory),
     }
 }
 
-/// Answers a question, and gives the writer back with the whole answer: as it is, or, for a list, with each cell as text.
-/// A question changes nothing.
+/// Answers a question, and gives the writer back with the whole answer; a list in a form, which is made in memory before
+/// where it is no plain one. A question changes nothing.
 ///
 /// # Errors
 /// `Write` where the answer was not written, and `Memory` where there is none for it.
@@ -132,16 +198,16 @@ pub fn answer<K: Keeper, W: Write + Drop>(
     alloc: Global,
     desk: &Desk<K>,
     question: Question,
-    as_text: bool,
+    form: &ListForm,
     to: W,
 ) -> Result<(W, Ending), ProgramFault>
     requires behind { desk.now.is_ahead ≡ false }
-    ensures answered { IfOk result (λ done. HasAnswered desk.now.image question as_text
+    ensures answered { IfOk result (λ done. HasAnswered desk.now.image question form.now
         (W.contents to) (W.contents done.0) done.1) }
     ensures faults { IfErr result (λ e. (e ≡ ProgramFault.Memory) ⊎ (e ≡ ProgramFault.Write)) }
 {
-    if as_text {
-        answer_in_cells(alloc, desk, question, to)
+    if form.as_text || form.columns.is_some() {
+        answer_in_form(alloc, desk, question, form, to)
     } else {
         answer_as_it_is(alloc, desk, question, to)
     }

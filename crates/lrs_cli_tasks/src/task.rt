@@ -1,13 +1,24 @@
 //! What a job has the program do.
 
-ghost use Rattle.std.specs.Prelude.{◌≡◌, IfOk, IfErr};
-ghost use Rattle.lrs_cli_words.specs.Questions.{IsFaultOf};
-ghost use Rattle.lrs_cli_tasks.specs.Tasks.{IsTaskOf, has_text_cells, kind_of};
+ghost use Rattle.std.specs.Prelude.{◌≡◌, IfOk, IfErr, option_map};
+ghost use Rattle.lrs_cli_tasks.specs.Columns.{CannotPick, columns_of};
+ghost use Rattle.lrs_cli_tasks.specs.Tasks.{IsFormedOf, IsTaskOf, IsUnread, columns_given, has_text_cells, kind_of};
 
+use crate::columns::picked_columns;
 use lrs_cli_words::{Job, QuestionFault, Service, question_of, service_of, summed_of};
 use lrs_machine::Question;
+use lrs_measure::Rows;
 use lrs_sheet_records::Sheet;
 use std::alloc::Global;
+
+/// How the list that answers a question is written.
+#[derive(Drop)]
+pub struct ListForm {
+    /// Of each line only the fields at these places, counted from 0, in this order; where there are none, all.
+    pub columns: Option<Rows<usize>>,
+    /// Each cell is written as text, for a spreadsheet.
+    pub as_text: bool,
+}
 
 /// What is done with an inventory.
 #[derive(Drop)]
@@ -26,10 +37,10 @@ pub enum Work<'a> {
         kind: Sheet,
         from: &'a str,
     },
-    /// A question is answered; with `as_text` each cell of its answer is written as text.
+    /// A question is answered, and its list written in this form.
     Question {
         question: Question,
-        as_text: bool,
+        form: ListForm,
     },
     /// A sheet of questions is read from `from`, and answered.
     Questions {
@@ -89,10 +100,47 @@ fn writes_text_cells(job: &Job<'_>) -> bool
         Job::Lengths { text, .. }
         | Job::List { text, .. }
         | Job::Rows { text, .. }
+        | Job::Overlay { text, .. }
         | Job::Gone { text, .. }
         | Job::History { text, .. }
         | Job::Log { text, .. } => *text,
         _ => false,
+    }
+}
+
+// The text that names the columns of what the job lists.
+fn columns_given<'a>(job: &Job<'a>) -> Option<&'a str>
+    ensures { option_map (λ t. t.now) result ≡ columns_given job.now }
+{
+    match job {
+        Job::Lengths { columns, .. }
+        | Job::List { columns, .. }
+        | Job::Rows { columns, .. }
+        | Job::Overlay { columns, .. }
+        | Job::Gone { columns, .. }
+        | Job::History { columns, .. } => *columns,
+        _ => None,
+    }
+}
+
+// A question of a job is answered in the form that the job says.
+fn question_work<'a>(
+    alloc: Global,
+    job: &Job<'_>,
+    question: Question,
+) -> Result<Work<'a>, QuestionFault>
+    ensures work { IfOk result (IsFormedOf job.now question) }
+    ensures unread { IfErr result (CannotPick (columns_of question) (columns_given job.now)) }
+{
+    match picked_columns(alloc, &question, columns_given(job)) {
+        Ok(columns) => Ok(Work::Question {
+            question,
+            form: ListForm {
+                columns,
+                as_text: writes_text_cells(job),
+            },
+        }),
+        Err(fault) => Err(fault),
     }
 }
 
@@ -106,10 +154,10 @@ fn tidy_task<'a>(from: &'a str, survey: bool) -> Task<'a>
 /// What a job asks for. Its words are read, and nothing else is looked at.
 ///
 /// # Errors
-/// A word that cannot be read, and `Memory`.
+/// A word that cannot be read, one of `columns` that the list of the job does not have, and `Memory`.
 pub fn task_of<'a>(alloc: Global, job: &Job<'a>) -> Result<Task<'a>, QuestionFault>
     ensures task { IfOk result (IsTaskOf job.now) }
-    ensures unread { IfErr result (IsFaultOf job.now) }
+    ensures unread { IfErr result (IsUnread job.now) }
 {
     let (db, work) = match job {
         Job::Page { dir } => return Ok(Task::Page { dir }),
@@ -170,16 +218,11 @@ pub fn task_of<'a>(alloc: Global, job: &Job<'a>) -> Result<Task<'a>, QuestionFau
         | Job::Route { db, .. }
         | Job::List { db, .. }
         | Job::Rows { db, .. }
+        | Job::Overlay { db, .. }
         | Job::Gone { db, .. }
         | Job::History { db, .. }
         | Job::Log { db, .. } => match question_of(alloc, job)? {
-            Some(question) => (
-                db,
-                Work::Question {
-                    question,
-                    as_text: writes_text_cells(job),
-                },
-            ),
+            Some(question) => (db, question_work(alloc, job, question)?),
             None => unreachable!(),
         },
     };

@@ -122,6 +122,15 @@ to_fills = option_fills (codes "to") refl
 route_fills : Fills (option_at (codes "route"))
 route_fills = option_fills (codes "route") refl
 
+side_fills : Fills (option_at (codes "side"))
+side_fills = option_fills (codes "side") refl
+
+columns_fills : Fills (option_at (codes "columns"))
+columns_fills = option_fills (codes "columns") refl
+
+gaps_fills : Fills (flag_at (codes "gaps"))
+gaps_fills = flag_fills (codes "gaps")
+
 class_fills : Fills (option_at (codes "class"))
 class_fills = option_fills (codes "class") refl
 
@@ -158,13 +167,23 @@ end_options = option_at (codes "from") ∷ option_at (codes "to") ∷ []
 abbrev row_options : List Rule
 row_options =
     option_at (codes "route") ∷ option_at (codes "from") ∷ option_at (codes "to") ∷ option_at (codes "class") ∷ option_at (codes "asset") ∷ flag_at (codes "exact") ∷ flag_at (codes "on-links")
-    ∷ flag_at (codes "text") ∷ []
+    ∷ flag_at (codes "text") ∷ option_at (codes "columns") ∷ []
+
+abbrev overlay_options : List Rule
+overlay_options =
+    option_at (codes "route") ∷ option_at (codes "side") ∷ option_at (codes "from") ∷ option_at (codes "to") ∷ flag_at (codes "gaps") ∷ flag_at (codes "text") ∷ option_at (codes "columns") ∷ []
+
+abbrev length_options : List Rule
+length_options = option_at (codes "route") ∷ flag_at (codes "text") ∷ option_at (codes "columns") ∷ []
+
+abbrev history_options : List Rule
+history_options = flag_at (codes "text") ∷ option_at (codes "columns") ∷ []
 
 abbrev list_options : List Rule
-list_options = option_at (codes "route") ∷ flag_at (codes "exact") ∷ flag_at (codes "text") ∷ []
+list_options = option_at (codes "route") ∷ flag_at (codes "exact") ∷ flag_at (codes "text") ∷ option_at (codes "columns") ∷ []
 
 abbrev gone_options : List Rule
-gone_options = option_at (codes "edit") ∷ option_at (codes "class") ∷ option_at (codes "since") ∷ option_at (codes "until") ∷ flag_at (codes "text") ∷ []
+gone_options = option_at (codes "edit") ∷ option_at (codes "class") ∷ option_at (codes "since") ∷ option_at (codes "until") ∷ flag_at (codes "text") ∷ option_at (codes "columns") ∷ []
 
 abbrev log_options : List Rule
 log_options = option_at (codes "until") ∷ option_at (codes "key") ∷ flag_at (codes "text") ∷ flag_at (codes "sum") ∷ []
@@ -199,14 +218,14 @@ has_flags job.Diagram = record {
 }
 has_flags job.Totals = record { long = without_options job.Totals help_fills; short = short_help (rules_at job.Totals) help_fills }
 has_flags job.Lengths = record {
-  long = long_among (rules_at job.Lengths) (option_at (codes "route") ∷ flag_at (codes "text") ∷ []) (route_fills, route_fills, (text_fills, text_fills, tt)) help_fills;
+  long = long_among (rules_at job.Lengths) length_options (route_fills, route_fills, (text_fills, text_fills, (columns_fills, columns_fills, tt))) help_fills;
   short = short_help (rules_at job.Lengths) help_fills;
 }
 has_flags job.Find = record { long = without_options job.Find help_fills; short = short_help (rules_at job.Find) help_fills }
 has_flags job.Route = record { long = without_options job.Route help_fills; short = short_help (rules_at job.Route) help_fills }
 has_flags job.Ask = record { long = without_options job.Ask help_fills; short = short_help (rules_at job.Ask) help_fills }
 has_flags job.List = record {
-  long = long_among (rules_at job.List) list_options (route_fills, route_fills, (exact_fills, exact_fills, (text_fills, text_fills, tt))) help_fills;
+  long = long_among (rules_at job.List) list_options (route_fills, route_fills, (exact_fills, exact_fills, (text_fills, text_fills, (columns_fills, columns_fills, tt)))) help_fills;
   short = short_help (rules_at job.List) help_fills;
 }
 has_flags job.Rows = record {
@@ -225,7 +244,7 @@ has_flags job.Rows = record {
           (
             asset_fills,
             asset_fills,
-            (exact_fills, exact_fills, (on_links_fills, on_links_fills, (text_fills, text_fills, tt))),
+            (exact_fills, exact_fills, (on_links_fills, on_links_fills, (text_fills, text_fills, (columns_fills, columns_fills, tt)))),
           ),
         ),
       ),
@@ -233,13 +252,33 @@ has_flags job.Rows = record {
   ) help_fills;
   short = short_help (rules_at job.Rows) help_fills;
 }
+has_flags job.Overlay = record {
+  long = long_among (rules_at job.Overlay) overlay_options (
+    route_fills,
+    route_fills,
+    (
+      side_fills,
+      side_fills,
+      (
+        from_fills,
+        from_fills,
+        (
+          to_fills,
+          to_fills,
+          (gaps_fills, gaps_fills, (text_fills, text_fills, (columns_fills, columns_fills, tt))),
+        ),
+      ),
+    ),
+  ) help_fills;
+  short = short_help (rules_at job.Overlay) help_fills;
+}
 has_flags job.Gone = record {
   long = long_among (rules_at job.Gone) gone_options
-      (edit_fills, edit_fills, (class_fills, class_fills, (since_fills, since_fills, (until_fills, until_fills, (text_fills, text_fills, tt))))) help_fills;
+      (edit_fills, edit_fills, (class_fills, class_fills, (since_fills, since_fills, (until_fills, until_fills, (text_fills, text_fills, (columns_fills, columns_fills, tt)))))) help_fills;
   short = short_help (rules_at job.Gone) help_fills;
 }
 has_flags job.History = record {
-  long = long_among (rules_at job.History) (flag_at (codes "text") ∷ []) (text_fills, text_fills, tt) help_fills;
+  long = long_among (rules_at job.History) history_options (text_fills, text_fills, (columns_fills, columns_fills, tt)) help_fills;
   short = short_help (rules_at job.History) help_fills;
 }
 has_flags job.Log = record {
@@ -302,6 +341,7 @@ none_lack job.Route = refl
 none_lack job.Ask = refl
 none_lack job.List = refl
 none_lack job.Rows = refl
+none_lack job.Overlay = refl
 none_lack job.Gone = refl
 none_lack job.History = refl
 none_lack job.Log = refl
@@ -326,6 +366,7 @@ none_missing job.Route rows e = missing_none _ e
 none_missing job.Ask rows e = missing_none _ e
 none_missing job.List rows e = missing_none _ e
 none_missing job.Rows rows e = missing_none _ e
+none_missing job.Overlay rows e = missing_none _ e
 none_missing job.Gone rows e = missing_none _ e
 none_missing job.History rows e = missing_none _ e
 none_missing job.Log rows e = missing_none _ e

@@ -8,6 +8,8 @@ use Rattle.lrs_position.specs.declared.expression.Expr.{Expr}
 use Rattle.lrs_position.specs.declared.expression.Method.{Method}
 use Rattle.lrs_position.specs.Names.{is_route_name}
 use Rattle.lrs_position.specs.Readings.{IsNamed, States, method_text, target_text}
+use Rattle.lrs_events.specs.declared.side.LinkSide.{LinkSide}
+use Rattle.lrs_events.specs.declared.side.LinkSide.TheVariants.{Left, Right}
 use Rattle.lrs_events.specs.declared.side.Side.{Side}
 use Rattle.lrs_events.specs.Names.{is_class_name, side_text}
 use Rattle.lrs_cli_words.specs.declared.job.Job.{Job}
@@ -22,6 +24,7 @@ use Rattle.lrs_machine.specs.declared.question.Listing.TheVariants as listing
 use Rattle.lrs_machine.specs.declared.question.Question.{Question}
 use Rattle.lrs_machine.specs.declared.question.Question.TheVariants as question
 use Rattle.lrs_machine.specs.declared.question.GoneWanted.{GoneWanted}
+use Rattle.lrs_machine.specs.declared.question.OverlayAsked.{OverlayAsked}
 use Rattle.lrs_machine.specs.declared.question.Place.{Place}
 use Rattle.lrs_machine.specs.declared.question.RowForm.{RowForm}
 use Rattle.lrs_machine.specs.declared.question.RowForm.TheVariants as form
@@ -52,6 +55,11 @@ SaysDestination text destination.Link = text ≡ codes "link"
 
 abbrev pub SaysSide : Text → Side → Type 0
 SaysSide text side = text ≡ side_text side
+
+-- one side of a route, seen along it
+abbrev pub SaysLinkSide : Text → LinkSide → Type 0
+SaysLinkSide text Left = text ≡ codes "L"
+SaysLinkSide text Right = text ≡ codes "R"
 
 abbrev pub SaysClass : Text → Name → Type 0
 SaysClass text class = (class ≡ text) × IsTrue (is_class_name text)
@@ -203,6 +211,15 @@ pub record AreAsked (on from to of number : Option Text) (asked : RowsAsked) : T
   pub class : SaysIfGiven SaysClass of asked.class
   pub asset : SaysIfGiven SaysAsset number asked.asset
 
+-- the overlay that these words ask for
+pub record IsOverlayAsked (names : List Text) (on at from to : Option Text) (lacking : Bool) (asked : OverlayAsked) : Type 0 where
+  pub classes : asked.classes ≡ names
+  pub route : SaysIfGiven SaysRoute on asked.route
+  pub side : SaysIfGiven SaysLinkSide at asked.side
+  pub start : SaysEnd from asked.from
+  pub end : SaysEnd to asked.to
+  pub gaps : asked.gaps ≡ lacking
+
 -- what of all that is gone these words ask for
 pub record AreGoneAsked (by of from to : Option Text) (wanted : GoneWanted) : Type 0 where
   pub edit : SaysIfGiven SaysEdit by wanted.edit
@@ -226,14 +243,16 @@ Asks (job.Totals db) question.Totals = ⊤
 Asks (job.Find db asset) (question.Find n) = SaysAsset asset.now n
 Asks (job.Route db route) (question.Route name) = SaysRoute route.now name
 Asks (job.Where db route place mm) (question.Where spot) = IsPlace route.now place.now (option_map (λ w. w.now) mm) spot
-Asks (job.Lengths db route text) (question.Lengths name) = SaysIfGiven SaysRoute (option_map (λ w. w.now) route) name
-Asks (job.List db what route exact text) (question.List l) = SaysList what.now (option_map (λ w. w.now) route) exact l
-Asks (job.Rows db route from to class asset exact on_links text) (question.Rows asked) =
+Asks (job.Lengths db route text columns) (question.Lengths name) = SaysIfGiven SaysRoute (option_map (λ w. w.now) route) name
+Asks (job.List db what route exact text columns) (question.List l) = SaysList what.now (option_map (λ w. w.now) route) exact l
+Asks (job.Rows db route from to class asset exact on_links text columns) (question.Rows asked) =
     AreAsked (option_map (λ w. w.now) route) (option_map (λ w. w.now) from) (option_map (λ w. w.now) to) (option_map (λ w. w.now) class) (option_map (λ w. w.now) asset) asked
     × IsForm exact on_links asked.form
-Asks (job.Gone db edit class since until text) (question.List (listing.Gone wanted)) =
+Asks (job.Overlay db classes route side from to gaps text columns) (question.Overlay asked) =
+    IsOverlayAsked (map (λ w. w.now) classes.items) (option_map (λ w. w.now) route) (option_map (λ w. w.now) side) (option_map (λ w. w.now) from) (option_map (λ w. w.now) to) gaps asked
+Asks (job.Gone db edit class since until text columns) (question.List (listing.Gone wanted)) =
     AreGoneAsked (option_map (λ w. w.now) edit) (option_map (λ w. w.now) class) (option_map (λ w. w.now) since) (option_map (λ w. w.now) until) wanted
-Asks (job.History db asset text) (question.List (listing.History n)) = SaysAsset asset.now n
+Asks (job.History db asset text columns) (question.List (listing.History n)) = SaysAsset asset.now n
 Asks (job.Log db from until key text false) (question.List l) = AsksLog (option_map (λ w. w.now) from) (option_map (λ w. w.now) until) (option_map (λ w. w.now) key) l
 Asks _ q = ⊥
 
@@ -328,6 +347,12 @@ CannotRows route from to class asset fault =
     CannotIfGiven word.Route SaysRoute route fault ⊎ CannotEnd word.From from fault ⊎ CannotEnd word.To to fault ⊎ CannotIfGiven word.Class SaysClass class fault
     ⊎ CannotIfGiven word.Asset SaysAsset asset fault
 
+-- one of the words that narrow an overlay, a class of it, or lack of memory for the classes
+abbrev pub CannotOverlay : List Text → Option Text → Option Text → Option Text → Option Text → QuestionFault → Type 0
+CannotOverlay classes route side from to fault =
+    CannotIfGiven word.Route SaysRoute route fault ⊎ CannotIfGiven word.Side SaysLinkSide side fault ⊎ CannotEnd word.From from fault ⊎ CannotEnd word.To to fault
+    ⊎ (fault ≡ Memory) ⊎ CannotClass classes fault
+
 -- one of the words that narrow a list of what is gone
 abbrev pub CannotGone : Option Text → Option Text → Option Text → Option Text → QuestionFault → Type 0
 CannotGone edit class since until fault =
@@ -356,14 +381,16 @@ IsFaultOf (job.Diagram db route classes from to) fault = CannotDiagram route.now
 IsFaultOf (job.Find db asset) fault = Cannot word.Asset (SaysAsset asset.now) fault
 IsFaultOf (job.Route db route) fault = Cannot word.Route (SaysRoute route.now) fault
 IsFaultOf (job.Where db route place mm) fault = CannotWhere route.now place.now (option_map (λ w. w.now) mm) fault
-IsFaultOf (job.Lengths db route text) fault = CannotIfGiven word.Route SaysRoute (option_map (λ w. w.now) route) fault
-IsFaultOf (job.List db what route exact text) fault = CannotList what.now (option_map (λ w. w.now) route) exact fault
-IsFaultOf (job.Rows db route from to class asset exact on_links text) fault =
+IsFaultOf (job.Lengths db route text columns) fault = CannotIfGiven word.Route SaysRoute (option_map (λ w. w.now) route) fault
+IsFaultOf (job.List db what route exact text columns) fault = CannotList what.now (option_map (λ w. w.now) route) exact fault
+IsFaultOf (job.Rows db route from to class asset exact on_links text columns) fault =
     CannotForm exact on_links fault
     ⊎ CannotRows (option_map (λ w. w.now) route) (option_map (λ w. w.now) from) (option_map (λ w. w.now) to) (option_map (λ w. w.now) class) (option_map (λ w. w.now) asset) fault
-IsFaultOf (job.Gone db edit class since until text) fault =
+IsFaultOf (job.Overlay db classes route side from to gaps text columns) fault =
+    CannotOverlay (map (λ w. w.now) classes.items) (option_map (λ w. w.now) route) (option_map (λ w. w.now) side) (option_map (λ w. w.now) from) (option_map (λ w. w.now) to) fault
+IsFaultOf (job.Gone db edit class since until text columns) fault =
     CannotGone (option_map (λ w. w.now) edit) (option_map (λ w. w.now) class) (option_map (λ w. w.now) since) (option_map (λ w. w.now) until) fault
-IsFaultOf (job.History db asset text) fault = Cannot word.Asset (SaysAsset asset.now) fault
+IsFaultOf (job.History db asset text columns) fault = Cannot word.Asset (SaysAsset asset.now) fault
 IsFaultOf (job.Log db from until key text false) fault = CannotLog (option_map (λ w. w.now) from) (option_map (λ w. w.now) until) (option_map (λ w. w.now) key) fault
 IsFaultOf (job.Log db from until key text true) fault = CannotSum (option_map (λ w. w.now) from) (option_map (λ w. w.now) until) (option_map (λ w. w.now) key) fault
 IsFaultOf (job.Serve db port max sums log end_on_fault most_reply page) fault = CannotServe port.now max.now (option_map (λ w. w.now) most_reply) fault
@@ -384,6 +411,8 @@ bad_word_text word.What = codes "WHAT is none of routes, links, classes, refs, m
 bad_word_text word.RouteOfList = codes "--route stands only beside refs, marks and pieces"
 bad_word_text word.ExactOfList = codes "--exact stands only beside refs"
 bad_word_text word.TwoForms = codes "--exact and --on-links are two forms"
+bad_word_text word.Columns = codes "COLUMNS names no column of this list"
+bad_word_text word.RepeatedColumn = codes "COLUMNS names a column twice"
 bad_word_text word.Edit = codes "EDIT is no number of an edit"
 bad_word_text word.Since = codes "SINCE is no number of an edit"
 bad_word_text word.Until = codes "UNTIL is no number of an edit"

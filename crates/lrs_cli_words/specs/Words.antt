@@ -9,7 +9,7 @@ use Rattle.clap.specs.declared.error.ErrorKind.TheVariants as kind
 use Rattle.lrs_cli_words.specs.declared.job.JobName.{JobName}
 use Rattle.lrs_cli_words.specs.declared.job.JobName.TheVariants as job
 use Rattle.lrs_cli_words.specs.declared.job.Job.{Job}
-use Rattle.lrs_cli_words.specs.declared.job.Job.TheVariants.{Edit, Survey, Check, Tidy, At, Where, Translate, Strip, Diagram, Totals, Lengths, Find, Route, Ask, List as Listing, Rows, Gone, History, Log, Audit, Serve, Page}
+use Rattle.lrs_cli_words.specs.declared.job.Job.TheVariants.{Edit, Survey, Check, Tidy, At, Where, Translate, Strip, Diagram, Totals, Lengths, Find, Route, Ask, List as Listing, Rows, Overlay, Gone, History, Log, Audit, Serve, Page}
 
 -- ---- the command line
 
@@ -54,6 +54,7 @@ name_text job.Route = codes "route"
 name_text job.Ask = codes "ask"
 name_text job.List = codes "list"
 name_text job.Rows = codes "rows"
+name_text job.Overlay = codes "overlay"
 name_text job.Gone = codes "gone"
 name_text job.History = codes "history"
 name_text job.Log = codes "log"
@@ -79,6 +80,7 @@ rules_of job.Route = required (codes "DB") ∷ required (codes "ROUTE") ∷ []
 rules_of job.Ask = required (codes "DB") ∷ required (codes "QUESTIONS") ∷ []
 rules_of job.List = required (codes "DB") ∷ required (codes "WHAT") ∷ []
 rules_of job.Rows = required (codes "DB") ∷ []
+rules_of job.Overlay = required (codes "DB") ∷ several (codes "CLASS") ∷ []
 rules_of job.Gone = required (codes "DB") ∷ []
 rules_of job.History = required (codes "DB") ∷ required (codes "ASSET") ∷ []
 rules_of job.Log = required (codes "DB") ∷ []
@@ -86,7 +88,7 @@ rules_of job.Audit = required (codes "DB") ∷ []
 rules_of job.Serve = required (codes "DB") ∷ required (codes "PORT") ∷ required (codes "MAX") ∷ []
 rules_of job.Page = required (codes "DIR") ∷ []
 
--- what may be left out: those jobs that may make a file have `--sums`, those that do a sheet also `--resume`, `--all` and `--whole`, a service also `--log`, `--end-on-fault`, `--most-reply` and `--page`, a check and a tidying say of which kind their sheet is, a place on a link has its millimetre, a diagram has its classes and its ends, a list may be narrowed, told in another form, and has `--text`, and a log has its end and its sum
+-- what may be left out: those jobs that may make a file have `--sums`, those that do a sheet also `--resume`, `--all` and `--whole`, a service also `--log`, `--end-on-fault`, `--most-reply` and `--page`, a check and a tidying say of which kind their sheet is, a place on a link has its millimetre, a diagram has its classes and its ends, a list may be narrowed, told in another form, and has `--text` and `--columns`, an overlay may be of gaps alone, and a log has its end and its sum
 abbrev pub options_of : JobName → List Rule
 options_of job.Edit = flag (codes "sums") ∷ flag (codes "resume") ∷ flag (codes "all") ∷ flag (codes "whole") ∷ []
 options_of job.Survey = flag (codes "sums") ∷ flag (codes "resume") ∷ flag (codes "all") ∷ flag (codes "whole") ∷ []
@@ -94,13 +96,15 @@ options_of job.Check = flag (codes "survey") ∷ []
 options_of job.Tidy = flag (codes "survey") ∷ []
 options_of job.Serve = flag (codes "sums") ∷ flag (codes "log") ∷ flag (codes "end-on-fault") ∷ option (codes "most-reply") ∷ flag (codes "page") ∷ []
 options_of job.Where = optional (codes "MM") ∷ []
-options_of job.Lengths = option (codes "route") ∷ flag (codes "text") ∷ []
-options_of job.List = option (codes "route") ∷ flag (codes "exact") ∷ flag (codes "text") ∷ []
+options_of job.Lengths = option (codes "route") ∷ flag (codes "text") ∷ option (codes "columns") ∷ []
+options_of job.List = option (codes "route") ∷ flag (codes "exact") ∷ flag (codes "text") ∷ option (codes "columns") ∷ []
 options_of job.Diagram = any (codes "CLASS") ∷ option (codes "from") ∷ option (codes "to") ∷ []
 options_of job.Rows =
-    option (codes "route") ∷ option (codes "from") ∷ option (codes "to") ∷ option (codes "class") ∷ option (codes "asset") ∷ flag (codes "exact") ∷ flag (codes "on-links") ∷ flag (codes "text") ∷ []
-options_of job.Gone = option (codes "edit") ∷ option (codes "class") ∷ option (codes "since") ∷ option (codes "until") ∷ flag (codes "text") ∷ []
-options_of job.History = flag (codes "text") ∷ []
+    option (codes "route") ∷ option (codes "from") ∷ option (codes "to") ∷ option (codes "class") ∷ option (codes "asset") ∷ flag (codes "exact") ∷ flag (codes "on-links") ∷ flag (codes "text") ∷ option (codes "columns") ∷ []
+options_of job.Overlay =
+    option (codes "route") ∷ option (codes "side") ∷ option (codes "from") ∷ option (codes "to") ∷ flag (codes "gaps") ∷ flag (codes "text") ∷ option (codes "columns") ∷ []
+options_of job.Gone = option (codes "edit") ∷ option (codes "class") ∷ option (codes "since") ∷ option (codes "until") ∷ flag (codes "text") ∷ option (codes "columns") ∷ []
+options_of job.History = flag (codes "text") ∷ option (codes "columns") ∷ []
 options_of job.Log = optional (codes "FROM") ∷ option (codes "until") ∷ option (codes "key") ∷ flag (codes "text") ∷ flag (codes "sum") ∷ []
 options_of _ = []
 
@@ -119,7 +123,7 @@ with_job a j = with_subcommand a (line_of_job j)
 abbrev pub jobs : List JobName
 jobs =
     job.Edit ∷ job.Survey ∷ job.Check ∷ job.Tidy ∷ job.At ∷ job.Where ∷ job.Translate ∷ job.Strip ∷ job.Diagram ∷ job.Totals ∷ job.Lengths ∷ job.Find ∷ job.Route ∷ job.Ask ∷ job.List
-    ∷ job.Rows ∷ job.Gone ∷ job.History ∷ job.Log ∷ job.Audit ∷ job.Serve ∷ job.Page ∷ []
+    ∷ job.Rows ∷ job.Overlay ∷ job.Gone ∷ job.History ∷ job.Log ∷ job.Audit ∷ job.Serve ∷ job.Page ∷ []
 
 abbrev pub bare_line : App
 bare_line = record (new_app (codes "roadlrs")) {
@@ -143,14 +147,15 @@ job_name (Translate db route method position to) = job.Translate
 job_name (Strip db route side classes) = job.Strip
 job_name (Diagram db route classes from to) = job.Diagram
 job_name (Totals db) = job.Totals
-job_name (Lengths db route text) = job.Lengths
+job_name (Lengths db route text columns) = job.Lengths
 job_name (Find db asset) = job.Find
 job_name (Route db route) = job.Route
 job_name (Ask db questions) = job.Ask
-job_name (Listing db what route exact text) = job.List
-job_name (Rows db route from to class asset exact on_links text) = job.Rows
-job_name (Gone db edit class since until text) = job.Gone
-job_name (History db asset text) = job.History
+job_name (Listing db what route exact text columns) = job.List
+job_name (Rows db route from to class asset exact on_links text columns) = job.Rows
+job_name (Overlay db classes route side from to gaps text columns) = job.Overlay
+job_name (Gone db edit class since until text columns) = job.Gone
+job_name (History db asset text columns) = job.History
 job_name (Log db from until key text sum) = job.Log
 job_name (Audit db) = job.Audit
 job_name (Serve db port max sums log end_on_fault most_reply page) = job.Serve
@@ -169,43 +174,51 @@ words_of (Translate db route method position to) =
 words_of (Strip db route side classes) = (codes "DB", db.now) ∷ (codes "ROUTE", route.now) ∷ (codes "SIDE", side.now) ∷ []
 words_of (Diagram db route classes from to) = (codes "DB", db.now) ∷ (codes "ROUTE", route.now) ∷ []
 words_of (Totals db) = (codes "DB", db.now) ∷ []
-words_of (Lengths db route text) = (codes "DB", db.now) ∷ []
+words_of (Lengths db route text columns) = (codes "DB", db.now) ∷ []
 words_of (Find db asset) = (codes "DB", db.now) ∷ (codes "ASSET", asset.now) ∷ []
 words_of (Route db route) = (codes "DB", db.now) ∷ (codes "ROUTE", route.now) ∷ []
 words_of (Ask db questions) = (codes "DB", db.now) ∷ (codes "QUESTIONS", questions.now) ∷ []
-words_of (Listing db what route exact text) = (codes "DB", db.now) ∷ (codes "WHAT", what.now) ∷ []
-words_of (Rows db route from to class asset exact on_links text) = (codes "DB", db.now) ∷ []
-words_of (Gone db edit class since until text) = (codes "DB", db.now) ∷ []
-words_of (History db asset text) = (codes "DB", db.now) ∷ (codes "ASSET", asset.now) ∷ []
+words_of (Listing db what route exact text columns) = (codes "DB", db.now) ∷ (codes "WHAT", what.now) ∷ []
+words_of (Rows db route from to class asset exact on_links text columns) = (codes "DB", db.now) ∷ []
+words_of (Overlay db classes route side from to gaps text columns) = (codes "DB", db.now) ∷ []
+words_of (Gone db edit class since until text columns) = (codes "DB", db.now) ∷ []
+words_of (History db asset text columns) = (codes "DB", db.now) ∷ (codes "ASSET", asset.now) ∷ []
 words_of (Log db from until key text sum) = (codes "DB", db.now) ∷ []
 words_of (Audit db) = (codes "DB", db.now) ∷ []
 words_of (Serve db port max sums log end_on_fault most_reply page) = (codes "DB", db.now) ∷ (codes "PORT", port.now) ∷ (codes "MAX", max.now) ∷ []
 words_of (Page dir) = (codes "DIR", dir.now) ∷ []
 
--- the classes of a strip or a diagram are all the words of their place
+-- the classes of a strip, a diagram or an overlay are all the words of their place
 abbrev pub HasClasses : Job → List Row → Type 0
 HasClasses (Strip db route side classes) rows = all_of (codes "CLASS") rows ≡ Some (map (λ w. w.now) classes.items)
 HasClasses (Diagram db route classes from to) rows = unwrap_or (all_of (codes "CLASS") rows) [] ≡ map (λ w. w.now) classes.items
+HasClasses (Overlay db classes route side from to gaps text columns) rows = all_of (codes "CLASS") rows ≡ Some (map (λ w. w.now) classes.items)
 HasClasses _ rows = ⊤
 
 -- the first word of this id is the one that may have been given
 abbrev pub IsValue : Text → List Row → Option Text → Type 0
 IsValue id rows word = first_of id rows ≡ word
 
--- the ends of a diagram, the millimetre of a link, what narrows a list, and the length of replies, are the values that were given
+-- the ends of a diagram, the millimetre of a link, what narrows a list, its columns, and the length of replies, are the values that were given
 abbrev pub HasValues : Job → List Row → Type 0
 HasValues (Diagram db route classes from to) rows =
     IsValue (codes "from") rows (option_map (λ w. w.now) from) × IsValue (codes "to") rows (option_map (λ w. w.now) to)
-HasValues (Rows db route from to class asset exact on_links text) rows =
+HasValues (Rows db route from to class asset exact on_links text columns) rows =
     IsValue (codes "route") rows (option_map (λ w. w.now) route) × IsValue (codes "from") rows (option_map (λ w. w.now) from)
     × IsValue (codes "to") rows (option_map (λ w. w.now) to) × IsValue (codes "class") rows (option_map (λ w. w.now) class)
-    × IsValue (codes "asset") rows (option_map (λ w. w.now) asset)
+    × IsValue (codes "asset") rows (option_map (λ w. w.now) asset) × IsValue (codes "columns") rows (option_map (λ w. w.now) columns)
+HasValues (Overlay db classes route side from to gaps text columns) rows =
+    IsValue (codes "route") rows (option_map (λ w. w.now) route) × IsValue (codes "side") rows (option_map (λ w. w.now) side)
+    × IsValue (codes "from") rows (option_map (λ w. w.now) from) × IsValue (codes "to") rows (option_map (λ w. w.now) to)
+    × IsValue (codes "columns") rows (option_map (λ w. w.now) columns)
 HasValues (Where db route place mm) rows = IsValue (codes "MM") rows (option_map (λ w. w.now) mm)
-HasValues (Lengths db route text) rows = IsValue (codes "route") rows (option_map (λ w. w.now) route)
-HasValues (Listing db what route exact text) rows = IsValue (codes "route") rows (option_map (λ w. w.now) route)
-HasValues (Gone db edit class since until text) rows =
+HasValues (Lengths db route text columns) rows = IsValue (codes "route") rows (option_map (λ w. w.now) route) × IsValue (codes "columns") rows (option_map (λ w. w.now) columns)
+HasValues (Listing db what route exact text columns) rows = IsValue (codes "route") rows (option_map (λ w. w.now) route) × IsValue (codes "columns") rows (option_map (λ w. w.now) columns)
+HasValues (Gone db edit class since until text columns) rows =
     IsValue (codes "edit") rows (option_map (λ w. w.now) edit) × IsValue (codes "class") rows (option_map (λ w. w.now) class)
     × IsValue (codes "since") rows (option_map (λ w. w.now) since) × IsValue (codes "until") rows (option_map (λ w. w.now) until)
+    × IsValue (codes "columns") rows (option_map (λ w. w.now) columns)
+HasValues (History db asset text columns) rows = IsValue (codes "columns") rows (option_map (λ w. w.now) columns)
 HasValues (Log db from until key text sum) rows =
     IsValue (codes "FROM") rows (option_map (λ w. w.now) from) × IsValue (codes "until") rows (option_map (λ w. w.now) until)
     × IsValue (codes "key") rows (option_map (λ w. w.now) key)
@@ -243,18 +256,20 @@ HasWhole _ rows = ⊤
 
 -- each cell of a list is written as text exactly where `--text` was given
 abbrev pub HasText : Job → List Row → Type 0
-HasText (Lengths db route text) rows = IsTrue text ↔ IsSet (codes "text") rows
-HasText (Listing db what route exact text) rows = IsTrue text ↔ IsSet (codes "text") rows
-HasText (Rows db route from to class asset exact on_links text) rows = IsTrue text ↔ IsSet (codes "text") rows
-HasText (Gone db edit class since until text) rows = IsTrue text ↔ IsSet (codes "text") rows
-HasText (History db asset text) rows = IsTrue text ↔ IsSet (codes "text") rows
+HasText (Lengths db route text columns) rows = IsTrue text ↔ IsSet (codes "text") rows
+HasText (Listing db what route exact text columns) rows = IsTrue text ↔ IsSet (codes "text") rows
+HasText (Rows db route from to class asset exact on_links text columns) rows = IsTrue text ↔ IsSet (codes "text") rows
+HasText (Overlay db classes route side from to gaps text columns) rows = IsTrue text ↔ IsSet (codes "text") rows
+HasText (Gone db edit class since until text columns) rows = IsTrue text ↔ IsSet (codes "text") rows
+HasText (History db asset text columns) rows = IsTrue text ↔ IsSet (codes "text") rows
 HasText (Log db from until key text sum) rows = IsTrue text ↔ IsSet (codes "text") rows
 HasText _ rows = ⊤
 
--- measures are exact where `--exact` was given, and stretches are told on links where `--on-links` was, and not else
+-- measures are exact where `--exact` was given, stretches are told on links where `--on-links` was, and gaps alone where `--gaps` was, and not else
 abbrev pub HasForm : Job → List Row → Type 0
-HasForm (Listing db what route exact text) rows = IsTrue exact ↔ IsSet (codes "exact") rows
-HasForm (Rows db route from to class asset exact on_links text) rows = (IsTrue exact ↔ IsSet (codes "exact") rows) × (IsTrue on_links ↔ IsSet (codes "on-links") rows)
+HasForm (Listing db what route exact text columns) rows = IsTrue exact ↔ IsSet (codes "exact") rows
+HasForm (Rows db route from to class asset exact on_links text columns) rows = (IsTrue exact ↔ IsSet (codes "exact") rows) × (IsTrue on_links ↔ IsSet (codes "on-links") rows)
+HasForm (Overlay db classes route side from to gaps text columns) rows = IsTrue gaps ↔ IsSet (codes "gaps") rows
 HasForm _ rows = ⊤
 
 -- the sum of a log is asked for exactly where `--sum` was given

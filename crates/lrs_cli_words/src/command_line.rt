@@ -7,6 +7,7 @@ ghost use Rattle.lrs_cli_words.specs.Words.{app_of_job, bare_line, line_of_progr
 
 use crate::job::JobName;
 use crate::parts::{JobLine, LinePart, line_of};
+use crate::sheet_help::{ASKED, RECORDED, RECORDS, SURVEYED, TIDIED};
 use clap::Command;
 use std::alloc::{AllocError, Global};
 
@@ -22,11 +23,33 @@ const FILE: &str = "The file that a spreadsheet wrote, or stdin for the standard
 
 const QUESTIONS: &str = "The file of the questions, or stdin for the standard input";
 
+// What help says of a list: its columns, their order, examples.
+const LENGTHS_SAID: &str =
+    "Columns: class,value,left,right,length,assets. Left, right and length are in
+metres; length is what is held on either side, each millimetre once. Assets is
+how many assets hold some of it, so that signs are counted.
+
+Example: roadlrs lengths roads.db --route A1";
+
+const ROWS_SAID: &str = "Rows come in the order of the road: by route, from, side, class and asset.
+
+Examples: roadlrs rows roads.db --route A1 --class SPEED
+          roadlrs rows roads.db --route A1 --from abs:3000 --to rel:KM2+500
+          roadlrs rows roads.db --columns route,from,to,value";
+
+const OVERLAY_SAID: &str =
+    "Columns: route,from,to,from_measure,to_measure,side and each CLASS, which is
+empty where it has no value. A route is divided where the value of one changes.
+
+Examples: roadlrs overlay roads.db SPEED SURFACE --route A1
+          roadlrs overlay roads.db SPEED --gaps";
+
 // What help says of the program, behind its commands.
-static GENERAL: &str = "Three options go with every command, anywhere after roadlrs:
-  --existing  a DB that is not there is a fault, and no new inventory
-  --explain   of a fault, says what was found and what to do
-  --wait S    waits S seconds, 5 unless said, for a DB that another program has
+static GENERAL: &str = "Four options go with every command, anywhere after roadlrs:
+  --existing   a DB that is not there is a fault, and no new inventory
+  --explain    of a fault, says what was found and what to do
+  --wait S     waits S seconds, 5 unless said, for a DB that another program has
+  --expect ID  does nothing with a DB of another identity
 
 roadlrs help VERB shows the fields and the refusals of a verb of edit sheets.";
 
@@ -66,7 +89,13 @@ const WHOLE: &str = "Does the sheet only if its last line has an end";
 
 const AS_TEXT: &str = "Writes each cell as text, for a spreadsheet";
 
+const COLUMNS: &str = "Only these columns, in this order: names of the header, a comma between two";
+
 const AS_SURVEY: &str = "The sheet is a survey";
+
+const OF_SIDE: &str = "On this side, seen along the route: L or R; else on both";
+
+const GAPS: &str = "Only where a class has no value";
 
 const WHAT: &str = "What is listed: routes, links, classes, refs, marks or pieces";
 
@@ -115,87 +144,6 @@ const FROM_EDIT: &str = "The number of the first edit; else from the first one o
 const OF_KEY: &str = "The edit of this key alone";
 
 const AS_SUM: &str = "The sum of all edits, or of those up to edit FROM, in place of them";
-
-// What help says of the records of an edit sheet, and of a survey.
-const RECORDS: &str = "A record has a key, a verb and its fields a to i, 11 fields in all:
-  link LINK LENGTH                     a new link; lengths are in whole mm
-  class CLASS point|stretch|exclusive  a new class of assets
-  route ROUTE PIECES MARKS             a new route of parts of links
-  ref REF ROUTE METHOD POS             a referent: a known place with a name
-  unref REF                            removes a referent
-  enter ASSET CLASS ROUTE SIDE METHOD FROM TO VALUE OFFSET
-                                       a new asset; TO is empty at a point
-  supersede (fields as enter)          the same, and retires what lay there
-  retire ASSET ROUTE METHOD FROM TO    takes an asset away over a stretch
-  split ROUTE CHAINAGE NEW             divides a route at one of its marks
-  join FIRST SECOND                    appends the second route to the first
-  renumber ROUTE NEW                   gives a route another name
-  recalibrate ROUTE MARKS              gives a route other marks
-  turn ROUTE                           reverses a route
-  realign ROUTE FROM TO PIECES MARKS   replaces the ground from FROM to TO
-  close ROUTE                          ends a route and abandons its assets
-PIECES: LINK:FROM:TO:+ or LINK:FROM:TO:-, one space between two of them.
-MARKS: CHAINAGE:MEASURE, from 0 to the route's end, one space between two.
-SIDE: L, R or B. METHOD and POS, FROM, TO: abs 3000, rel KM2+500 or int 1/3.
-Header: key,verb,a,b,c,d,e,f,g,h,i
-Replies: KEY,done,N or KEY,again,N or KEY,refused,CAUSE. See docs/SHEETS.md.
-
-Example: roadlrs edit roads.db first.csv";
-
-const SURVEYED: &str = "A record has a key and one asset, 10 fields in all:
-  asset   a new number, never used before
-  class   its class: SPEED
-  route   the route on which it lies: A38
-  side    L, R or B, seen along the route
-  method  of from and to: abs, rel or int
-  from    where it stands or begins: 3000, KM2+500 or 1/3
-  to      where it ends; empty for a class of points, and only there
-  value   what it is: 80, W-beam
-  offset  how far beside the route, in mm
-Header: key,asset,class,route,side,method,from,to,value,offset
-It is what edit does with KEY,enter and the same nine fields a to i, and a
-refusal names them so: Malformed:a is asset, Malformed:i is offset.
-Replies: KEY,done,N or KEY,again,N or KEY,refused,CAUSE. See docs/SHEETS.md.
-
-Example: roadlrs survey roads.db found.csv";
-
-// What help says of a sheet that is tidied.
-const TIDIED: &str =
-    "It takes semicolons or tabs between fields, UTF-16, a header in another case or
-order, missing fields at the end, empty rows, spaces and quotation marks around
-fields, other dashes, and numbers that end in .0. A right sheet stays as it is.
-Where a field can be read in two ways, as 1.234 or a date that was made of 1/3,
-the field is named, the status is 1, and nothing is printed.
-
-Example: roadlrs tidy first.txt > first.csv";
-
-// What help says of the records of a route.
-const RECORDED: &str =
-    "A route with referents is made with its chainage as the measure, each referent
-is set in its millimetre, and then the route gets its marks. A key is the verb,
-a dash and a name; give the records keys of your own before you send them.
-roadlrs help route shows the verb.
-
-Example: roadlrs route roads.db A1 > a1.csv";
-
-// What help says of the records of a sheet of questions.
-const ASKED: &str = "A record has a key, a question and its fields a to d, 6 fields in all:
-  at ROUTE METHOD POS            a position's place on its link, what is there
-  translate ROUTE METHOD POS TO  a position by another method or on its link
-  find ASSET                     where an asset is
-  segments ROUTE SIDE CLASSES    a route, divided where a value changes
-METHOD and POS: abs 3000, rel KM2+500 or int 1/3. TO: abs, int, rel:NAME, link.
-SIDE: L or R. CLASSES: exclusive classes, one space between two of them.
-Header: key,question,a,b,c,d
-Replies, in the order of the questions:
-  KEY,place,ROUTE,MM,LINK,MM,DIRECTION,N  and N lines KEY,hit
-  KEY,position,ROUTE,METHOD,POS
-  KEY,found,N                             and N lines KEY,row
-  KEY,segments,ROUTE,SIDE,N               and N lines KEY,segment
-  KEY,refused,CAUSE
-It changes nothing. See docs/SHEETS.md.
-
-Example: roadlrs ask roads.db questions.csv";
 
 static EDIT: JobLine = JobLine {
     name: "edit",
@@ -330,12 +278,13 @@ static TOTALS: JobLine = JobLine {
 static LENGTHS: JobLine = JobLine {
     name: "lengths",
     about: "Lists the length of each value of each class in metres, as CSV",
-    example: "Example: roadlrs lengths roads.db --route A1",
+    example: LENGTHS_SAID,
     usage: None,
     parts: &[
         LinePart::Required("DB", DB),
         LinePart::Valued("route", "ROUTE", OF_ROUTE),
         LinePart::Switch("text", AS_TEXT),
+        LinePart::Valued("columns", "NAMES", COLUMNS),
     ],
 };
 
@@ -384,14 +333,14 @@ static LIST: JobLine = JobLine {
         LinePart::Valued("route", "ROUTE", OF_LISTED_ROUTE),
         LinePart::Switch("exact", EXACT_REFS),
         LinePart::Switch("text", AS_TEXT),
+        LinePart::Valued("columns", "NAMES", COLUMNS),
     ],
 };
 
 static ROWS: JobLine = JobLine {
     name: "rows",
     about: "Lists the stretches that assets hold as CSV",
-    example: "Examples: roadlrs rows roads.db --route A1 --class SPEED
-          roadlrs rows roads.db --route A1 --from abs:3000 --to rel:KM2+500",
+    example: ROWS_SAID,
     usage: None,
     parts: &[
         LinePart::Required("DB", DB),
@@ -403,6 +352,25 @@ static ROWS: JobLine = JobLine {
         LinePart::Switch("exact", EXACT),
         LinePart::Switch("on-links", ON_LINKS),
         LinePart::Switch("text", AS_TEXT),
+        LinePart::Valued("columns", "NAMES", COLUMNS),
+    ],
+};
+
+static OVERLAY: JobLine = JobLine {
+    name: "overlay",
+    about: "Lists the values of exclusive classes side by side as CSV",
+    example: OVERLAY_SAID,
+    usage: None,
+    parts: &[
+        LinePart::Required("DB", DB),
+        LinePart::Several("CLASS", CLASS),
+        LinePart::Valued("route", "ROUTE", OF_ROUTE),
+        LinePart::Valued("side", "SIDE", OF_SIDE),
+        LinePart::Valued("from", "PLACE", ROWS_FROM),
+        LinePart::Valued("to", "PLACE", ROWS_TO),
+        LinePart::Switch("gaps", GAPS),
+        LinePart::Switch("text", AS_TEXT),
+        LinePart::Valued("columns", "NAMES", COLUMNS),
     ],
 };
 
@@ -418,6 +386,7 @@ static GONE: JobLine = JobLine {
         LinePart::Valued("since", "N", SINCE),
         LinePart::Valued("until", "N", UNTIL),
         LinePart::Switch("text", AS_TEXT),
+        LinePart::Valued("columns", "NAMES", COLUMNS),
     ],
 };
 
@@ -430,6 +399,7 @@ static HISTORY: JobLine = JobLine {
         LinePart::Required("DB", DB),
         LinePart::Required("ASSET", ASSET),
         LinePart::Switch("text", AS_TEXT),
+        LinePart::Valued("columns", "NAMES", COLUMNS),
     ],
 };
 
@@ -502,6 +472,7 @@ fn line_in_table(job: JobName) -> &'static JobLine
         JobName::Ask => &ASK,
         JobName::List => &LIST,
         JobName::Rows => &ROWS,
+        JobName::Overlay => &OVERLAY,
         JobName::Gone => &GONE,
         JobName::History => &HISTORY,
         JobName::Log => &LOG,
@@ -571,6 +542,7 @@ pub(crate) fn program<'a>(alloc: Global) -> Result<Command<'a>, AllocError>
             JobName::Ask,
             JobName::List,
             JobName::Rows,
+            JobName::Overlay,
             JobName::Gone,
             JobName::History,
             JobName::Log,

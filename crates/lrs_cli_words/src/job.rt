@@ -23,6 +23,7 @@ pub enum JobName {
     Ask,
     List,
     Rows,
+    Overlay,
     Gone,
     History,
     Log,
@@ -34,7 +35,8 @@ pub enum JobName {
 /// A job, with its words as they were given. `db` is the inventory; with `sums` a new file of it
 /// gets sums of its pages. With `resume` a sheet goes on behind its last record that is an edit, with
 /// `all` it is done only if no record is refused, and with `whole` only if its last line has an end.
-/// With `text` each cell of a list is written as text, for a spreadsheet.
+/// With `text` each cell of a list is written as text, for a spreadsheet; of a list with `columns` only
+/// these are written, in the order in which they are named.
 #[derive(Drop)]
 pub enum Job<'a> {
     /// Does the edit sheet `sheet`.
@@ -112,6 +114,7 @@ pub enum Job<'a> {
         db: &'a str,
         route: Option<&'a str>,
         text: bool,
+        columns: Option<&'a str>,
     },
     /// Says where an asset lies.
     Find {
@@ -136,6 +139,7 @@ pub enum Job<'a> {
         route: Option<&'a str>,
         exact: bool,
         text: bool,
+        columns: Option<&'a str>,
     },
     /// Lists the stretches that assets hold: on a route, from a place to another, of a class, of an asset, where these
     /// are given. With `exact` measures are whole numbers or fractions; with `on_links` stretches are told on links.
@@ -149,6 +153,20 @@ pub enum Job<'a> {
         exact: bool,
         on_links: bool,
         text: bool,
+        columns: Option<&'a str>,
+    },
+    /// Shows the values of exclusive classes side by side, segment by segment: on a route, on a side, from a place to
+    /// another, where these are given. With `gaps` only segments on which a class has no value are shown.
+    Overlay {
+        db: &'a str,
+        classes: Vec<&'a str>,
+        route: Option<&'a str>,
+        side: Option<&'a str>,
+        from: Option<&'a str>,
+        to: Option<&'a str>,
+        gaps: bool,
+        text: bool,
+        columns: Option<&'a str>,
     },
     /// Lists what was retired or abandoned: by one edit, by those from a number on, or up to one, and of a class, where
     /// these are given.
@@ -159,12 +177,14 @@ pub enum Job<'a> {
         since: Option<&'a str>,
         until: Option<&'a str>,
         text: bool,
+        columns: Option<&'a str>,
     },
     /// Lists what was entered, retired and abandoned of an asset.
     History {
         db: &'a str,
         asset: &'a str,
         text: bool,
+        columns: Option<&'a str>,
     },
     /// Prints the accepted commands as an edit sheet: from a number on, or up to one, or the one of a key. With `sum` it
     /// prints the sum of them all, or up to the number `from`.
@@ -219,6 +239,7 @@ pub fn new_has_sums(job: &Job<'_>) -> bool
         | Job::Ask { .. }
         | Job::List { .. }
         | Job::Rows { .. }
+        | Job::Overlay { .. }
         | Job::Gone { .. }
         | Job::History { .. }
         | Job::Log { .. }
@@ -249,6 +270,7 @@ pub(crate) fn read_job(name: &str) -> Option<JobName>
         "ask" => Some(JobName::Ask),
         "list" => Some(JobName::List),
         "rows" => Some(JobName::Rows),
+        "overlay" => Some(JobName::Overlay),
         "gone" => Some(JobName::Gone),
         "history" => Some(JobName::History),
         "log" => Some(JobName::Log),

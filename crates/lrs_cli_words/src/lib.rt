@@ -6,6 +6,7 @@ mod job;
 mod lists;
 mod parts;
 mod question;
+mod sheet_help;
 mod words;
 
 pub use job::{Job, new_has_sums};

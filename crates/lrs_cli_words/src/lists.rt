@@ -1,15 +1,16 @@
 //! Places, and listings, as words say them.
 
-ghost use Rattle.std.specs.Prelude.{◌≡◌, ◌⊎◌, IfOk, IfErr, None, false, option_map};
-ghost use Rattle.lrs_cli_words.specs.Questions.{AreAsked, AreGoneAsked, AsksLog, Cannot, CannotForm, CannotGone, CannotIfGiven, CannotLink, CannotList, CannotLog, CannotPlace, CannotRows, CannotSum, CannotWhere, IsForm, IsMisplacedExact, IsMisplacedRoute, IsOnLink, IsOnRoute, IsPlace, SaysAsset, SaysClass, SaysEdit, SaysFirst, SaysIfGiven, SaysKey, SaysLink, SaysList, SaysRoute, SaysSummed};
+ghost use Rattle.std.specs.Prelude.{◌≡◌, ◌⊎◌, IfOk, IfErr, None, false, map, option_map};
+ghost use Rattle.lrs_cli_words.specs.Questions.{AreAsked, AreGoneAsked, AsksLog, Cannot, CannotForm, CannotGone, CannotIfGiven, CannotLink, CannotList, CannotLog, CannotOverlay, CannotPlace, CannotRows, CannotSum, CannotWhere, IsForm, IsMisplacedExact, IsMisplacedRoute, IsOnLink, IsOnRoute, IsOverlayAsked, IsPlace, SaysAsset, SaysClass, SaysEdit, SaysFirst, SaysIfGiven, SaysKey, SaysLink, SaysLinkSide, SaysList, SaysRoute, SaysSummed};
 
 use crate::question::{
-    BadWord, QuestionFault, asset_of, class_of, end_of, number_of, place_in, route_of,
+    BadWord, QuestionFault, asset_of, class_of, classes_of, end_of, number_of, place_in, route_of,
 };
-use lrs_events::ClassName;
-use lrs_machine::{AskedPlace, GoneWanted, Key, Listing, RowForm, RowsAsked};
+use lrs_events::{ClassName, LinkSide};
+use lrs_machine::{AskedPlace, GoneWanted, Key, Listing, OverlayAsked, RowForm, RowsAsked};
 use lrs_measure::limits::{GREATEST_LINK, LONGEST_LINK, MOST_EDITS};
 use lrs_position::RouteName;
+use std::alloc::Global;
 
 /// No measures are listed here that could be exact.
 fn refuse_exact(exact: bool) -> Result<(), QuestionFault>
@@ -210,6 +211,59 @@ pub(crate) fn rows_of(
         class,
         asset,
         form,
+    })
+}
+
+fn link_side_of(text: &str) -> Result<LinkSide, QuestionFault>
+    ensures read { IfOk result (SaysLinkSide text.now) }
+    ensures unread { IfErr result (Cannot BadWord.Side (SaysLinkSide text.now)) }
+{
+    match text {
+        "L" => Ok(LinkSide::Left),
+        "R" => Ok(LinkSide::Right),
+        _ => Err(QuestionFault::Unreadable(BadWord::Side)),
+    }
+}
+
+fn side_if_given(text: Option<&str>) -> Result<Option<LinkSide>, QuestionFault>
+    ensures read { IfOk result (SaysIfGiven SaysLinkSide (option_map (λ t. t.now) text.entry)) }
+    ensures unread { IfErr result (CannotIfGiven BadWord.Side SaysLinkSide
+        (option_map (λ t. t.now) text.entry)) }
+{
+    match text {
+        Some(text) => Ok(Some(link_side_of(text)?)),
+        None => Ok(None),
+    }
+}
+
+pub(crate) fn overlay_of(
+    alloc: Global,
+    classes: &[&str],
+    route: Option<&str>,
+    side: Option<&str>,
+    from: Option<&str>,
+    to: Option<&str>,
+    gaps: bool,
+) -> Result<OverlayAsked, QuestionFault>
+    ensures read { IfOk result (IsOverlayAsked (map (λ t. t.now) classes.now)
+        (option_map (λ t. t.now) route.entry) (option_map (λ t. t.now) side.entry)
+        (option_map (λ t. t.now) from.entry) (option_map (λ t. t.now) to.entry) gaps) }
+    ensures unread { IfErr result (CannotOverlay (map (λ t. t.now) classes.now)
+        (option_map (λ t. t.now) route.entry) (option_map (λ t. t.now) side.entry)
+        (option_map (λ t. t.now) from.entry) (option_map (λ t. t.now) to.entry)) }
+{
+    let route = route_if_given(route)?;
+    let side = side_if_given(side)?;
+    let from = end_of(from, BadWord::From)?;
+    let to = end_of(to, BadWord::To)?;
+    let classes = classes_of(alloc, classes)?;
+    Ok(OverlayAsked {
+        classes,
+        route,
+        side,
+        from,
+        to,
+        gaps,
     })
 }
 

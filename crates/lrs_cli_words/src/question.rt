@@ -6,7 +6,9 @@ ghost use Rattle.lrs_machine.specs.PlaceTexts.{SaysPlace};
 ghost use Rattle.lrs_cli_words.specs.Questions.{Asks, AsksAt, AsksDiagram, AsksNothing, AsksStrip, AsksTranslate, Cannot, CannotAt, CannotClass, CannotDiagram, CannotEnd, CannotPosition, CannotIfGiven, CannotServe, CannotStrip, CannotTranslate, IsFaultOf, SaysAsset, SaysClass, SaysDestination, SaysEnd, SaysMethod, SaysMost, SaysMostReply, SaysNumber, SaysReplyLength, SaysPort, SaysPosition, SaysRoute, SaysService, SaysSide};
 
 use crate::job::Job;
-use crate::lists::{form_of, gone_of, list_of, log_of, place_of, route_if_given, rows_of};
+use crate::lists::{
+    form_of, gone_of, list_of, log_of, overlay_of, place_of, route_if_given, rows_of,
+};
 use lrs_events::{ClassName, Side, read_side};
 use lrs_machine::{Destination, Listing, Place, Question, read_place};
 use lrs_measure::limits::GREATEST_ASSET;
@@ -57,6 +59,8 @@ pub enum BadWord {
     RouteOfList,
     ExactOfList,
     TwoForms,
+    Columns,
+    RepeatedColumn,
     Edit,
     Since,
     Until,
@@ -105,6 +109,8 @@ impl fmt::Display for BadWord {
             ),
             BadWord::ExactOfList => f.write_str("--exact stands only beside refs"),
             BadWord::TwoForms => f.write_str("--exact and --on-links are two forms"),
+            BadWord::Columns => f.write_str("COLUMNS names no column of this list"),
+            BadWord::RepeatedColumn => f.write_str("COLUMNS names a column twice"),
             BadWord::Edit => f.write_str("EDIT is no number of an edit"),
             BadWord::Since => f.write_str("SINCE is no number of an edit"),
             BadWord::Until => f.write_str("UNTIL is no number of an edit"),
@@ -215,7 +221,7 @@ pub(crate) fn class_of(text: &str) -> Result<ClassName, QuestionFault>
     }
 }
 
-fn classes_of(alloc: Global, texts: &[&str]) -> Result<Rows<ClassName>, QuestionFault>
+pub(crate) fn classes_of(alloc: Global, texts: &[&str]) -> Result<Rows<ClassName>, QuestionFault>
     ensures read { IfOk result (λ names. names ≡ map (λ t. t.now) texts.now) }
     ensures unread { IfErr result (λ e. (e ≡ QuestionFault.Memory)
         ⊎ CannotClass (map (λ t. t.now) texts.now) e) }
@@ -487,6 +493,23 @@ pub fn question_of(alloc: Global, job: &Job<'_>) -> Result<Option<Question>, Que
             let form = form_of(*exact, *on_links)?;
             Question::Rows(rows_of(*route, *from, *to, *class, *asset, form)?)
         }
+        Job::Overlay {
+            classes,
+            route,
+            side,
+            from,
+            to,
+            gaps,
+            ..
+        } => Question::Overlay(overlay_of(
+            alloc,
+            classes.as_slice(),
+            *route,
+            *side,
+            *from,
+            *to,
+            *gaps,
+        )?),
         Job::Gone {
             edit,
             class,

@@ -291,7 +291,13 @@ fn lengths_job<'a>(given: &ArgMatches<'a>) -> Job<'a>
     let db = given_word(given, "DB");
     let route = word_in(given, "route");
     let text = is_set(given, "text");
-    Job::Lengths { db, route, text }
+    let columns = word_in(given, "columns");
+    Job::Lengths {
+        db,
+        route,
+        text,
+        columns,
+    }
 }
 
 fn find_job<'a>(given: &ArgMatches<'a>) -> Job<'a>
@@ -334,12 +340,14 @@ fn list_job<'a>(given: &ArgMatches<'a>) -> Job<'a>
     let route = word_in(given, "route");
     let exact = is_set(given, "exact");
     let text = is_set(given, "text");
+    let columns = word_in(given, "columns");
     Job::List {
         db,
         what,
         route,
         exact,
         text,
+        columns,
     }
 }
 
@@ -357,6 +365,7 @@ fn rows_job<'a>(given: &ArgMatches<'a>) -> Job<'a>
     let exact = is_set(given, "exact");
     let on_links = is_set(given, "on-links");
     let text = is_set(given, "text");
+    let columns = word_in(given, "columns");
     Job::Rows {
         db,
         route,
@@ -367,7 +376,36 @@ fn rows_job<'a>(given: &ArgMatches<'a>) -> Job<'a>
         exact,
         on_links,
         text,
+        columns,
     }
+}
+
+fn overlay_job<'a>(alloc: Global, given: &ArgMatches<'a>) -> Result<Job<'a>, AllocError>
+    requires { AreGiven (rules_of JobName.Overlay) (rows_of (found_of given.now)) }
+    ensures name { IfOk result (λ job. job_name job ≡ JobName.Overlay) }
+    ensures words { IfOk result (λ job. HasWords job (rows_of (found_of given.now))) }
+{
+    let db = given_word(given, "DB");
+    let route = word_in(given, "route");
+    let side = word_in(given, "side");
+    let from = word_in(given, "from");
+    let to = word_in(given, "to");
+    let gaps = is_set(given, "gaps");
+    let text = is_set(given, "text");
+    let columns = word_in(given, "columns");
+    let mut classes = Vec::new(alloc);
+    classes.extend_from_slice(given_words(given, "CLASS"))?;
+    Ok(Job::Overlay {
+        db,
+        classes,
+        route,
+        side,
+        from,
+        to,
+        gaps,
+        text,
+        columns,
+    })
 }
 
 fn gone_job<'a>(given: &ArgMatches<'a>) -> Job<'a>
@@ -381,6 +419,7 @@ fn gone_job<'a>(given: &ArgMatches<'a>) -> Job<'a>
     let since = word_in(given, "since");
     let until = word_in(given, "until");
     let text = is_set(given, "text");
+    let columns = word_in(given, "columns");
     Job::Gone {
         db,
         edit,
@@ -388,6 +427,7 @@ fn gone_job<'a>(given: &ArgMatches<'a>) -> Job<'a>
         since,
         until,
         text,
+        columns,
     }
 }
 
@@ -399,7 +439,13 @@ fn history_job<'a>(given: &ArgMatches<'a>) -> Job<'a>
     let db = given_word(given, "DB");
     let asset = given_word(given, "ASSET");
     let text = is_set(given, "text");
-    Job::History { db, asset, text }
+    let columns = word_in(given, "columns");
+    Job::History {
+        db,
+        asset,
+        text,
+        columns,
+    }
 }
 
 fn log_job<'a>(given: &ArgMatches<'a>) -> Job<'a>
@@ -489,6 +535,7 @@ fn job_with<'a>(alloc: Global, name: JobName, given: &ArgMatches<'a>) -> Result<
         JobName::Ask => Ok(ask_job(given)),
         JobName::List => Ok(list_job(given)),
         JobName::Rows => Ok(rows_job(given)),
+        JobName::Overlay => overlay_job(alloc, given),
         JobName::Gone => Ok(gone_job(given)),
         JobName::History => Ok(history_job(given)),
         JobName::Log => Ok(log_job(given)),

@@ -1,14 +1,19 @@
 -- Two inventories that agree answer alike.
-use Rattle.std.proofs.Common.{◌≡◌, inl, inr, ℕ, Bool, true, false, List, length, Option, Some, None, Result, Ok, Err, refl, sym, ap, subst, ◌∙◌}
-use Rattle.std.specs.Prelude.{MatchOption, MatchResult, codes, unwrap_or}
-use Rattle.std.specs.List.{AllByRecursion, find}
+use Rattle.std.proofs.Common.{◌≡◌, inl, inr, ℕ, Bool, true, false, List, ◌++◌, length, map, Option, Some, None, Result, Ok, Err, refl, sym, ap, subst, ◌∙◌}
+use Rattle.std.specs.Prelude.{MatchOption, MatchResult, codes, filter, unwrap_or}
+use Rattle.std.specs.List.{AllByRecursion, find, flat_map}
 use Rattle.std.proofs.lemmas.Bool.{false≢true}
 use Rattle.std.proofs.lemmas.List.{length-map}
+use Rattle.lrs_measure.specs.Runs.{Run}
 use Rattle.lrs_measure.specs.Texts.{Name}
 use Rattle.lrs_position.specs.Translations.{alignment_of}
+use Rattle.lrs_events.specs.declared.side.LinkSide.{LinkSide}
+use Rattle.lrs_events.specs.declared.side.Side.TheVariants.{L}
 use Rattle.lrs_machine.specs.Image.{state_of}
 use Rattle.lrs_machine.specs.Lines.{Text}
+use Rattle.lrs_machine.specs.Readings.{segments_on}
 use Rattle.lrs_machine.specs.Register.{get}
+use Rattle.lrs_machine.specs.Segments.{Values, segment_fault}
 use Rattle.lrs_machine.specs.Sound.{IsSound}
 use Rattle.lrs_machine.specs.State.{State}
 use Rattle.lrs_machine.specs.declared.image.Image.{Image}
@@ -18,10 +23,12 @@ use Rattle.lrs_image.specs.Change.{is_named}
 use Rattle.lrs_report.specs.declared.diagrams.diagram.Diagram.{Diagram}
 use Rattle.lrs_machine.specs.declared.question.Listing.TheVariants as listing
 use Rattle.lrs_report_answers.specs.Answers.{IsAt, StandsAt, UnlessMemory, route_missing}
-use Rattle.lrs_report_answers.specs.Listings.{AreLengthsOf, missing_of}
+use Rattle.lrs_report_lists.specs.Lists.{routes_named}
+use Rattle.lrs_report_answers.specs.Listings.{AreLengthsOf, missing_of, missing_route}
+use Rattle.lrs_report_answers.specs.Overlay.{is_segment_wanted, overlay_header, overlay_line, overlay_wanted, sides_of}
 use Rattle.lrs_report_answers.specs.DrawnRows.{IsDrawn, IsDrawnOn}
 use Rattle.lrs_report_answers.specs.AssetStretches.{all_rows_of}
-use Rattle.lrs_report_answers.specs.RouteSegments.{IsSegmented}
+use Rattle.lrs_report_answers.specs.RouteSegments.{IsSegmented, class_list}
 use Rattle.lrs_report_answers.specs.ToldAnswers.{IsNamedRoute, Tells, length_on}
 use Rattle.lrs_report_answers.specs.Totals.{totals_of}
 use Rattle.lrs_report_answers.specs.declared.fault.AskFault.{AskFault}
@@ -31,6 +38,8 @@ use Rattle.lrs_report_answers.specs.declared.told.Told.TheVariants as told
 use Rattle.lrs_machine.specs.PlaceTexts.{SaysPlace}
 use Rattle.lrs_machine.specs.declared.question.GoneWanted.{GoneWanted}
 use Rattle.lrs_machine.specs.declared.question.Place.{Place as PlaceOfRoute}
+use Rattle.lrs_machine.specs.declared.question.OverlayAsked.{OverlayAsked}
+use Rattle.lrs_machine.specs.declared.question.OverlayWanted.{OverlayWanted}
 use Rattle.lrs_machine.specs.declared.question.RowsAsked.{RowsAsked}
 use Rattle.lrs_report_answers.specs.Stretches.{OnStretch, end_of}
 use Rattle.lrs_report_answers.specs.declared.stretch.End.TheVariants.{From, To}
@@ -48,20 +57,21 @@ use Rattle.lrs_web_requests.specs.declared.paths.Resource.TheVariants as path
 use Rattle.lrs_web_requests.specs.Query.{parameter}
 use Rattle.lrs_web_replies.specs.QuestionAnswers.{AnswersQuestion}
 use Rattle.lrs_web_replies.specs.Answers.{health_data, totals_data}
-use Rattle.lrs_web_replies.specs.Questions.{AsksOf, CannotAsk, GivesAsset, GivesExact, GivesFirstEdit, GivesGone, GivesRouteOrAll, GivesRows, GivesUntil, IsGiven, SaysDestination, SaysEdit, SaysRoute, SaysSide, parameters_of, unknown_in}
+use Rattle.lrs_web_replies.specs.Questions.{AsksOf, CannotAsk, GivesAsset, GivesExact, GivesFirstEdit, GivesGone, GivesOverlay, GivesRouteOrAll, GivesRows, GivesUntil, IsGiven, SaysDestination, SaysEdit, SaysRoute, SaysSide, parameters_of, unknown_in}
 use Rattle.lrs_web_replies.specs.Replies.{csv_answer, json_answer, unknown_answer}
-use Rattle.lrs_web_replies.specs.Listings.{listing_answer, rows_answer}
+use Rattle.lrs_web_replies.specs.Listings.{in_format, listing_answer, named_list, rows_answer}
+use Rattle.lrs_web_replies.specs.Overlay.{overlay_item}
 use Rattle.lrs_machine.specs.declared.absence.Missing.{Missing}
 use Rattle.lrs_web_replies.specs.declared.question.QueryFault.TheVariants.{NoRoute}
 use Rattle.lrs_web.specs.QueryAnswers.{AnswersAsked, AnswersKnown}
 use Rattle.lrs_promises.specs.Determinism.{IsOfState}
 use Rattle.lrs_promises.proofs.Once.{at_once, same_some, segmented_once, stretch_once, told_once}
 use Rattle.lrs_promises.proofs.OneInventory.{same_inventories}
-use Rattle.lrs_promises.proofs.Parameters.{one_first, one_if_given, one_number, one_asked, one_gone, one_place, one_position, one_route, one_said, one_side, one_spot}
+use Rattle.lrs_promises.proofs.Parameters.{one_first, one_if_given, one_number, one_asked, one_gone, one_overlay, one_place, one_position, one_route, one_said, one_side, one_spot}
 use Rattle.lrs_promises.proofs.Pictured.{drawn_once, named_once, route_once}
 use Rattle.lrs_promises.proofs.Places.{lengths_once, where_once}
 use Rattle.lrs_promises.proofs.Translated.{TellsTranslated, one_destination, position_above, translated_once}
-use Rattle.lrs_promises.proofs.Asked.{AtTold, DiagramTold, LengthsTold, RouteTold, SegmentsTold, TranslateTold, WhereTold, at_told, diagram_told, find_reply, find_told, gone_told, health_told, history_told, lengths_told, list_told, log_told, marks_told, named_reply, one_split, pieces_told, refs_told, route_told, rows_reply, rows_told, segments_told, splits, totals_told, translate_told, where_given, where_told}
+use Rattle.lrs_promises.proofs.Asked.{AtTold, DiagramTold, LengthsTold, RouteTold, SegmentsTold, TranslateTold, WhereTold, at_told, between_reply, classes_reply, diagram_told, find_reply, find_told, gone_told, health_told, history_told, lengths_told, list_reply, list_told, log_told, marks_told, named_reply, one_split, overlay_reply, overlay_told, pieces_told, refs_told, route_told, rows_reply, rows_told, segments_told, splits, totals_told, translate_told, where_given, where_told}
 
 -- whether what a resource is answered is read off the state itself, and not off the rows of the image
 abbrev is_read : Resource → Bool
@@ -141,6 +151,22 @@ module _ (i j : Image) (e : state_of i ≡ state_of j) where
   edits_same : length i.edits ≡ length j.edits
   unfolding state_of
   edits_same = sym (length-map i.edits _) ∙ ap (λ (s : State). length s.done) e ∙ length-map j.edits _
+
+-- ---- an overlay of the routes of an image, whose segments are those of a state
+
+abbrev segments_in : State → OverlayWanted → RouteRow → LinkSide → List (Run Values)
+segments_in s w e side = filter (is_segment_wanted w) (segments_on s e.route.course w.classes side)
+
+abbrev overlay_in : Format → State → Image → OverlayWanted → Answer
+overlay_in format s j w =
+    in_format format (named_list (codes "overlay") (flat_map (λ e. flat_map (λ side. map (overlay_item e.route side) (segments_in s w e side)) (sides_of w.side)) (routes_named w.route j)))
+    (overlay_header w.classes ++ flat_map (λ e. flat_map (λ side. flat_map (overlay_line e.route side) (segments_in s w e side)) (sides_of w.side)) (routes_named w.route j))
+
+abbrev overlay_of_state : Format → State → Image → OverlayAsked → Answer
+overlay_of_state format s j a =
+    list_reply (missing_route j a.route)
+    (classes_reply (segment_fault (class_list s) a.classes L)
+    (between_reply (λ first last. overlay_in format s j (overlay_wanted a first last)) (end_of j a.route From a.from) (end_of j a.route To a.to)))
 
 module _ (format : Format) (query : Text) (one two : Answer) (served : one.status ≡ 503 → ⊥) (also : two.status ≡ 503 → ⊥) where
   module _ (i j : Image) where
@@ -224,6 +250,7 @@ module _ (format : Format) (query : Text) (one two : Answer) (served : one.statu
       state_tells path.Pieces read = absurd (false≢true read)
       state_tells path.History read = absurd (false≢true read)
       state_tells path.Rows read = absurd (false≢true read)
+      state_tells path.Overlay read = absurd (false≢true read)
       state_tells path.Lengths read = absurd (false≢true read)
       state_tells path.Gone read = absurd (false≢true read)
       state_tells path.Where read = absurd (false≢true read)
@@ -238,6 +265,15 @@ module _ (format : Format) (query : Text) (one two : Answer) (served : one.statu
     rows_alike = alike (with_ledgers i j) j path.Rows (λ k a. (w : RowsAsked) × GivesRows query w × (a ≡ rows_reply format k w)) (λ x. x) (λ k a s. rows_told format k query a s)
         (λ a b h g. h.2 ∙ ap (rows_reply format j) (one_asked query h.0 g.0 h.1 g.1) ∙ sym g.2)
         (λ k a h. ((h.0.route, h.1.0), ((h.0.from, h.1.1), ((h.0.to, h.1.2), ((h.0.class, h.1.3), ((h.0.asset, h.1.4), ((h.1.5.0, h.1.5.2), ((h.0.form, h.1.5), tt))))))))
+
+    -- the segments of an overlay are those of the state
+    overlay_same : (a : OverlayAsked) → overlay_reply format (with_ledgers i j) a ≡ overlay_reply format j a
+    overlay_same a k = overlay_of_state format (e k) j a
+
+    overlay_alike : AnswersKnown (with_ledgers i j) format path.Overlay query one → AnswersKnown j format path.Overlay query two → one ≡ two
+    overlay_alike = alike (with_ledgers i j) j path.Overlay (λ k a. (w : OverlayAsked) × GivesOverlay query w × (a ≡ overlay_reply format k w)) (λ x. x) (λ k a s. overlay_told format k query a s)
+        (λ a b h g. h.2 ∙ overlay_same h.0 ∙ ap (overlay_reply format j) (one_overlay query h.0 g.0 h.1 g.1) ∙ sym g.2)
+        (λ k a h. ((h.0.route, h.1.0), ((h.0.side, h.1.1), ((h.0.from, h.1.2), ((h.0.to, h.1.3), ((h.0.gaps, h.1.4), ((h.0.classes, h.1.5), tt)))))))
 
     refs_alike : AnswersKnown (with_ledgers i j) format path.Refs query one → AnswersKnown j format path.Refs query two → one ≡ two
     refs_alike = alike (with_ledgers i j) j path.Refs (λ k a. (route : Option Name) × (exact : Bool) × GivesRouteOrAll query route × GivesExact query exact × (a ≡ named_reply format k (listing.Refs route exact))) (λ x. x) (λ k a s. refs_told format k query a s)
@@ -320,6 +356,7 @@ module _ (format : Format) (query : Text) (one two : Answer) (served : one.statu
     rows_tell path.Marks read = marks_alike
     rows_tell path.Pieces read = pieces_alike
     rows_tell path.Rows read = rows_alike
+    rows_tell path.Overlay read = overlay_alike
     rows_tell path.Lengths read = lengths_alike
     rows_tell path.Gone read = absurd read
     rows_tell path.History read = absurd read
@@ -378,6 +415,7 @@ module _ (format : Format) (query : Text) (one two : Answer) (served : one.statu
     image_known path.Pieces = rows_tell i i refl path.Pieces tt
     image_known path.History = history_alike
     image_known path.Rows = rows_tell i i refl path.Rows tt
+    image_known path.Overlay = rows_tell i i refl path.Overlay tt
     image_known path.Lengths = rows_tell i i refl path.Lengths tt
     image_known path.Gone = gone_alike
     image_known path.Where = rows_tell i i refl path.Where tt

@@ -1,14 +1,18 @@
 -- What is asked for is answered by one answer.
 use Rattle.std.proofs.Common.{◌≡◌, ◌⊎◌, inl, inr, ℕ, List, [], ◌∷◌, length, Option, Some, None, Result, Ok, Err, sym, ap, subst, ◌∙◌}
 use Rattle.std.specs.Prelude.{Bool, IsTrue, MatchOption, MatchResult, if◌then◌else◌}
+use Rattle.std.specs.Borrow.{Bor}
 use Rattle.std.specs.List.{AllByRecursion}
 use Rattle.lrs_measure.specs.Texts.{Name}
 use Rattle.lrs_position.specs.Names.{is_route_name}
 use Rattle.lrs_position.specs.declared.expression.Expr.{Expr}
 use Rattle.lrs_events.specs.declared.side.Side.{Side}
+use Rattle.lrs_events.specs.declared.side.Side.TheVariants.{L}
 use Rattle.lrs_machine.specs.Image.{state_of}
 use Rattle.lrs_machine.specs.Lines.{Text}
 use Rattle.lrs_machine.specs.Register.{get}
+use Rattle.lrs_machine.specs.Segments.{segment_fault}
+use Rattle.lrs_machine.specs.declared.segment.SegFault.{SegFault}
 use Rattle.lrs_machine.specs.declared.image.Image.{Image}
 use Rattle.lrs_machine.specs.declared.question.Destination.{Destination}
 use Rattle.lrs_machine.specs.declared.question.Destination.TheVariants as destination
@@ -17,12 +21,14 @@ use Rattle.lrs_machine.specs.declared.question.Listing.{Listing}
 use Rattle.lrs_machine.specs.declared.question.Listing.TheVariants as listing
 use Rattle.lrs_machine.specs.declared.question.Question.TheVariants as question
 use Rattle.lrs_report_answers.specs.Answers.{UnlessMemory, UnlessMissing, asset_missing}
-use Rattle.lrs_report_answers.specs.Listings.{IsInventory, missing_of, wanted_of}
+use Rattle.lrs_report_answers.specs.Listings.{IsInventory, missing_of, missing_route, wanted_of}
+use Rattle.lrs_report_answers.specs.Overlay.{overlay_wanted}
+use Rattle.lrs_report_answers.specs.RouteSegments.{class_list}
 use Rattle.lrs_report_answers.specs.Stretches.{OnStretch, end_of}
 use Rattle.lrs_report_answers.specs.declared.stretch.End.TheVariants.{From, To}
 use Rattle.lrs_report_lists.specs.Absence.{missing_row}
 use Rattle.lrs_report_answers.specs.AssetStretches.{all_rows_of}
-use Rattle.lrs_report_answers.specs.ToldAnswers.{IsTold, Tells}
+use Rattle.lrs_report_answers.specs.ToldAnswers.{IsTold, Tells, UnlessRefused}
 use Rattle.lrs_report_answers.specs.Totals.{totals_of}
 use Rattle.lrs_report_answers.specs.declared.fault.AskFault.{AskFault}
 use Rattle.lrs_report_answers.specs.declared.fault.AskFault.TheVariants.{Memory}
@@ -31,6 +37,7 @@ use Rattle.lrs_report_answers.specs.declared.rows.FoundRow.{FoundRow}
 use Rattle.lrs_report_answers.specs.declared.told.Told.{Told}
 use Rattle.lrs_report_answers.specs.declared.told.Told.TheVariants as told
 use Rattle.lrs_machine.specs.declared.question.GoneWanted.{GoneWanted}
+use Rattle.lrs_machine.specs.declared.question.OverlayAsked.{OverlayAsked}
 use Rattle.lrs_machine.specs.declared.question.Place.{Place}
 use Rattle.lrs_machine.specs.declared.question.RowsAsked.{RowsAsked}
 use Rattle.lrs_machine.specs.declared.question.AskedPlace.{AskedPlace}
@@ -42,7 +49,8 @@ use Rattle.lrs_web_requests.specs.declared.paths.Resource.TheVariants as path
 use Rattle.lrs_web_replies.specs.QuestionAnswers.{AnswersQuestion, IsReplyTo, ShowsTold}
 use Rattle.lrs_web_replies.specs.Answers.{found_data, health_data, totals_data}
 use Rattle.lrs_web_replies.specs.Listings.{listing_answer, rows_answer}
-use Rattle.lrs_web_replies.specs.Questions.{AsksOf, CannotAsk, GivesAsset, GivesClasses, GivesClassesOrAll, GivesDestination, GivesExact, GivesFirstEdit, GivesFrom, GivesGone, GivesPosition, GivesRoute, GivesRouteOrAll, GivesRows, GivesSide, GivesSpot, GivesUntil, GivesUpTo, IsFirstMalformed, IsGiven, SaysRoute, parameters_of}
+use Rattle.lrs_web_replies.specs.Overlay.{overlay_answer}
+use Rattle.lrs_web_replies.specs.Questions.{AsksOf, CannotAsk, GivesAsset, GivesClasses, GivesClassesOrAll, GivesDestination, GivesExact, GivesFirstEdit, GivesFrom, GivesGone, GivesOverlay, GivesPosition, GivesRoute, GivesRouteOrAll, GivesRows, GivesSide, GivesSpot, GivesUntil, GivesUpTo, IsFirstMalformed, IsGiven, SaysRoute, parameters_of}
 use Rattle.lrs_web_replies.specs.Replies.{json_answer, refusal, unasked}
 use Rattle.lrs_machine.specs.declared.absence.Missing.{Missing}
 use Rattle.lrs_web_replies.specs.declared.question.Parameter.{Parameter}
@@ -103,15 +111,28 @@ list_reply (Some what) shown = refusal (asked.Missing what)
 abbrev pub named_reply : Format → Image → Listing → Answer
 named_reply format i l = list_reply (missing_of i l) (listing_answer format i l)
 
--- the rows between two ends; or the first fault of an end
-abbrev between_reply : Format → Image → RowsAsked → Result (Option ℕ) AskFault → Result (Option ℕ) AskFault → Answer
-between_reply format i a (Ok first) (Ok last) = rows_answer format i (wanted_of a first last)
-between_reply format i a (Ok first) (Err fault) = refusal fault
-between_reply format i a (Err fault) to = refusal fault
+-- what is shown between two ends; or the first fault of an end
+abbrev pub between_reply : (Option ℕ → Option ℕ → Answer) → Result (Option ℕ) AskFault → Result (Option ℕ) AskFault → Answer
+between_reply shown (Ok first) (Ok last) = shown first last
+between_reply shown (Ok first) (Err fault) = refusal fault
+between_reply shown (Err fault) to = refusal fault
 
 -- the rows that are asked for; or what they name, and is not there
 abbrev pub rows_reply : Format → Image → RowsAsked → Answer
-rows_reply format i a = list_reply (missing_row i (wanted_of a None None)) (between_reply format i a (end_of i a.route From a.from) (end_of i a.route To a.to))
+rows_reply format i a =
+    list_reply (missing_row i (wanted_of a None None)) (between_reply (λ first last. rows_answer format i (wanted_of a first last)) (end_of i a.route From a.from) (end_of i a.route To a.to))
+
+-- what is shown, unless the classes refuse it
+abbrev pub classes_reply : Option SegFault → Answer → Answer
+classes_reply None shown = shown
+classes_reply (Some fault) shown = refusal (asked.Seg fault)
+
+-- the overlay that is asked for; or the route is not there, or the classes refuse it
+abbrev pub overlay_reply : Format → Image → OverlayAsked → Answer
+overlay_reply format i a =
+    list_reply (missing_route i a.route)
+    (classes_reply (segment_fault (class_list (state_of i)) a.classes L)
+    (between_reply (λ first last. overlay_answer format i (overlay_wanted a first last)) (end_of i a.route From a.from) (end_of i a.route To a.to)))
 
 -- a position was asked for, and told
 pub record AtTold (format : Format) (query : Text) (i : Image) (answer : Answer) : Type 0 where
@@ -237,25 +258,42 @@ module _ (format : Format) (i : Image) (query : Text) (answer : Answer) (served 
   pub totals_told : (q : Question) → q ≡ question.Totals → AnswersQuestion format i q answer → answer ≡ json_answer 200 (totals_data (totals_of (state_of i)))
   totals_told q is h = let (said, tells, shows) = asked_of q question.Totals is h in totals_said said tells shows
 
-  -- rows between two ends
-  between_said : (said : Result Told AskFault) (a : RowsAsked) (from to : Result (Option ℕ) AskFault)
-      → MatchResult from (λ first. MatchResult to (λ last. Tells (IsInventory i) (told.Rows (wanted_of a first last)) said) (λ fault. said ≡ Err fault)) (λ fault. said ≡ Err fault)
-      → IsReplyTo format said answer → answer ≡ between_reply format i a from to
-  between_said said a (Err fault) to h shows = subst (λ r. IsReplyTo format r answer) h shows
-  between_said said a (Ok first) (Err fault) h shows = subst (λ r. IsReplyTo format r answer) h shows
-  between_said (Ok t) a (Ok first) (Ok last) (inventory, same, is) shows = subst (λ u. ShowsTold format u answer) is shows ∙ ap (λ (j : Image). rows_answer format j (wanted_of a first last)) same
-  between_said (Err fault) a (Ok first) (Ok last) never shows = absurd never
+  -- what is told of the inventory between two ends
+  between_said : (told_of : Option ℕ → Option ℕ → Bor Image → Told) (shown : Option ℕ → Option ℕ → Answer)
+      → ((first last : Option ℕ) (inventory : Bor Image) → inventory.now ≡ i → ShowsTold format (told_of first last inventory) answer → answer ≡ shown first last) → (said : Result Told AskFault)
+      (from to : Result (Option ℕ) AskFault) → MatchResult from (λ first. MatchResult to (λ last. Tells (IsInventory i) (told_of first last) said) (λ fault. said ≡ Err fault)) (λ fault. said ≡ Err fault)
+      → IsReplyTo format said answer → answer ≡ between_reply shown from to
+  between_said told_of shown as said (Err fault) to h shows = subst (λ r. IsReplyTo format r answer) h shows
+  between_said told_of shown as said (Ok first) (Err fault) h shows = subst (λ r. IsReplyTo format r answer) h shows
+  between_said told_of shown as (Ok t) (Ok first) (Ok last) (inventory, same, is) shows = as first last inventory same (subst (λ u. ShowsTold format u answer) is shows)
+  between_said told_of shown as (Err fault) (Ok first) (Ok last) never shows = absurd never
 
   rows_said : (said : Result Told AskFault) (a : RowsAsked) (o : Option Missing)
-      → UnlessMissing o (OnStretch i a.route a.from a.to (λ first last. Tells (IsInventory i) (told.Rows (wanted_of a first last)))) said
-      → IsReplyTo format said answer → answer ≡ list_reply o (between_reply format i a (end_of i a.route From a.from) (end_of i a.route To a.to))
-  rows_said said a None tells shows = between_said said a (end_of i a.route From a.from) (end_of i a.route To a.to) tells shows
+      → UnlessMissing o (OnStretch i a.route a.from a.to (λ first last. Tells (IsInventory i) (told.Rows (wanted_of a first last)))) said → IsReplyTo format said answer
+      → answer ≡ list_reply o (between_reply (λ first last. rows_answer format i (wanted_of a first last)) (end_of i a.route From a.from) (end_of i a.route To a.to))
+  rows_said said a None tells shows =
+      between_said (λ first last. told.Rows (wanted_of a first last)) (λ first last. rows_answer format i (wanted_of a first last))
+      (λ first last inventory same is. is ∙ ap (λ (j : Image). rows_answer format j (wanted_of a first last)) same) said (end_of i a.route From a.from) (end_of i a.route To a.to) tells shows
   rows_said said a (Some what) tells shows = subst (λ r. IsReplyTo format r answer) tells shows
 
   pub rows_told : (q : Question) → AsksOf path.Rows query q → AnswersQuestion format i q answer → (a : RowsAsked) × GivesRows query a × (answer ≡ rows_reply format i a)
   rows_told q (a, gives, is) h =
       let (said, tells, shows) = asked_of q (question.Rows a) is h in
       (a, gives, rows_said said a (missing_row i (wanted_of a None None)) tells shows)
+
+  overlay_said : (said : Result Told AskFault) (a : OverlayAsked) (o : Option Missing) (refuses : Option SegFault)
+      → UnlessMissing o (UnlessRefused refuses (OnStretch i a.route a.from a.to (λ first last. Tells (IsInventory i) (told.Overlay (overlay_wanted a first last))))) said → IsReplyTo format said answer
+      → answer ≡ list_reply o (classes_reply refuses (between_reply (λ first last. overlay_answer format i (overlay_wanted a first last)) (end_of i a.route From a.from) (end_of i a.route To a.to)))
+  overlay_said said a None None tells shows =
+      between_said (λ first last. told.Overlay (overlay_wanted a first last)) (λ first last. overlay_answer format i (overlay_wanted a first last))
+      (λ first last inventory same is. is ∙ ap (λ (j : Image). overlay_answer format j (overlay_wanted a first last)) same) said (end_of i a.route From a.from) (end_of i a.route To a.to) tells shows
+  overlay_said said a None (Some fault) tells shows = subst (λ r. IsReplyTo format r answer) tells shows
+  overlay_said said a (Some what) refuses tells shows = subst (λ r. IsReplyTo format r answer) tells shows
+
+  pub overlay_told : (q : Question) → AsksOf path.Overlay query q → AnswersQuestion format i q answer → (a : OverlayAsked) × GivesOverlay query a × (answer ≡ overlay_reply format i a)
+  overlay_told q (a, gives, is) h =
+      let (said, tells, shows) = asked_of q (question.Overlay a) is h in
+      (a, gives, overlay_said said a (missing_route i a.route) (segment_fault (class_list (state_of i)) a.classes L) tells shows)
 
   pub refs_told : (q : Question) → AsksOf path.Refs query q → AnswersQuestion format i q answer
       → (route : Option Name) × (exact : Bool) × GivesRouteOrAll query route × GivesExact query exact × (answer ≡ named_reply format i (listing.Refs route exact))

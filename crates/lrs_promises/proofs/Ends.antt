@@ -1,5 +1,6 @@
 -- Equal bytes and equal states give equal bytes and equal states.
-use Rattle.std.specs.Prelude.{MatchOption}
+use Rattle.std.specs.Prelude.{MatchOption, ⊤}
+use Rattle.std.specs.List.{AllByRecursion}
 use Rattle.std.proofs.Common.{◌≡◌, ◌⊎◌, inl, inr, ℕ, Bool, true, false, List, [], ◌∷◌, ◌++◌, append-nil, append_assoc, Option, Some, None, Result, Ok, Err, refl, sym, ap, subst, ◌∙◌}
 use Rattle.std.proofs.lemmas.Bool.{false≢true}
 use Rattle.lrs_machine.specs.Image.{state_of}
@@ -35,12 +36,12 @@ use Rattle.lrs_web.specs.Questions.{AnswersQuestions, RepliesToQuestions}
 use Rattle.lrs_web.specs.RequestAnswers.{Does, sheet_at}
 use Rattle.lrs_web.specs.Sheets.{DoesSheet, IsAnswerAfter, answer_after}
 use Rattle.lrs_promises.specs.Calls.{Did, is_decided}
-use Rattle.lrs_promises.specs.Determinism.{CallsEndAlike, EndAlike, IsCallOfState, IsOfState, IsQuestion, OnlyAsks, QuestionSheetsEndAlike, QuestionsEndAlike, ResumedEndAlike, SameInventories, SheetsEndAlike, StandAlike, WroteAlike}
+use Rattle.lrs_promises.specs.Determinism.{AsksNoHistory, CallsEndAlike, EndAlike, IsCallOfState, IsOfNoHistory, IsOfState, IsQuestion, OnlyAsks, QuestionSheetsEndAlike, QuestionsEndAlike, ResumedEndAlike, SameInventories, SheetsEndAlike, StandAlike, WroteAlike}
 use Rattle.lrs_promises.specs.declared.calls.Call.{Call}
 use Rattle.lrs_promises.specs.declared.calls.Call.TheVariants as call
 use Rattle.lrs_promises.proofs.Agreeing.{image_alike, state_alike}
 use Rattle.lrs_promises.proofs.OneInventory.{same_inventories}
-use Rattle.lrs_promises.proofs.Framed.{Alike, Framed, PassAlike, each, empty, framed_alike, neither, other_header, other_width, whole}
+use Rattle.lrs_promises.proofs.Framed.{Alike, Framed, PassAlike, all_begin, each, empty, framed_alike, neither, other_header, other_width, whole}
 use Rattle.lrs_promises.proofs.Given.{answer_decided, call_gave, undecided}
 use Rattle.lrs_promises.proofs.Once.{some_is_not_none}
 use Rattle.lrs_promises.proofs.Replied.{replies_alike}
@@ -123,31 +124,58 @@ gone_on_once failed sheet together limits input before after old new ended d (in
 -- ---- a sheet of questions
 
 -- how its run was decided
-abbrev AskedSo : Image → Text → Text → Text → Result QuestionTally SheetFault → Type 0
-AskedSo i input old written = Framed IsQuestionHeader width input question_tally [] [] (written ≡ old) (λ records replies. AreReplied i records replies (Some old) (Some written))
+abbrev AskedSo : (List Text → Type 0) → Image → Text → Text → Text → Result QuestionTally SheetFault → Type 0
+AskedSo Asks i input old written =
+    Framed IsQuestionHeader width input question_tally [] [] (written ≡ old) (λ records replies. AreReplied i records replies (Some old) (Some written) × AllByRecursion Asks records)
 
-asked_so : (i : Image) (input old written : Text) (ended : Result QuestionTally SheetFault) → is_decided ended ≡ true → RunsQuestions i input (Some old) (Some written) ended → AskedSo i input old written ended
-asked_so i input old written (Ok tally) d (inl (all, keeps, count)) = subst (λ t. AskedSo i input old written (Ok t)) (sym count) (empty all keeps)
-asked_so i input old written (Ok tally) d (inr (header, records, replies, is, all, done, count, few)) = subst (λ t. AskedSo i input old written (Ok t)) (sym count) (whole header records replies is all done.width done)
-asked_so i input old written (Err fault.BadHeader) d (header, begins, other, keeps) = other_header header begins other keeps
-asked_so i input old written (Err fault.BadCsv) d (header, records, fields, replies, is, begins, other, done) = other_width header records fields replies is begins other done.width done
-asked_so i input old written (Err fault.Read) d h = absurd (false≢true d)
-asked_so i input old written (Err fault.Write) d h = absurd (false≢true d)
-asked_so i input old written (Err fault.Memory) d h = absurd (false≢true d)
-asked_so i input old written (Err (fault.Desk e)) d h = absurd (false≢true d)
+all_front : (P : List Text → Type 0) (xs ys : List (List Text)) → AllByRecursion P (xs ++ ys) → AllByRecursion P xs
+all_front P [] ys h = tt
+all_front P (x ∷ xs) ys h = (h.0, all_front P xs ys h.1)
+
+module _ (Asks : List Text → Type 0) (input : Text) (only : (records : List (List Text)) → BeginsWith input records → AllByRecursion Asks records) where
+  asked_so : (i : Image) (old written : Text) (ended : Result QuestionTally SheetFault) → is_decided ended ≡ true → RunsQuestions i input (Some old) (Some written) ended → AskedSo Asks i input old written ended
+  asked_so i old written (Ok tally) d (inl (all, keeps, count)) = subst (λ t. AskedSo Asks i input old written (Ok t)) (sym count) (empty all keeps)
+  asked_so i old written (Ok tally) d (inr (header, records, replies, is, all, done, count, few)) =
+      subst (λ t. AskedSo Asks i input old written (Ok t)) (sym count) (whole header records replies is all done.width (done, (only (header ∷ records) (all_begin input (header ∷ records) all)).1))
+  asked_so i old written (Err fault.BadHeader) d (header, begins, other, keeps) = other_header header begins other keeps
+  asked_so i old written (Err fault.BadCsv) d (header, records, fields, replies, is, begins, other, done) =
+      other_width header records fields replies is begins other done.width (done, all_front Asks records (fields ∷ []) (only (header ∷ (records ++ fields ∷ [])) begins).1)
+  asked_so i old written (Err fault.Read) d h = absurd (false≢true d)
+  asked_so i old written (Err fault.Write) d h = absurd (false≢true d)
+  asked_so i old written (Err fault.Memory) d h = absurd (false≢true d)
+  asked_so i old written (Err (fault.Desk e)) d h = absurd (false≢true d)
+
+-- no record asks for a history, or there is one image
+asks_so : (i j : Image) (input : Text) → AsksNoHistory input ⊎ (i ≡ j) → (records : List (List Text)) → BeginsWith input records → AllByRecursion (λ fields. IsOfNoHistory fields ⊎ (i ≡ j)) records
+asks_so i j input (inl no) records begins = each_one records (no records begins)
+  where
+    each_one : (records : List (List Text)) → AllByRecursion IsOfNoHistory records → AllByRecursion (λ fields. IsOfNoHistory fields ⊎ (i ≡ j)) records
+    each_one [] h = tt
+    each_one (fields ∷ rest) h = (inl h.0, each_one rest h.1)
+asks_so i j input (inr one) records begins = of_one records
+  where
+    of_one : (records : List (List Text)) → AllByRecursion (λ fields. IsOfNoHistory fields ⊎ (i ≡ j)) records
+    of_one [] = tt
+    of_one (fields ∷ rest) = (inr one, of_one rest)
 
 pub question_sheets_end_alike : QuestionSheetsEndAlike
-question_sheets_end_alike i j input old written earlier other ended end same one_inventory d e runs run =
-    by ended end (framed_alike IsQuestionHeader width input question_tally [] [] [] (λ header records more is one two. refl) (written ≡ old) (other ≡ earlier)
-    (λ records replies. AreReplied i records replies (Some old) (Some written)) (λ records replies. AreReplied j records replies (Some earlier) (Some other)) ended end
-    (asked_so i input old written ended d runs) (asked_so j input earlier other end e run))
+question_sheets_end_alike i j input old written earlier other ended end same one_inventory asks d e runs run =
+    by ended end (framed_alike IsQuestionHeader width input question_tally [] [] [] (λ header records more is one two. refl) (written ≡ old) (other ≡ earlier) Done Did ended end
+    (asked_so Asks input (asks_so i j input asks) i old written ended d runs) (asked_so Asks input (asks_so i j input asks) j earlier other end e run))
   where
-    by : (ended end : Result QuestionTally SheetFault)
-        → Alike (written ≡ old) (other ≡ earlier) (λ records replies. AreReplied i records replies (Some old) (Some written)) (λ records replies. AreReplied j records replies (Some earlier) (Some other)) ended end
-        → WroteAlike old written earlier other ended end
+    abbrev Asks : List Text → Type 0
+    Asks fields = IsOfNoHistory fields ⊎ (i ≡ j)
+
+    abbrev Done : List (List Text) → List QuestionReply → Type 0
+    Done records replies = AreReplied i records replies (Some old) (Some written) × AllByRecursion Asks records
+
+    abbrev Did : List (List Text) → List QuestionReply → Type 0
+    Did records replies = AreReplied j records replies (Some earlier) (Some other) × AllByRecursion Asks records
+
+    by : (ended end : Result QuestionTally SheetFault) → Alike (written ≡ old) (other ≡ earlier) Done Did ended end → WroteAlike old written earlier other ended end
     by _ _ (neither ended keeps kept) = record { reply = []; one = keeps ∙ sym (append-nil old); same = kept ∙ sym (append-nil earlier); ends = refl }
-    by _ _ (each end records replies more done did) =
-        let alike = replies_alike i j same one_inventory records replies more done.replied did.replied in
+    by _ _ (each end records replies more (done, asked) (did, _)) =
+        let alike = replies_alike i j same one_inventory records asked replies more done.replied did.replied in
         record {
           reply = question_lines replies;
           one = done.written;
@@ -192,37 +220,37 @@ equal_inventories i j same = record {
 }
 
 -- and so are those to questions, over images of one state and one inventory
-questions_alike : (body : Text) (one two : Answer) (i j : Image) → state_of i ≡ state_of j → SameInventories i j → RepliesToQuestions i body one → (one.status ≡ 503 → ⊥) → RepliesToQuestions j body two → (two.status ≡ 503 → ⊥)
+questions_alike : (body : Text) (one two : Answer) (i j : Image) → state_of i ≡ state_of j → SameInventories i j → AsksNoHistory body ⊎ (i ≡ j) → RepliesToQuestions i body one → (one.status ≡ 503 → ⊥) → RepliesToQuestions j body two → (two.status ≡ 503 → ⊥)
     → answer_text one ≡ answer_text two
-questions_alike body one two i j same one_inventory (ended, lines, runs, is) served (end, more, run, too) also =
-    let h = question_sheets_end_alike i j body [] lines [] more ended end same one_inventory (answer_decided ended lines one is served) (answer_decided end more two too also) runs run in
+questions_alike body one two i j same one_inventory asks (ended, lines, runs, is) served (end, more, run, too) also =
+    let h = question_sheets_end_alike i j body [] lines [] more ended end same one_inventory asks (answer_decided ended lines one is served) (answer_decided end more two too also) runs run in
     same_answer ended end lines more one two h is served too also
 
 module _ {K J : Type 0} (holds : K → Result Image Table → Type 0) (has : J → Result Image Table → Type 0) where
-  posted_alike : (kind : Option Sheet) (resumes : Bool) (body : Text) (one two : Answer) (old new : DeskView K) (before after : DeskView J) → StandAlike old before
+  posted_alike : (kind : Option Sheet) (resumes : Bool) (body : Text) (one two : Answer) (old new : DeskView K) (before after : DeskView J) → MatchOption kind (AsksNoHistory body) (λ k. ⊤) → StandAlike old before
       → MatchOption kind (AnswersQuestions body old one new) (λ k. DoesSheet holds k resumes body old one new) → (one.status ≡ 503 → ⊥)
       → MatchOption kind (AnswersQuestions body before two after) (λ k. DoesSheet has k resumes body before two after) → (two.status ≡ 503 → ⊥)
       → SameEnd (answer_text one) (answer_text two) (state_of new.image) (state_of after.image)
-  posted_alike None resumes body one two old new before after stand did served done also = record {
-    wrote = questions_alike body one two old.image before.image stand.state (same_inventories old.image before.image stand.sound stand.also stand.state) (answered_so _ one served did.1) served (answered_so _ two also done.1) also;
+  posted_alike None resumes body one two old new before after asks stand did served done also = record {
+    wrote = questions_alike body one two old.image before.image stand.state (same_inventories old.image before.image stand.sound stand.also stand.state) (inl asks) (answered_so _ one served did.1) served (answered_so _ two also done.1) also;
     state = ap (λ (d : DeskView K). state_of d.image) did.0 ∙ stand.state ∙ sym (ap (λ (d : DeskView J). state_of d.image) done.0);
   }
-  posted_alike (Some kind) true body one two old new before after stand (inr (twice, repeated, same, is)) served (inr (again, repeats, remains, too)) also = record {
+  posted_alike (Some kind) true body one two old new before after asks stand (inr (twice, repeated, same, is)) served (inr (again, repeats, remains, too)) also = record {
     wrote = ap answer_text (answered_so _ one served is ∙ sym (answered_so _ two also too));
     state = ap (λ (d : DeskView K). state_of d.image) same ∙ stand.state ∙ sym (ap (λ (d : DeskView J). state_of d.image) remains);
   }
-  posted_alike (Some kind) true body one two old new before after stand (inl (ended, lines, run, is)) served (inr (again, repeats, remains, too)) also =
+  posted_alike (Some kind) true body one two old new before after asks stand (inl (ended, lines, run, is)) served (inr (again, repeats, remains, too)) also =
       let once = gone_on_once old.must_reopen kind records_together old.limits body (state_of old.image) (state_of new.image) (Some []) (Some lines) ended (answer_decided ended lines one is served) run.runs in
       absurd (repeated_not_once kind body again repeats once)
-  posted_alike (Some kind) true body one two old new before after stand (inr (twice, repeated, same, is)) served (inl (end, more, running, too)) also =
+  posted_alike (Some kind) true body one two old new before after asks stand (inr (twice, repeated, same, is)) served (inl (end, more, running, too)) also =
       let once = gone_on_once before.must_reopen kind records_together before.limits body (state_of before.image) (state_of after.image) (Some []) (Some more) end (answer_decided end more two too also) running.runs in
       absurd (repeated_not_once kind body twice repeated once)
-  posted_alike (Some kind) true body one two old new before after stand (inl (ended, lines, run, is)) served (inl (end, more, running, too)) also =
+  posted_alike (Some kind) true body one two old new before after asks stand (inl (ended, lines, run, is)) served (inl (end, more, running, too)) also =
       let runs = coe 0 1 (k. Resumes old.must_reopen kind records_together (stand.limits k) body (stand.state k) (state_of new.image) (Some []) (Some lines) ended) run.runs in
       let h = resumed_end_alike kind old.must_reopen before.must_reopen records_together records_together before.limits body (state_of before.image) (state_of new.image) (state_of after.image) [] lines [] more ended end
       (answer_decided ended lines one is served) (answer_decided end more two too also) runs running.runs in
       record { wrote = same_answer ended end lines more one two h.wrote is served too also; state = h.state }
-  posted_alike (Some kind) false body one two old new before after stand (ended, lines, run, is) served (end, more, running, too) also =
+  posted_alike (Some kind) false body one two old new before after asks stand (ended, lines, run, is) served (end, more, running, too) also =
       let runs = coe 0 1 (k. Runs kind records_together (stand.limits k) body (stand.state k) (state_of new.image) (Some []) (Some lines) ended) run.runs in
       let h = sheets_end_alike kind records_together records_together before.limits body (state_of before.image) (state_of new.image) (state_of after.image) [] lines [] more ended end
       (answer_decided ended lines one is served) (answer_decided end more two too also) runs running.runs in
@@ -246,7 +274,7 @@ module _ {K J : Type 0} (holds : K → Result Image Table → Type 0) (has : J �
     wrote = ap answer_text (state_alike format argument one two served also old.image before.image stand.sound stand.also stand.state resource read (answered_so _ one served did.1) (answered_so _ two also done.1));
     state = ap (λ (d : DeskView K). state_of d.image) did.0 ∙ stand.state ∙ sym (ap (λ (d : DeskView J). state_of d.image) done.0);
   }
-  asked_alike (posted resource resumes body) one two old new before after posts stand did served done also = posted_alike (sheet_at resource) resumes body one two old new before after stand did served done also
+  asked_alike (posted resource resumes body) one two old new before after posts stand did served done also = posted_alike (sheet_at resource) resumes body one two old new before after posts stand did served done also
 
   sheet_alike : (sheet : Sheet) (input text other : Text) (old new : DeskView K) (before after : DeskView J) (ended end : Result Tally SheetFault) → StandAlike old before → is_decided ended ≡ true → is_decided end ≡ true
       → Runs sheet 1 old.limits input (state_of old.image) (state_of new.image) (Some []) (Some text) ended → Runs sheet 1 before.limits input (state_of before.image) (state_of after.image) (Some []) (Some other) end
@@ -294,7 +322,7 @@ module _ {K J : Type 0} (holds : K → Result Image Table → Type 0) (has : J �
       → MatchOption kind (AnswersQuestions body before two after) (λ k. DoesSheet has k resumes body before two after) → (two.status ≡ 503 → ⊥)
       → (answer_text one ≡ answer_text two) × (new ≡ old) × (after ≡ before)
   posted_asks None resumes body one two old new before after asks same did served done also =
-      (questions_alike body one two old.image before.image (ap state_of same) (equal_inventories old.image before.image same) (answered_so _ one served did.1) served (answered_so _ two also done.1) also, did.0, done.0)
+      (questions_alike body one two old.image before.image (ap state_of same) (equal_inventories old.image before.image same) (inr same) (answered_so _ one served did.1) served (answered_so _ two also done.1) also, did.0, done.0)
   posted_asks (Some kind) resumes body one two old new before after asks same did served done also = absurd (some_is_not_none kind asks)
 
   question_alike : (asked : Asked) (one two : Answer) (old new : DeskView K) (before after : DeskView J) → OnlyAsks asked → old.image ≡ before.image

@@ -110,7 +110,7 @@ begun input header other records front (end, left, all, none) (place, rest, reac
     let first = one_first default_config st.StartRecord end place (strip_bom input) left rest header other records front all reached in
     begin_with default_config first.place end place first.rest left rest records front first.one none first.other
 
-all_begin : (input : Text) (records : List (List Text)) → AreAll input records → BeginsWith input records
+pub all_begin : (input : Text) (records : List (List Text)) → AreAll input records → BeginsWith input records
 all_begin input records (s, y, reached, end) = (s, y, reached)
 
 -- the first of the records that begin a text begin it

@@ -7,12 +7,15 @@ use Rattle.lrs_measure.specs.Texts.{Name}
 use Rattle.lrs_position.specs.Readings.{States, method_text}
 use Rattle.lrs_position.specs.declared.expression.Expr.{Expr}
 use Rattle.lrs_position.specs.declared.expression.Method.{Method}
+use Rattle.lrs_events.specs.declared.side.LinkSide.{LinkSide}
+use Rattle.lrs_events.specs.declared.side.LinkSide.TheVariants.{Left, Right}
 use Rattle.lrs_events.specs.declared.side.Side.{Side}
 use Rattle.lrs_machine.specs.Lines.{Text}
 use Rattle.lrs_machine.specs.declared.answer.Field.TheVariants.{E}
 use Rattle.lrs_position.specs.declared.expression.Method.TheVariants as method
 use Rattle.lrs_machine.specs.PlaceTexts.{SaysPlace}
 use Rattle.lrs_machine.specs.declared.question.GoneWanted.{GoneWanted}
+use Rattle.lrs_machine.specs.declared.question.OverlayAsked.{OverlayAsked}
 use Rattle.lrs_machine.specs.declared.question.Place.{Place}
 use Rattle.lrs_machine.specs.declared.question.Place.TheVariants.{Chainage, Position}
 use Rattle.lrs_machine.specs.declared.question.RowForm.{RowForm}
@@ -23,7 +26,7 @@ use Rattle.lrs_sheet_records.specs.Shapes.{Argument, At, PositionBy, RouteSide, 
 use Rattle.lrs_sheet_records.proofs.OneArgument.{one-argument, one-method}
 use Rattle.lrs_promises.proofs.Once.{same_some}
 use Rattle.lrs_web_requests.specs.Query.{parameter}
-use Rattle.lrs_web_replies.specs.Questions.{GivesForm, GivesGone, GivesPosition, GivesPositionBy, GivesRows, form_by, GivesSpot, Said, SaidIfGiven, SaidOrFirst, SaysClass, SaysMethod, SaysNumber, SaysRoute, SaysSide}
+use Rattle.lrs_web_replies.specs.Questions.{GivesForm, GivesGone, GivesOverlay, GivesPosition, GivesPositionBy, GivesRows, form_by, GivesSpot, Said, SaidIfGiven, SaidOrFirst, SaysClass, SaysLinkSide, SaysMethod, SaysNumber, SaysRoute, SaysSide}
 
 module _ {A : Type 0} (Says : Text → A → Type 0) (one : (text : Text) (x y : A) → Says text x → Says text y → x ≡ y) where
   pub one_said : (o : Option Text) (x y : A) → Said Says o x → Said Says o y → x ≡ y
@@ -109,6 +112,23 @@ one_asked query v w (route, from, to, class, asset, form) (route', from', to', c
     let e = one_if_given _ (one_number _ _) _ v.asset w.asset asset asset' in
     let f = one_form query v.form w.form form form' in
     λ k. record { route = a k; from = b k; to = c k; class = d k; asset = e k; form = f k }
+
+-- L is no R
+one_hand : (text : Text) (s t : LinkSide) → SaysLinkSide text s → SaysLinkSide text t → s ≡ t
+one_hand text Left Left h g = refl
+one_hand text Right Right h g = refl
+one_hand text Left Right h g = let same = first_same 76 82 _ _ (sym h ∙ g) in (let never : ⊥ = omega (arith, same) in absurd never)
+one_hand text Right Left h g = let same = first_same 82 76 _ _ (sym h ∙ g) in (let never : ⊥ = omega (arith, same) in absurd never)
+
+pub one_overlay : (query : Text) (v w : OverlayAsked) → GivesOverlay query v → GivesOverlay query w → v ≡ w
+one_overlay query v w (route, side, from, to, gaps, classes) (route', side', from', to', gaps', classes') =
+    let a = one_if_given SaysRoute one_route _ v.route w.route route route' in
+    let b = one_if_given SaysLinkSide one_hand _ v.side w.side side side' in
+    let c = one_if_given SaysPlace one_place _ v.from w.from from from' in
+    let d = one_if_given SaysPlace one_place _ v.to w.to to to' in
+    let e = same_some v.gaps w.gaps (sym gaps ∙ gaps') in
+    let f : v.classes ≡ w.classes = classes.0 ∙ sym classes'.0 in
+    λ k. record { classes = f k; route = a k; side = b k; from = c k; to = d k; gaps = e k }
 
 pub one_gone : (query : Text) (v w : GoneWanted) → GivesGone query v → GivesGone query w → v ≡ w
 one_gone query v w (edit, since, until, class) (edit', since', until', class') =

@@ -1,5 +1,6 @@
 -- Equal bytes and equal states give equal bytes and equal states.
-use Rattle.std.specs.Prelude.{◌≡◌, ℕ, Bool, true, ◌++◌, List, [], ◌∷◌, Some, None, Result, ⊤}
+use Rattle.std.specs.Prelude.{◌≡◌, ◌⊎◌, ℕ, Bool, true, ◌++◌, List, [], ◌∷◌, codes, Some, None, Result, MatchOption, ⊤}
+use Rattle.std.specs.List.{AllByRecursion}
 use Rattle.lrs_machine.specs.Image.{state_of}
 use Rattle.lrs_machine.specs.Lines.{Text}
 use Rattle.lrs_machine.specs.Sound.{IsSound}
@@ -8,6 +9,8 @@ use Rattle.lrs_machine.specs.declared.answer.Limits.{Limits}
 use Rattle.lrs_machine.specs.declared.image.Image.{Image}
 use Rattle.lrs_machine.specs.declared.table.Table.{Table}
 use Rattle.lrs_desk.specs.DeskView.{DeskView}
+use Rattle.lrs_sheet_records.specs.Records.{text_at}
+use Rattle.lrs_sheet_records.specs.Rows.{BeginsWith}
 use Rattle.lrs_sheet_records.specs.declared.sheet.Sheet.{Sheet}
 use Rattle.lrs_sheet.specs.Resumption.{Resumes}
 use Rattle.lrs_sheet.specs.Sheets.{Runs}
@@ -64,19 +67,28 @@ InventoriesAreOne = (i j : Image) → IsSound i → IsSound j → state_of i ≡
 
 -- ---- sheets of questions
 
--- The same sheet of questions is answered alike over any two images of the same state that are the same inventories but for the rows of their ledgers, as sound ones are: a place is told by the referents of its route, in the order in which an image has them.
+-- the record does not ask for a history, which is told by the rows of the ledgers
+abbrev pub IsOfNoHistory : List Text → Type 0
+IsOfNoHistory fields = text_at fields 1 ≡ codes "history" → ⊥
+
+-- no record of the sheet asks for one
+abbrev pub AsksNoHistory : Text → Type 0
+AsksNoHistory input = (records : List (List Text)) → BeginsWith input records → AllByRecursion IsOfNoHistory records
+
+-- The same sheet of questions is answered alike over any two images of the same state that are the same inventories but for the rows of their ledgers, as sound ones are, where it asks for no history, and over two equal images whatever it asks: a place is told by the referents of its route, in the order in which an image has them.
 abbrev pub QuestionSheetsEndAlike : Type 0
 QuestionSheetsEndAlike = (i j : Image) (input old written earlier other : Text) (ended end : Result QuestionTally SheetFault)
-    → state_of i ≡ state_of j → SameInventories i j → is_decided ended ≡ true → is_decided end ≡ true
+    → state_of i ≡ state_of j → SameInventories i j → AsksNoHistory input ⊎ (i ≡ j) → is_decided ended ≡ true → is_decided end ≡ true
     → RunsQuestions i input (Some old) (Some written) ended → RunsQuestions j input (Some earlier) (Some other) end
     → WroteAlike old written earlier other ended end
 
 -- ---- what is asked
 
--- whether a request asks for anything but what is gone and what became of an asset, which are listed by the rows of the ledgers: it may be refused, and post any sheet
+-- whether a request asks for anything but what is gone and what became of an asset, which are listed by the rows of the ledgers: it may be refused, and post any sheet but one of questions that asks for a history
 abbrev pub IsOfState : Asked → Type 0
 IsOfState (query path.Gone format argument) = ⊥
 IsOfState (query path.History format argument) = ⊥
+IsOfState (posted resource resumes body) = MatchOption (sheet_at resource) (AsksNoHistory body) (λ kind. ⊤)
 IsOfState _ = ⊤
 
 -- whether a request changes nothing: it may be refused, and ask for anything, but post no sheet other than of questions

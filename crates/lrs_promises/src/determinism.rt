@@ -23,7 +23,7 @@ pub fn a_resumed_sheet_determines_its_end()
 {}
 
 /// The bytes of a sheet of questions and the inventory, but for the rows of its ledgers, determine how it ends, and the
-/// bytes that are written.
+/// bytes that are written; where a history is asked for, its ledgers do so too.
 pub fn a_sheet_of_questions_determines_its_answers()
     ensures { QuestionSheetsEndAlike }
 {}
@@ -35,7 +35,7 @@ pub fn a_state_determines_its_inventory()
 
 /// The bytes of calls, and the state before them, determine the bytes that they write and the state after them, over any
 /// keepers: of sheets and surveys that end whole or are broken off for a fault of their own, and of requests for anything
-/// but what is gone and histories, which are listed by the rows of the ledgers.
+/// but what is gone and histories, also in sheets of questions, which are listed by the rows of the ledgers.
 pub fn calls_determine_their_replies<K: Keeper, J: Keeper>()
     ensures { CallsEndAlike K.may_hold J.may_hold }
 {}

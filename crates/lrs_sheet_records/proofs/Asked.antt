@@ -39,6 +39,10 @@ is-asked asked.Translate = (1, lit< tt, refl)
 is-asked asked.Find = (2, lit< tt, refl)
 is-asked asked.Segments = (3, lit< tt, refl)
 is-asked asked.Where = (4, lit< tt, refl)
+is-asked asked.Rows = (5, lit< tt, refl)
+is-asked asked.Overlay = (6, lit< tt, refl)
+is-asked asked.Lengths = (7, lit< tt, refl)
+is-asked asked.History = (8, lit< tt, refl)
 
 -- no destination is said where none is found
 pub no-destination-there : (texts : Field → Text) (text : Text) → ((to : Destination) → text ≡ destination_text to → IsReachable to → ⊥) → Fits texts (Some DestinationName) text → ⊥

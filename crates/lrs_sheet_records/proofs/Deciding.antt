@@ -37,11 +37,11 @@ use Rattle.lrs_machine.specs.declared.question.Destination.TheVariants as destin
 use Rattle.lrs_machine.specs.declared.question.Place.{Place}
 use Rattle.lrs_machine.specs.declared.question.Place.TheVariants.{Chainage, Position}
 use Rattle.lrs_machine.specs.PlaceTexts.{SaysPlace}
-use Rattle.lrs_sheet_records.proofs.OneArgument.{kind_from, kind-back, side_from, side-back, method_from, method-back, destination_from, destination-back, no-letters}
+use Rattle.lrs_sheet_records.proofs.OneArgument.{kind_from, kind-back, side_from, side-back, link_side_from, link-side-back, method_from, method-back, destination_from, destination-back, no-letters}
 use Rattle.lrs_sheet_records.proofs.PrintedTexts.{below, from-to}
-use Rattle.lrs_sheet_records.proofs.Said.{number-said, class-said, route-said, referent-said, value-said, kind-said, side-said, method-said, position-said, pieces-said, marks-said, classes-said, destination-said, link-or-route-said, place-said, millimetre-said, nothing-or-said}
+use Rattle.lrs_sheet_records.proofs.Said.{number-said, class-said, route-said, referent-said, value-said, kind-said, side-said, method-said, position-said, pieces-said, marks-said, classes-said, destination-said, link-or-route-said, place-said, millimetre-said, route-place-said, one-side-said, gaps-said, nothing-or-said}
 use Rattle.lrs_sheet_records.proofs.Wording.{one-mark, one-piece}
-use Rattle.lrs_sheet_records.specs.Shapes.{Argument, Nothing, Number, Word, KindOf, SideOf, MethodOf, At, PiecesOf, MarksOf, ClassesOf, DestinationOf, PlaceOf, Shape, Whole, ClassName, RouteName, ReferentName, AssetValue, ClassKind, RouteSide, MethodName, PositionBy, Pieces, Marks, ClassNames, DestinationName, LinkOrRoute, LinkOrPlace, MillimetreOrNothing, OrNothing, Says, IsReachable, destination_text, is_link_word}
+use Rattle.lrs_sheet_records.specs.Shapes.{Argument, Nothing, Number, Word, KindOf, SideOf, MethodOf, At, PiecesOf, MarksOf, ClassesOf, DestinationOf, PlaceOf, LinkSideOf, Gaps, Shape, Whole, ClassName, RouteName, ReferentName, AssetValue, ClassKind, RouteSide, MethodName, PositionBy, Pieces, Marks, ClassNames, DestinationName, LinkOrRoute, LinkOrPlace, MillimetreOrNothing, RoutePlace, OneSide, GapsWord, OrNothing, Says, IsReachable, destination_text, is_link_word, link_side_text}
 use Rattle.lrs_sheet_records.specs.Words.{AreSaid, IsClassWord, IsMarkText, IsPieceText, SaysNumber, most_words, part, parts_of, sign_text, words_of}
 
 -- numbers
@@ -365,6 +365,9 @@ fits texts DestinationName text = bytes_eq text (destination_text (destination_f
 fits texts LinkOrRoute text = is_link_word text || is_route_name text
 fits texts (LinkOrPlace field) text = if is_link_word (texts field) then is_number 1 greatest_link text else is_place text
 fits texts (MillimetreOrNothing field) text = if is_link_word (texts field) then is_number 0 longest_link text else is_nothing text
+fits texts RoutePlace text = is_place text
+fits texts OneSide text = bytes_eq text (link_side_text (link_side_from text))
+fits texts GapsWord text = bytes_eq text (codes "gaps")
 fits texts (OrNothing shape) text = is_nothing text || fits texts shape text
 
 -- what it then says
@@ -385,6 +388,9 @@ argument_in texts DestinationName text = DestinationOf (destination_from text)
 argument_in texts LinkOrRoute text = Word text
 argument_in texts (LinkOrPlace field) text = if is_link_word (texts field) then Number (digits_value 10 text) else PlaceOf (place_in text)
 argument_in texts (MillimetreOrNothing field) text = if is_link_word (texts field) then Number (digits_value 10 text) else Nothing
+argument_in texts RoutePlace text = PlaceOf (place_in text)
+argument_in texts OneSide text = LinkSideOf (link_side_from text)
+argument_in texts GapsWord text = Gaps
 argument_in texts (OrNothing shape) text = if is_nothing text then Nothing else argument_in texts shape text
 
 -- a shape says nothing only by an empty text
@@ -434,6 +440,9 @@ fits-says texts (MillimetreOrNothing field) text h = elim (is_link_word (texts f
       | true ↦ λ e passes. (e, number-from 0 longest_link text passes)
       | false ↦ λ e passes. (e, nothing-from text passes)
     ] refl h
+fits-says texts RoutePlace text h = place-from text h
+fits-says texts OneSide text h = same-text text (link_side_text (link_side_from text)) h
+fits-says texts GapsWord text h = same-text text (codes "gaps") h
 fits-says texts (OrNothing shape) [] h = refl
 fits-says texts (OrNothing shape) (c ∷ text) h = said-there texts shape (c ∷ text) (argument_in texts shape (c ∷ text)) (fits-says texts shape (c ∷ text) h)
 
@@ -480,6 +489,11 @@ says-fits texts (MillimetreOrNothing field) text a h = elim (millimetre-said tex
   | inl on ↦ rw on.2 (number-is 0 longest_link text on.0 on.3)
   | inr none ↦ rw (none.1, none.2) refl
 ]
+says-fits texts RoutePlace text a h = let (p, is, said) = route-place-said texts text a h in place-is text p said
+says-fits texts OneSide text a h =
+    let (side, is, said) = one-side-said texts text a h in
+    text-same text (link_side_text (link_side_from text)) (said ∙ ap link_side_text (sym (ap link_side_from said ∙ link-side-back side)))
+says-fits texts GapsWord text a h = let (is, said) = gaps-said texts text a h in text-same text (codes "gaps") said
 says-fits texts (OrNothing shape) [] a h = refl
 says-fits texts (OrNothing shape) (c ∷ text) a h = elim (nothing-or-said texts shape (c ∷ text) a h) [
   | inl none ↦ absurd (full none.1)

@@ -17,6 +17,8 @@ use Rattle.lrs_position.specs.declared.expression.Target.TheVariants as target
 use Rattle.lrs_events.specs.Names.{kind_text, side_text}
 use Rattle.lrs_events.specs.declared.class.Kind.{Kind}
 use Rattle.lrs_events.specs.declared.class.Kind.TheVariants.{Point, Stretch, Exclusive}
+use Rattle.lrs_events.specs.declared.side.LinkSide.{LinkSide}
+use Rattle.lrs_events.specs.declared.side.LinkSide.TheVariants.{Left, Right}
 use Rattle.lrs_events.specs.declared.side.Side.{Side}
 use Rattle.lrs_events.specs.declared.side.Side.TheVariants.{L, R, B}
 use Rattle.lrs_machine.specs.Lines.{Text}
@@ -27,10 +29,10 @@ use Rattle.lrs_machine.specs.declared.question.Place.{Place}
 use Rattle.lrs_machine.specs.declared.question.Place.TheVariants.{Chainage, Position}
 use Rattle.lrs_machine.specs.PlaceTexts.{SaysPlace}
 use Rattle.lrs_machine.proofs.Joined.{differ, starts_with}
-use Rattle.lrs_sheet_records.proofs.Said.{number-said, class-said, route-said, referent-said, value-said, kind-said, side-said, method-said, position-said, pieces-said, marks-said, classes-said, destination-said, link-or-route-said, place-said, millimetre-said, nothing-or-said}
+use Rattle.lrs_sheet_records.proofs.Said.{number-said, class-said, route-said, referent-said, value-said, kind-said, side-said, method-said, position-said, pieces-said, marks-said, classes-said, destination-said, link-or-route-said, place-said, millimetre-said, route-place-said, one-side-said, gaps-said, nothing-or-said}
 use Rattle.lrs_sheet_records.proofs.Wording.{one-mark, one-piece, one-said}
 use Rattle.lrs_sheet_records.specs.Records.{SayAll, text_at, texts_of}
-use Rattle.lrs_sheet_records.specs.Shapes.{Argument, Nothing, Number, Word, KindOf, SideOf, MethodOf, At, PiecesOf, MarksOf, ClassesOf, DestinationOf, PlaceOf, Shape, Whole, ClassName, RouteName, ReferentName, AssetValue, ClassKind, RouteSide, MethodName, PositionBy, Pieces, Marks, ClassNames, DestinationName, LinkOrRoute, LinkOrPlace, MillimetreOrNothing, OrNothing, Says, StatesBy, destination_text}
+use Rattle.lrs_sheet_records.specs.Shapes.{Argument, Nothing, Number, Word, KindOf, SideOf, MethodOf, At, PiecesOf, MarksOf, ClassesOf, DestinationOf, PlaceOf, LinkSideOf, Gaps, Shape, Whole, ClassName, RouteName, ReferentName, AssetValue, ClassKind, RouteSide, MethodName, PositionBy, Pieces, Marks, ClassNames, DestinationName, LinkOrRoute, LinkOrPlace, MillimetreOrNothing, RoutePlace, OneSide, GapsWord, OrNothing, Says, StatesBy, destination_text, link_side_text}
 use Rattle.lrs_sheet_records.specs.Words.{AreSaid, IsClassWord, IsMarkText, IsPieceText, words_of}
 
 -- the kind of a text, by its first byte
@@ -51,6 +53,14 @@ side-back L = refl
 side-back R = refl
 side-back B = refl
 
+-- one side of two
+abbrev pub link_side_from : Text → LinkSide
+link_side_from text = if starts_with 76 text then Left else Right
+
+pub link-side-back : (s : LinkSide) → link_side_from (link_side_text s) ≡ s
+link-side-back Left = refl
+link-side-back Right = refl
+
 -- the method of a text
 abbrev pub method_from : Text → Method
 method_from text = if starts_with 97 text then method.Abs else (if starts_with 114 text then method.Rel else method.Int)
@@ -67,6 +77,9 @@ one-kind text k l p q = sym (kind-back k) ∙ ap kind_from (sym p ∙ q) ∙ kin
 -- or one side
 one-side : (text : Text) (s t : Side) → text ≡ side_text s → text ≡ side_text t → s ≡ t
 one-side text s t p q = sym (side-back s) ∙ ap side_from (sym p ∙ q) ∙ side-back t
+
+one-link-side : (text : Text) (s t : LinkSide) → text ≡ link_side_text s → text ≡ link_side_text t → s ≡ t
+one-link-side text s t p q = sym (link-side-back s) ∙ ap link_side_from (sym p ∙ q) ∙ link-side-back t
 
 -- or one method
 pub one-method : (text : Text) (m n : Method) → text ≡ method_text m → text ≡ method_text n → m ≡ n
@@ -112,6 +125,10 @@ no-side : (s : Side) → [] ≡ side_text s → ⊥
 no-side L e = differ (same_name []) [] (codes "L") e refl refl
 no-side R e = differ (same_name []) [] (codes "R") e refl refl
 no-side B e = differ (same_name []) [] (codes "B") e refl refl
+
+no-link-side : (s : LinkSide) → [] ≡ link_side_text s → ⊥
+no-link-side Left e = differ (same_name []) [] (codes "L") e refl refl
+no-link-side Right e = differ (same_name []) [] (codes "R") e refl refl
 
 no-method : (m : Method) → [] ≡ method_text m → ⊥
 no-method method.Abs e = differ (same_name []) [] (codes "abs") e refl refl
@@ -226,6 +243,9 @@ empty-said texts (MillimetreOrNothing field) a h = elim (millimetre-said texts f
   | inl on ↦ absurd (no-digits on.3.digits)
   | inr none ↦ none.0
 ]
+empty-said texts RoutePlace a h = let (p, is, said) = route-place-said texts [] a h in absurd (no-place p said)
+empty-said texts OneSide a h = let (s, is, said) = one-side-said texts [] a h in absurd (no-link-side s said)
+empty-said texts GapsWord a h = let (is, said) = gaps-said texts [] a h in absurd (differ (same_name []) [] (codes "gaps") said refl refl)
 empty-said texts (OrNothing shape) a h = elim (nothing-or-said texts shape [] a h) [
   | inl none ↦ none.0
   | inr said ↦ empty-said texts shape a said
@@ -309,6 +329,18 @@ one-argument texts (MillimetreOrNothing field) text a b h g = elim (millimetre-s
     | inr other ↦ one.0 ∙ sym other.0
   ]
 ]
+one-argument texts RoutePlace text a b h g =
+    let (p, is, said) = route-place-said texts text a h in
+    let (q, is', said') = route-place-said texts text b g in
+    is ∙ ap PlaceOf (one-place text p q said said') ∙ sym is'
+one-argument texts OneSide text a b h g =
+    let (s, is, said) = one-side-said texts text a h in
+    let (t, is', said') = one-side-said texts text b g in
+    is ∙ ap LinkSideOf (one-link-side text s t said said') ∙ sym is'
+one-argument texts GapsWord text a b h g =
+    let (is, said) = gaps-said texts text a h in
+    let (is', said') = gaps-said texts text b g in
+    is ∙ sym is'
 one-argument texts (OrNothing shape) text a b h g = elim (nothing-or-said texts shape text a h) [
   | inl none ↦ none.0 ∙ sym (empty-said texts (OrNothing shape) b (rw none.1 at g))
   | inr said ↦ elim (nothing-or-said texts shape text b g) [

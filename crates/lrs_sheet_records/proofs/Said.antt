@@ -1,6 +1,6 @@
 -- What the text of each shape says.
 use Rattle.std.proofs.Common.{◌≡◌, ◌⊎◌, ℕ, ◌≤◌, List, [], length, refl, inl, inr}
-use Rattle.std.specs.Prelude.{IsTrue, ◌||◌, false}
+use Rattle.std.specs.Prelude.{IsTrue, ◌||◌, codes, false}
 use Rattle.lrs_measure.specs.Limits.{greatest_link, longest_link}
 use Rattle.lrs_measure.specs.Texts.{Name}
 use Rattle.lrs_element.specs.declared.link.Piece.{Piece}
@@ -11,6 +11,7 @@ use Rattle.lrs_position.specs.declared.expression.Expr.{Expr}
 use Rattle.lrs_position.specs.declared.expression.Method.{Method}
 use Rattle.lrs_events.specs.Names.{is_class_name, is_value, kind_text, side_text}
 use Rattle.lrs_events.specs.declared.class.Kind.{Kind}
+use Rattle.lrs_events.specs.declared.side.LinkSide.{LinkSide}
 use Rattle.lrs_events.specs.declared.side.Side.{Side}
 use Rattle.lrs_machine.specs.EnteredNumbers.{are_entered_pieces, are_entered_marks}
 use Rattle.lrs_machine.specs.Lines.{Text}
@@ -18,7 +19,7 @@ use Rattle.lrs_machine.specs.declared.answer.Field.{Field}
 use Rattle.lrs_machine.specs.declared.question.Destination.{Destination}
 use Rattle.lrs_machine.specs.declared.question.Place.{Place}
 use Rattle.lrs_machine.specs.PlaceTexts.{SaysPlace}
-use Rattle.lrs_sheet_records.specs.Shapes.{Argument, Nothing, Number, Word, KindOf, SideOf, MethodOf, At, PiecesOf, MarksOf, ClassesOf, DestinationOf, PlaceOf, Shape, Whole, ClassName, RouteName, ReferentName, AssetValue, ClassKind, RouteSide, MethodName, PositionBy, Pieces, Marks, ClassNames, DestinationName, LinkOrRoute, LinkOrPlace, MillimetreOrNothing, OrNothing, Says, StatesBy, IsReachable, destination_text, is_link_word}
+use Rattle.lrs_sheet_records.specs.Shapes.{Argument, Nothing, Number, Word, KindOf, SideOf, MethodOf, At, PiecesOf, MarksOf, ClassesOf, DestinationOf, PlaceOf, LinkSideOf, Gaps, Shape, Whole, ClassName, RouteName, ReferentName, AssetValue, ClassKind, RouteSide, MethodName, PositionBy, Pieces, Marks, ClassNames, DestinationName, LinkOrRoute, LinkOrPlace, MillimetreOrNothing, RoutePlace, OneSide, GapsWord, OrNothing, Says, StatesBy, IsReachable, destination_text, is_link_word, link_side_text}
 use Rattle.lrs_sheet_records.specs.Words.{AreSaid, IsClassWord, IsMarkText, IsPieceText, SaysNumber, most_words, words_of}
 
 -- a number
@@ -104,6 +105,21 @@ pub millimetre-said : (texts : Field → Text) (field : Field) (text : Text) (a 
 millimetre-said texts field text (Number mm) h = inl (mm, refl, h.0, h.1)
 millimetre-said texts field text Nothing h = inr (refl, h.0, h.1)
 millimetre-said texts field text a h = absurd h
+
+-- a place of a route
+pub route-place-said : (texts : Field → Text) (text : Text) (a : Argument) → Says texts RoutePlace text a → (place : Place) × (a ≡ PlaceOf place) × SaysPlace text place
+route-place-said texts text (PlaceOf place) h = (place, refl, h)
+route-place-said texts text a h = absurd h
+
+-- one side of two
+pub one-side-said : (texts : Field → Text) (text : Text) (a : Argument) → Says texts OneSide text a → (side : LinkSide) × (a ≡ LinkSideOf side) × (text ≡ link_side_text side)
+one-side-said texts text (LinkSideOf side) h = (side, refl, h)
+one-side-said texts text a h = absurd h
+
+-- the word `gaps`
+pub gaps-said : (texts : Field → Text) (text : Text) (a : Argument) → Says texts GapsWord text a → (a ≡ Gaps) × (text ≡ codes "gaps")
+gaps-said texts text Gaps h = (refl, h)
+gaps-said texts text a h = absurd h
 
 -- nothing, or what the shape says
 pub nothing-or-said : (texts : Field → Text) (shape : Shape) (text : Text) (a : Argument) → Says texts (OrNothing shape) text a → ((a ≡ Nothing) × (text ≡ [])) ⊎ Says texts shape text a

@@ -1,5 +1,5 @@
 -- The record that a command is printed as: its verb and the text of each of its arguments, by the table of verbs.
-use Rattle.std.specs.Prelude.{List, [], ◌∷◌, ◌++◌, ⊤, map}
+use Rattle.std.specs.Prelude.{List, [], ◌∷◌, ◌++◌, ⊤, codes, map}
 use Rattle.std.specs.Fmt.{decimal}
 use Rattle.lrs_measure.specs.Fraction.{IsLowest}
 use Rattle.lrs_position.specs.Readings.{method_text}
@@ -10,7 +10,7 @@ use Rattle.lrs_machine.specs.Lines.{Text, fields, words, expression_text, pieces
 use Rattle.lrs_machine.specs.declared.command.Command.{Command}
 use Rattle.lrs_machine.specs.declared.question.Place.{Place}
 use Rattle.lrs_machine.specs.declared.question.Place.TheVariants.{Chainage, Position}
-use Rattle.lrs_sheet_records.specs.Shapes.{Argument, Nothing, Number, Word, KindOf, SideOf, MethodOf, At, PiecesOf, MarksOf, ClassesOf, DestinationOf, PlaceOf, destination_text}
+use Rattle.lrs_sheet_records.specs.Shapes.{Argument, Nothing, Number, Word, KindOf, SideOf, MethodOf, At, PiecesOf, MarksOf, ClassesOf, DestinationOf, PlaceOf, LinkSideOf, Gaps, destination_text, link_side_text}
 use Rattle.lrs_sheet_records.specs.Verbs.{arguments_of, verb_of}
 
 -- a chainage, or a method, a colon and a position by it
@@ -32,6 +32,8 @@ argument_text (MarksOf marks) = marks_text marks
 argument_text (ClassesOf names) = words names
 argument_text (DestinationOf to) = destination_text to
 argument_text (PlaceOf place) = place_text place
+argument_text (LinkSideOf side) = link_side_text side
+argument_text Gaps = codes "gaps"
 
 -- the verb and the texts of its arguments
 abbrev pub command_fields : Command → List Text

@@ -12,6 +12,8 @@ use Rattle.lrs_position.specs.declared.expression.Expr.{Expr}
 use Rattle.lrs_position.specs.declared.expression.Method.{Method}
 use Rattle.lrs_events.specs.Names.{is_class_name, is_value, kind_text, side_text}
 use Rattle.lrs_events.specs.declared.class.Kind.{Kind}
+use Rattle.lrs_events.specs.declared.side.LinkSide.{LinkSide}
+use Rattle.lrs_events.specs.declared.side.LinkSide.TheVariants.{Left, Right}
 use Rattle.lrs_events.specs.declared.side.Side.{Side}
 use Rattle.lrs_machine.specs.EnteredNumbers.{are_entered_pieces, are_entered_marks}
 use Rattle.lrs_machine.specs.Lines.{Text}
@@ -36,8 +38,10 @@ pub data Argument : Type 0 where
   ClassesOf : List Name → Argument
   DestinationOf : Destination → Argument
   PlaceOf : Place → Argument
+  LinkSideOf : LinkSide → Argument
+  Gaps : Argument
 
--- what a field may say: a number between two bounds, a name of one of the alphabets, one of the words for kinds, sides and methods, a position by the method that another field names, a list, how a position is to be told, `link` or a route, behind such a field the number of the link or a place of the route, and the millimetre of the link or nothing; or one of these that may be missing
+-- what a field may say: a number between two bounds, a name of one of the alphabets, one of the words for kinds, sides and methods, a position by the method that another field names, a list, how a position is to be told, `link` or a route, behind such a field the number of the link or a place of the route, and the millimetre of the link or nothing; a place of a route, one side of two, or the word `gaps`; or one of these that may be missing
 pub data Shape : Type 0 where
   Whole : ℕ → ℕ → Shape
   ClassName : Shape
@@ -55,6 +59,9 @@ pub data Shape : Type 0 where
   LinkOrRoute : Shape
   LinkOrPlace : Field → Shape
   MillimetreOrNothing : Field → Shape
+  RoutePlace : Shape
+  OneSide : Shape
+  GapsWord : Shape
   OrNothing : Shape → Shape
 
 -- whether what a field of the shape says is a list
@@ -87,6 +94,11 @@ IsReachable destination.Link = ⊤
 abbrev pub is_link_word : Text → Bool
 is_link_word text = bytes_eq text (codes "link")
 
+-- one side of two
+abbrev pub link_side_text : LinkSide → Text
+link_side_text Left = codes "L"
+link_side_text Right = codes "R"
+
 -- The text says this argument, where the record's fields have these texts.
 abbrev pub Says : (Field → Text) → Shape → Text → Argument → Type 0
 Says texts (Whole low high) text (Number n) = SaysNumber low high text n
@@ -107,6 +119,9 @@ Says texts (LinkOrPlace field) text (Number link) = IsTrue (is_link_word (texts 
 Says texts (LinkOrPlace field) text (PlaceOf place) = (is_link_word (texts field) ≡ false) × SaysPlace text place
 Says texts (MillimetreOrNothing field) text (Number mm) = IsTrue (is_link_word (texts field)) × SaysNumber 0 longest_link text mm
 Says texts (MillimetreOrNothing field) text Nothing = (is_link_word (texts field) ≡ false) × (text ≡ [])
+Says texts RoutePlace text (PlaceOf place) = SaysPlace text place
+Says texts OneSide text (LinkSideOf side) = text ≡ link_side_text side
+Says texts GapsWord text Gaps = text ≡ codes "gaps"
 -- an empty text says that there is nothing
 Says texts (OrNothing shape) text Nothing = text ≡ []
 Says texts (OrNothing shape) text argument = Says texts shape text argument

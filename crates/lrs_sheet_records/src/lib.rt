@@ -8,6 +8,7 @@ mod fault;
 mod header;
 pub mod laws;
 mod list;
+mod optional;
 mod place;
 mod question;
 mod record;

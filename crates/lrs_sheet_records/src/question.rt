@@ -10,12 +10,13 @@ ghost use Rattle.lrs_sheet_records.specs.Questions.{RefusesQuestion, SaysQuestio
 
 use crate::arguments::nothing_from;
 use crate::fault::ReadFault;
+use crate::optional::{gaps_at, some_class_at, some_place_at, some_route_at, some_side_at};
 use crate::place::{asset_at, classes_at, destination_at, method_at, position_at, side_at};
 use crate::shape::{place_of, route_name_at};
 use crate::sheet::{Sheet, SheetRecord, text_at};
 use crate::spot::{is_link_word, link_at, millimetre_at, nothing_at, place_at, route_at};
 use csv::ByteRecord;
-use lrs_machine::{AskedPlace, Field, Key, Question};
+use lrs_machine::{AskedPlace, Field, Key, Listing, OverlayAsked, Question, RowForm, RowsAsked};
 use std::alloc::Global;
 
 /// What a record of a sheet of questions asks for.
@@ -26,6 +27,10 @@ enum Asked {
     Find,
     Segments,
     Where,
+    Rows,
+    Overlay,
+    Lengths,
+    History,
 }
 
 /// The name of a field in the header of a sheet of questions, which has the fields up to d.
@@ -131,6 +136,62 @@ fn where_of(row: &SheetRecord<'_>) -> Result<Question, ReadFault>
     }
 }
 
+fn rows_of(row: &SheetRecord<'_>) -> Result<Question, ReadFault>
+    requires { length (edit_fields row.now) ≤ 11 }
+    ensures { ReadsAsked (edit_fields row.now) (codes "rows") result }
+{
+    let route = some_route_at(row, Field::A)?;
+    let from = some_place_at(row, Field::B)?;
+    let to = some_place_at(row, Field::C)?;
+    let class = some_class_at(row, Field::D)?;
+    nothing_from(row, Field::E)?;
+    Ok(Question::Rows(RowsAsked {
+        route,
+        from,
+        to,
+        class,
+        asset: None,
+        form: RowForm::Decimal,
+    }))
+}
+
+fn overlay_of(alloc: Global, row: &SheetRecord<'_>) -> Result<Question, ReadFault>
+    requires { length (edit_fields row.now) ≤ 11 }
+    ensures { ReadsAsked (edit_fields row.now) (codes "overlay") result }
+{
+    let route = some_route_at(row, Field::A)?;
+    let side = some_side_at(row, Field::B)?;
+    let classes = classes_at(alloc, row, Field::C)?;
+    let gaps = gaps_at(row, Field::D)?;
+    nothing_from(row, Field::E)?;
+    Ok(Question::Overlay(OverlayAsked {
+        classes,
+        route,
+        side,
+        from: None,
+        to: None,
+        gaps,
+    }))
+}
+
+fn lengths_of(row: &SheetRecord<'_>) -> Result<Question, ReadFault>
+    requires { length (edit_fields row.now) ≤ 11 }
+    ensures { ReadsAsked (edit_fields row.now) (codes "lengths") result }
+{
+    let route = some_route_at(row, Field::A)?;
+    nothing_from(row, Field::B)?;
+    Ok(Question::Lengths(route))
+}
+
+fn history_of(row: &SheetRecord<'_>) -> Result<Question, ReadFault>
+    requires { length (edit_fields row.now) ≤ 11 }
+    ensures { ReadsAsked (edit_fields row.now) (codes "history") result }
+{
+    let asset = asset_at(row, Field::A)?;
+    nothing_from(row, Field::B)?;
+    Ok(Question::List(Listing::History(asset.get())))
+}
+
 /// The question of this name.
 fn read_question(name: &[u8]) -> Option<Asked>
     ensures known { IfSome result (λ asked. name.now ≡ name_of asked) }
@@ -142,6 +203,10 @@ fn read_question(name: &[u8]) -> Option<Asked>
         b"find" => Some(Asked::Find),
         b"segments" => Some(Asked::Segments),
         b"where" => Some(Asked::Where),
+        b"rows" => Some(Asked::Rows),
+        b"overlay" => Some(Asked::Overlay),
+        b"lengths" => Some(Asked::Lengths),
+        b"history" => Some(Asked::History),
         _ => None,
     }
 }
@@ -157,6 +222,10 @@ fn question_of(alloc: Global, row: &SheetRecord<'_>, asked: Asked) -> Result<Que
         Asked::Find => find_of(row),
         Asked::Segments => segments_of(alloc, row),
         Asked::Where => where_of(row),
+        Asked::Rows => rows_of(row),
+        Asked::Overlay => overlay_of(alloc, row),
+        Asked::Lengths => lengths_of(row),
+        Asked::History => history_of(row),
     }
 }
 
@@ -176,7 +245,7 @@ fn question_by_name(alloc: Global, row: &SheetRecord<'_>) -> Result<Question, Re
 /// # Errors
 ///
 /// `Field` with the first field that is malformed, in the order of key, question, a to d: the question is `Verb`. Or
-/// `Memory` at the list of `segments`, behind fields that are well formed.
+/// `Memory` at the list of `segments` or `overlay`, behind fields that are well formed.
 pub fn question_in(alloc: Global, row: &ByteRecord) -> Result<(Key, Question), ReadFault>
     requires { length (fields_of row.now) ≤ 6 }
     ensures says { IfOk result (λ said. SaysQuestion (fields_of row.now) said.0 said.1) }

@@ -7,6 +7,7 @@ use crate::lock::ReadLock;
 use crate::still::Still;
 use sqlite::{Files, Start};
 use sqlite_disk::Modelled;
+use std::alloc::Global;
 use std::fs;
 use std::hash::{BuildHasher, RandomState};
 use std::io::{self, ErrorKind, Read};
@@ -35,15 +36,6 @@ pub(crate) fn open_regular(rt: &HostRuntime, path: &str) -> io::Result<fs::File>
     Ok(file)
 }
 
-// Opens the log, if it is there.
-fn open_log(rt: &HostRuntime, path: &str) -> io::Result<Option<fs::File>> {
-    match open_regular(rt, path) {
-        Ok(file) => Ok(Some(file)),
-        Err(error) if error.kind() == ErrorKind::NotFound => Ok(None),
-        Err(error) => Err(error),
-    }
-}
-
 // Whether SQLite left a journal to play back. One that is missing, is empty or begins with a zero has nothing.
 fn has_hot_journal(rt: &HostRuntime, path: &str) -> io::Result<bool> {
     match fs::symlink_metadata(rt, path) {
@@ -55,6 +47,76 @@ fn has_hot_journal(rt: &HostRuntime, path: &str) -> io::Result<bool> {
     let mut journal = fs::open(rt, path)?;
     let mut first = [0];
     Ok(journal.read(&mut first)? == 1 && first[0] != 0)
+}
+
+// Refuses a database beside which SQLite left a journal to play back.
+fn refuse_journal(rt: &HostRuntime, path: &str) -> io::Result<()> {
+    let journal = format!(in rt.alloc(); "{path}-journal")?;
+    if has_hot_journal(rt, journal.as_str())? {
+        return Err(ErrorKind::Unsupported.into());
+    }
+    Ok(())
+}
+
+// Opens the log of a database, if it is there.
+fn open_log(rt: &HostRuntime, path: &str) -> io::Result<Option<fs::File>> {
+    let log = format!(in rt.alloc(); "{path}-wal")?;
+    match open_regular(rt, log.as_str()) {
+        Ok(file) => Ok(Some(file)),
+        Err(error) if error.kind() == ErrorKind::NotFound => Ok(None),
+        Err(error) => Err(error),
+    }
+}
+
+// Opens a database, if the locks are those on it.
+fn open_locked(rt: &HostRuntime, path: &str, lock: &ReadLock) -> io::Result<fs::File> {
+    let db = open_regular(rt, path)?;
+    if !lock.is_on(&db)? {
+        return Err(ErrorKind::Unsupported.into());
+    }
+    Ok(db)
+}
+
+// Opens a database and its log, as they are.
+fn open_both(
+    rt: &HostRuntime,
+    path: &str,
+    lock: &ReadLock,
+) -> io::Result<(fs::File, Option<fs::File>)> {
+    let db = open_locked(rt, path, lock)?;
+    refuse_journal(rt, path)?;
+    let log = open_log(rt, path)?;
+    Ok((db, log))
+}
+
+// A file that held what `S` says, settled.
+fn settled<S: Start>(
+    file: Option<fs::File>,
+    is_log: bool,
+    alloc: Global,
+    key: u64,
+) -> io::Result<StillFrom<S>>
+    ensures usable { IfOk result (λ file. IsTrue (still_is_usable S.Start file)) }
+    ensures fresh { IfOk result (IsFresh is_log) }
+{
+    let still = Still::settled(file, alloc, key)?;
+    Ok(Modelled::new(still, is_log, key))
+}
+
+// A log and a database file, settled.
+fn settled_pair<S: Start>(
+    db: fs::File,
+    log: Option<fs::File>,
+    alloc: Global,
+    key: u64,
+) -> io::Result<Files<StillFrom<S>>>
+    ensures log { IfOk result (λ files. IsTrue (still_is_usable S.Start files.log)) }
+    ensures db { IfOk result (λ files. IsTrue (still_is_usable S.Start files.db)) }
+    ensures fresh { IfOk result (λ files. IsFresh true files.log × IsFresh false files.db) }
+{
+    let log = settled(log, true, alloc, key)?;
+    let db = settled(Some(db), false, alloc, key)?;
+    Ok(Files { log, db })
 }
 
 /// The log and the database file at `path`, of which none is made, under the locks on them. `_start` stands for what they
@@ -72,23 +134,9 @@ pub(crate) fn open_pair<S: Start>(
     ensures db { IfOk result (λ files. IsTrue (still_is_usable S.Start files.db)) }
     ensures fresh { IfOk result (λ files. IsFresh true files.log × IsFresh false files.db) }
 {
+    let key = RandomState::new(rt)?.hash_one(&0u8);
     // As in SQLite, the files lie where a link leads, and no link is followed after that.
     let real = fs::canonicalize(rt, path)?;
-    let db = open_regular(rt, real.as_str())?;
-    if !lock.is_on(&db)? {
-        return Err(ErrorKind::Unsupported.into());
-    }
-    let journal = format!(in rt.alloc(); "{}-journal", real.as_str())?;
-    if has_hot_journal(rt, journal.as_str())? {
-        return Err(ErrorKind::Unsupported.into());
-    }
-    let log_path = format!(in rt.alloc(); "{}-wal", real.as_str())?;
-    let log = open_log(rt, log_path.as_str())?;
-    let key = RandomState::new(rt)?.hash_one(&0u8);
-    let log = Still::settled(log, rt.alloc(), key)?;
-    let db = Still::settled(Some(db), rt.alloc(), key)?;
-    Ok(Files {
-        log: Modelled::new(log, true, key),
-        db: Modelled::new(db, false, key),
-    })
+    let (db, log) = open_both(rt, real.as_str(), lock)?;
+    settled_pair(db, log, rt.alloc(), key)
 }

@@ -55,6 +55,7 @@ fn sheet_of(resource: Resource) -> Option<Sheet>
         | Resource::Marks
         | Resource::Pieces
         | Resource::Rows
+        | Resource::Overlay
         | Resource::Lengths
         | Resource::Gone
         | Resource::History
@@ -83,6 +84,7 @@ fn needs_commits(resource: Resource) -> bool
         | Resource::Marks
         | Resource::Pieces
         | Resource::Rows
+        | Resource::Overlay
         | Resource::Lengths
         | Resource::Gone
         | Resource::History

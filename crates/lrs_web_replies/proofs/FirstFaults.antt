@@ -4,15 +4,16 @@ use Rattle.std.specs.Prelude.{⊤}
 use Rattle.lrs_measure.specs.Texts.{Name}
 use Rattle.lrs_position.specs.declared.expression.Expr.{Expr}
 use Rattle.lrs_events.specs.declared.side.Side.{Side as HandSide}
+use Rattle.lrs_events.specs.declared.side.LinkSide.{LinkSide}
 use Rattle.lrs_machine.specs.declared.question.Place.{Place}
 use Rattle.lrs_web_requests.specs.declared.paths.Resource.{Resource}
 use Rattle.lrs_web_requests.specs.declared.paths.Resource.TheVariants as path
 use Rattle.lrs_web_replies.specs.declared.question.Parameter.{Parameter}
-use Rattle.lrs_web_replies.specs.declared.question.Parameter.TheVariants.{Route, RouteOrAll, Method, Position, To, Side, Class, ClassOrAll, ClassesOrAll, From, UpTo, Asset, AssetOrAll, FirstEdit, EditOrAll, Since, Until, Exact, RowsOnLinks, Chainage, OnLink, Millimetre}
+use Rattle.lrs_web_replies.specs.declared.question.Parameter.TheVariants.{Route, RouteOrAll, Method, Position, To, Side, SideOrBoth, Class, ClassOrAll, ClassesOrAll, From, UpTo, Asset, AssetOrAll, FirstEdit, EditOrAll, Since, Until, Exact, RowsOnLinks, Gaps, Chainage, OnLink, Millimetre}
 use Rattle.lrs_web_replies.specs.declared.question.QueryFault.{QueryFault}
 use Rattle.lrs_web_replies.specs.declared.question.QueryFault.TheVariants.{Malformed, NoRoute, Memory}
 use Rattle.lrs_web_replies.specs.Faults.{Lacks, LacksForm, LacksPosition}
-use Rattle.lrs_web_replies.specs.Questions.{Text, CannotAsk, GivesAssetOrAll, GivesClassOrAll, GivesClassesOrAll, GivesEditOrAll, GivesFirstEdit, GivesFrom, GivesLink, GivesPosition, GivesRoute, GivesRouteOrAll, GivesSide, GivesSince, GivesUntil, GivesUpTo, IsFirstMalformed, IsGiven, is_on_link, parameters_of}
+use Rattle.lrs_web_replies.specs.Questions.{Text, CannotAsk, GivesAssetOrAll, GivesClassOrAll, GivesClassesOrAll, GivesEditOrAll, GivesFirstEdit, GivesFrom, GivesGaps, GivesLink, GivesPosition, GivesRoute, GivesRouteOrAll, GivesSide, GivesSideOrBoth, GivesSince, GivesUntil, GivesUpTo, IsFirstMalformed, IsGiven, is_on_link, parameters_of}
 
 -- the fault is the first of these, or memory ran out
 abbrev FaultAmong : Text → List Parameter → QueryFault → Type 0
@@ -204,6 +205,64 @@ rows_form query e route from to class asset given began ended named numbered lac
 
 pub lengths_route : (query : Text) (e : QueryFault) → Lacks RouteOrAll query e → CannotAsk path.Lengths query e
 lengths_route query e lacks = cannot path.Lengths query e (first query RouteOrAll [] e lacks)
+
+-- ---- overlays
+
+-- the parameters of an overlay from each on, in their order
+abbrev from_gaps : List Parameter
+from_gaps = Gaps ∷ Class ∷ []
+
+abbrev from_up_to : List Parameter
+from_up_to = UpTo ∷ from_gaps
+
+abbrev from_stretch : List Parameter
+from_stretch = From ∷ from_up_to
+
+abbrev from_side : List Parameter
+from_side = SideOrBoth ∷ from_stretch
+
+pub overlay_route : (query : Text) (e : QueryFault) → Lacks RouteOrAll query e → CannotAsk path.Overlay query e
+overlay_route query e lacks = cannot path.Overlay query e (first query RouteOrAll from_side e lacks)
+
+-- behind a route, or none, that is given
+overlay_behind_route : (query : Text) (e : QueryFault) (route : Option Name) → GivesRouteOrAll query route → FaultAmong query from_side e → CannotAsk path.Overlay query e
+overlay_behind_route query e route given among = cannot path.Overlay query e (later query RouteOrAll from_side e (route, given) among)
+
+pub overlay_side : (query : Text) (e : QueryFault) (route : Option Name) → GivesRouteOrAll query route → Lacks SideOrBoth query e → CannotAsk path.Overlay query e
+overlay_side query e route given lacks = overlay_behind_route query e route given (first query SideOrBoth from_stretch e lacks)
+
+-- behind a side, or none, that is given
+overlay_behind_side : (query : Text) (e : QueryFault) (route : Option Name) (side : Option LinkSide) → GivesRouteOrAll query route → GivesSideOrBoth query side
+    → FaultAmong query from_stretch e → CannotAsk path.Overlay query e
+overlay_behind_side query e route side given seen among = overlay_behind_route query e route given (later query SideOrBoth from_stretch e (side, seen) among)
+
+pub overlay_from : (query : Text) (e : QueryFault) (route : Option Name) (side : Option LinkSide) → GivesRouteOrAll query route → GivesSideOrBoth query side
+    → Lacks From query e → CannotAsk path.Overlay query e
+overlay_from query e route side given seen lacks = overlay_behind_side query e route side given seen (first query From from_up_to e lacks)
+
+-- behind a start, or none, that is given
+overlay_behind_from : (query : Text) (e : QueryFault) (route : Option Name) (side : Option LinkSide) (from : Option Place) → GivesRouteOrAll query route → GivesSideOrBoth query side
+    → GivesFrom query from → FaultAmong query from_up_to e → CannotAsk path.Overlay query e
+overlay_behind_from query e route side from given seen began among = overlay_behind_side query e route side given seen (later query From from_up_to e (from, began) among)
+
+pub overlay_to : (query : Text) (e : QueryFault) (route : Option Name) (side : Option LinkSide) (from : Option Place) → GivesRouteOrAll query route → GivesSideOrBoth query side
+    → GivesFrom query from → Lacks UpTo query e → CannotAsk path.Overlay query e
+overlay_to query e route side from given seen began lacks = overlay_behind_from query e route side from given seen began (first query UpTo from_gaps e lacks)
+
+-- behind an end, or none, that is given
+overlay_behind_to : (query : Text) (e : QueryFault) (route : Option Name) (side : Option LinkSide) (from to : Option Place) → GivesRouteOrAll query route → GivesSideOrBoth query side
+    → GivesFrom query from → GivesUpTo query to → FaultAmong query from_gaps e → CannotAsk path.Overlay query e
+overlay_behind_to query e route side from to given seen began ended among =
+    overlay_behind_from query e route side from given seen began (later query UpTo from_gaps e (to, ended) among)
+
+pub overlay_gaps : (query : Text) (e : QueryFault) (route : Option Name) (side : Option LinkSide) (from to : Option Place) → GivesRouteOrAll query route → GivesSideOrBoth query side
+    → GivesFrom query from → GivesUpTo query to → Lacks Gaps query e → CannotAsk path.Overlay query e
+overlay_gaps query e route side from to given seen began ended lacks = overlay_behind_to query e route side from to given seen began ended (first query Gaps (Class ∷ []) e lacks)
+
+pub overlay_class : (query : Text) (e : QueryFault) (route : Option Name) (side : Option LinkSide) (from to : Option Place) (gaps : Bool) → GivesRouteOrAll query route → GivesSideOrBoth query side
+    → GivesFrom query from → GivesUpTo query to → GivesGaps query gaps → Lacks Class query e → CannotAsk path.Overlay query e
+overlay_class query e route side from to gaps given seen began ended asked lacks =
+    overlay_behind_to query e route side from to given seen began ended (later query Gaps (Class ∷ []) e (gaps, asked) (first query Class [] e lacks))
 
 -- ---- places
 

@@ -4,3 +4,4 @@ pub mod ClassNames
 pub mod Said
 pub mod Listing
 pub mod WrittenLines
+pub mod Overlaid

@@ -2,21 +2,25 @@
 use Rattle.std.proofs.Common.{◌≡◌, ℕ, List, [], ◌∷◌, Bool, false, ◌||◌, map, codes, refl, ap, ◌∙◌, Option, None, Some}
 use Rattle.serde_json.specs.Data.{Data, Members, no_members, object, put}
 use Rattle.serde_json.specs.Written.{has_float}
+use Rattle.lrs_measure.specs.Runs.{Run}
 use Rattle.lrs_measure.specs.Texts.{Name}
 use Rattle.lrs_element.specs.declared.link.Ground.{Ground}
 use Rattle.lrs_element.specs.declared.link.Piece.{Piece}
 use Rattle.lrs_position.specs.declared.route.Route.{Route}
 use Rattle.lrs_events.specs.declared.class.Asset.{Asset}
+use Rattle.lrs_events.specs.declared.side.LinkSide.{LinkSide}
 use Rattle.lrs_events.specs.declared.part.Gone.{Gone}
 use Rattle.lrs_events.specs.declared.part.Part.{Part}
 use Rattle.lrs_events.specs.declared.span.Span.{Span}
 use Rattle.lrs_machine.specs.declared.segment.Segment.{Segment}
 use Rattle.lrs_machine.specs.declared.hit.Hit.{Hit}
+use Rattle.lrs_machine.specs.Segments.{Values}
 use Rattle.lrs_report_answers.specs.declared.places.answer.Whereabouts.{Whereabouts}
 use Rattle.lrs_machine.specs.declared.image.Edit.{Edit}
 use Rattle.lrs_report_lists.specs.declared.link_rows.LinkStretch.{LinkStretch}
 use Rattle.lrs_web_replies.specs.Listings.{event_data_with, gone_data_with, link_row_data, named_list, row_data_with}
 use Rattle.lrs_web_replies.specs.JsonParts.{each}
+use Rattle.lrs_web_replies.specs.Overlay.{held_data, overlay_item}
 use Rattle.lrs_web_replies.specs.Answers.{at_data, hit_data, mark_data, piece_data, referent_data, route_data, ShowsRoute, value_data, segment_data, place_data, whereabouts_data}
 
 neither : (a b : Bool) → a ≡ false → b ≡ false → (a || b) ≡ false
@@ -84,3 +88,12 @@ gone_whole (Some e) (Some a) g = refl
 pub event_whole : (e : Option Edit) (event : List ℕ) (p : Part) → has_float (event_data_with e event p) ≡ false
 event_whole None event p = refl
 event_whole (Some e) event p = refl
+
+-- ---- segments of an overlay
+
+held_whole : (o : Option Name) → has_float (held_data o) ≡ false
+held_whole None = refl
+held_whole (Some value) = refl
+
+pub overlay_whole : (route : Route) (side : LinkSide) (s : Run Values) → has_float (overlay_item route side s) ≡ false
+overlay_whole route side s = neither (has_float (each held_data s.value)) false (each_whole held_data held_whole s.value) refl

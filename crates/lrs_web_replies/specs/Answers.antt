@@ -121,11 +121,11 @@ found_data rows = with ((codes "rows", each row_data rows) ∷ [])
 
 -- ---- lengths
 
--- a value of a class: how many millimetres of the routes it holds on the left, on either side, and on the right
+-- a value of a class: how many assets hold it, and how many millimetres of the routes it holds on the left, on either side, and on the right
 abbrev pub length_data : ValueLength → Data
 length_data l = with (
-    (codes "class", string l.class) ∷ (codes "left", whole l.left) ∷ (codes "length", whole l.length) ∷ (codes "right", whole l.right)
-    ∷ (codes "value", string l.value) ∷ []
+    (codes "assets", whole l.assets) ∷ (codes "class", string l.class) ∷ (codes "left", whole l.left) ∷ (codes "length", whole l.length)
+    ∷ (codes "right", whole l.right) ∷ (codes "value", string l.value) ∷ []
     )
 
 abbrev pub lengths_data : List ValueLength → Data

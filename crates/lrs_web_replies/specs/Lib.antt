@@ -6,4 +6,5 @@ pub mod Faults
 pub mod Replies
 pub mod Listings
 pub mod Parts
+pub mod Overlay
 pub mod QuestionAnswers

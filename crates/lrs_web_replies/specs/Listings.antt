@@ -1,6 +1,6 @@
 -- Lists as JSON and as CSV. As JSON each is the one member of an object, with the columns of the lists that are CSV as the members of each entry; the log is an edit sheet in either.
 
--- An object has its members in the order of their names, and a list its entries in the order in which the image keeps them.
+-- An object has its members in the order of their names, and a list its entries in the order in which the image keeps them; rows are in that of the road.
 use Rattle.std.specs.Prelude.{ℕ, ◌+◌, Bool, List, [], ◌∷◌, ◌++◌, codes, filter, length, map, Option, Some, None}
 use Rattle.std.specs.List.{flat_map}
 use Rattle.std.specs.Option.{option_map_or}
@@ -34,6 +34,7 @@ use Rattle.lrs_report_lists.specs.LinkRows.{on_piece}
 use Rattle.lrs_report_lists.specs.Lists.{classes_text, gone_text, history_text, links_text, marks_text, pieces_text, refs_text, routes_named, routes_text, rows_text}
 use Rattle.lrs_report_lists.specs.Measures.{decimal_measure_text, measure_text}
 use Rattle.lrs_report_lists.specs.PlacedPieces.{placed_pieces}
+use Rattle.lrs_report_lists.specs.RoadOrder.{in_road_order}
 use Rattle.lrs_report_lists.specs.WantedRows.{is_gone_of, is_gone_wanted, is_part_of, is_wanted}
 use Rattle.lrs_report_lists.specs.declared.link_rows.LinkStretch.{LinkStretch}
 use Rattle.lrs_sheet_log.specs.Log.{edits_text, edits_under, log_text}
@@ -117,9 +118,9 @@ row_items_with form.OnLinks a route r = flat_map (link_row_items a route r) (pla
 abbrev pub row_items : RowForm → List Asset → Route → Span → List Data
 row_items told assets route r = row_items_with told (asset_numbered assets r.asset) route r
 
--- the rows of a route that are asked for
+-- the rows of a route that are asked for, in the order of the road
 abbrev pub rows_of : RowsWanted → List Asset → RouteRow → List Data
-rows_of w assets e = flat_map (row_items w.form assets e.route) (filter (is_wanted w) e.spans)
+rows_of w assets e = flat_map (row_items w.form assets e.route) (in_road_order (filter (is_wanted w) e.spans))
 
 -- ---- what is gone
 

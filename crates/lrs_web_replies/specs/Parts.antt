@@ -16,8 +16,9 @@ use Rattle.lrs_machine.specs.declared.image.Image.{Image}
 use Rattle.lrs_machine.specs.declared.image.RouteRow.{RouteRow}
 use Rattle.lrs_machine.specs.Lines.{Text}
 use Rattle.lrs_machine.specs.declared.question.GoneWanted.{GoneWanted}
+use Rattle.lrs_machine.specs.declared.question.RowForm.{RowForm}
 use Rattle.lrs_machine.specs.declared.question.RowsWanted.{RowsWanted}
-use Rattle.lrs_report_lists.specs.WantedRows.{is_gone_of, is_gone_wanted, is_part_of, is_wanted}
+use Rattle.lrs_report_lists.specs.WantedRows.{is_gone_of, is_gone_wanted, is_part_of}
 use Rattle.lrs_web_replies.specs.Listings.{entered_data, gone_data, left_data, row_items, rows_of}
 
 -- an object up to the value of its first member
@@ -45,9 +46,9 @@ segments_front route = front_text (codes "route") ++ (compact_text (string route
 abbrev pub segments_end : Side → Text
 segments_end side = name_text (codes "side") ++ (compact_text (string (side_text side)) ++ 125 ∷ [])
 
--- a row, where it is asked for
-abbrev pub row_part : RowsWanted → List Asset → Route → Span → Text
-row_part w assets route r = if is_wanted w r then flat_map item_text (row_items w.form assets route r) else []
+-- a row in a form
+abbrev pub row_part : RowForm → List Asset → Route → Span → Text
+row_part told assets route r = flat_map item_text (row_items told assets route r)
 
 -- the rows of a route that are asked for
 abbrev pub rows_part : RowsWanted → List Asset → RouteRow → Text

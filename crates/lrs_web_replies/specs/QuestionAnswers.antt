@@ -13,9 +13,10 @@ use Rattle.lrs_web_requests.specs.Text.{Answer}
 use Rattle.lrs_web_requests.specs.declared.paths.Format.{Format}
 use Rattle.lrs_web_replies.specs.Answers.{at_data, ShowsRoute, segments_data, translated_data, on_link_data, totals_data, found_data, whereabouts_data, lengths_data, health_data}
 use Rattle.lrs_web_replies.specs.Listings.{in_format, listing_answer, rows_answer}
+use Rattle.lrs_web_replies.specs.Overlay.{overlay_answer}
 use Rattle.lrs_web_replies.specs.Replies.{json_answer, svg_answer, refusal}
 
--- The table: the reply to each answer. A list, rows and lengths are in the format that is asked for, the log is an edit sheet, a diagram a picture, and any other answer JSON.
+-- The table: the reply to each answer. A list, rows, an overlay and lengths are in the format that is asked for, the log is an edit sheet, a diagram a picture, and any other answer JSON.
 abbrev pub ShowsTold : Format → Told → Answer → Type 0
 ShowsTold format (told.At route found) answer = answer ≡ json_answer 200 (at_data route found.at found.ground found.hits)
 ShowsTold format (told.Route route) answer = (d : Data) × ShowsRoute route d × (answer ≡ json_answer 200 d)
@@ -28,6 +29,7 @@ ShowsTold format (told.Found rows) answer = answer ≡ json_answer 200 (found_da
 ShowsTold format (told.Where w) answer = answer ≡ json_answer 200 (whereabouts_data w)
 ShowsTold format (told.Lengths lengths) answer = answer ≡ in_format format (lengths_data lengths) (lengths_text lengths)
 ShowsTold format (told.Rows w inventory) answer = answer ≡ rows_answer format inventory.now w
+ShowsTold format (told.Overlay w inventory) answer = answer ≡ overlay_answer format inventory.now w
 ShowsTold format (told.Listing l inventory) answer = answer ≡ listing_answer format inventory.now l
 ShowsTold format (told.Health edits) answer = answer ≡ json_answer 200 (health_data edits)
 

@@ -10,22 +10,25 @@ use Rattle.lrs_position.specs.declared.expression.Method.{Method}
 use Rattle.lrs_position.specs.Names.{is_route_name}
 use Rattle.lrs_position.specs.Readings.{IsNamed, States, method_text, target_text}
 use Rattle.lrs_events.specs.declared.side.Side.{Side}
+use Rattle.lrs_events.specs.declared.side.LinkSide.{LinkSide}
 use Rattle.lrs_events.specs.Names.{is_class_name, side_text}
 use Rattle.lrs_machine.specs.PlaceTexts.{SaysPlace}
 use Rattle.lrs_machine.specs.declared.question.GoneWanted.{GoneWanted}
+use Rattle.lrs_machine.specs.declared.question.OverlayAsked.{OverlayAsked}
 use Rattle.lrs_machine.specs.declared.question.Place.{Place}
 use Rattle.lrs_machine.specs.declared.question.RowForm.{RowForm}
 use Rattle.lrs_machine.specs.declared.question.RowForm.TheVariants as form
 use Rattle.lrs_machine.specs.declared.question.RowsAsked.{RowsAsked}
 use Rattle.lrs_machine.specs.declared.question.AskedPlace.{AskedPlace}
 use Rattle.lrs_machine.specs.declared.question.AskedPlace.TheVariants as spot
+use Rattle.lrs_report_lists.specs.Lines.{link_side_text}
 use Rattle.lrs_web_requests.specs.Query.{parameter, parameters, switched, unknown_name}
 use Rattle.lrs_web_requests.specs.declared.paths.Resource.{Resource}
 use Rattle.lrs_web_requests.specs.declared.paths.Resource.TheVariants as path
 use Rattle.lrs_machine.specs.declared.question.Destination.{Destination}
 use Rattle.lrs_machine.specs.declared.question.Destination.TheVariants as destination
 use Rattle.lrs_web_replies.specs.declared.question.Parameter.{Parameter}
-use Rattle.lrs_web_replies.specs.declared.question.Parameter.TheVariants.{Route, RouteOrAll, Method as Way, Position, To, Side as Hand, Class, ClassOrAll, ClassesOrAll, From, UpTo, Asset, AssetOrAll, FirstEdit, EditOrAll, Since, Until, Exact, RowsOnLinks, Chainage, OnLink, Millimetre}
+use Rattle.lrs_web_replies.specs.declared.question.Parameter.TheVariants.{Route, RouteOrAll, Method as Way, Position, To, Side as Hand, SideOrBoth, Class, ClassOrAll, ClassesOrAll, From, UpTo, Asset, AssetOrAll, FirstEdit, EditOrAll, Since, Until, Exact, RowsOnLinks, Gaps, Chainage, OnLink, Millimetre}
 use Rattle.lrs_machine.specs.declared.question.Question.{Question}
 use Rattle.lrs_machine.specs.declared.question.Question.TheVariants as question
 use Rattle.lrs_machine.specs.declared.question.Listing.TheVariants as listing
@@ -48,6 +51,10 @@ SaysMethod text m = text ≡ method_text m
 
 abbrev pub SaysSide : Text → Side → Type 0
 SaysSide text side = text ≡ side_text side
+
+-- one side, not both
+abbrev pub SaysLinkSide : Text → LinkSide → Type 0
+SaysLinkSide text side = text ≡ link_side_text side
 
 -- a method and what it needs, or `link`
 abbrev pub SaysDestination : Text → Destination → Type 0
@@ -176,6 +183,20 @@ GivesRows query a =
     GivesRouteOrAll query a.route × GivesFrom query a.from × GivesUpTo query a.to × GivesClassOrAll query a.class × GivesAssetOrAll query a.asset
     × GivesForm query a.form
 
+-- both sides are meant where none is given
+abbrev pub GivesSideOrBoth : Text → Option LinkSide → Type 0
+GivesSideOrBoth query = SaidIfGiven SaysLinkSide (parameter (codes "side") query)
+
+-- whether an overlay is told only where a class has no value
+abbrev pub GivesGaps : Text → Bool → Type 0
+GivesGaps query gaps = switched (codes "gaps") query ≡ Some gaps
+
+-- of which classes an overlay is asked for, and where
+abbrev pub GivesOverlay : Text → OverlayAsked → Type 0
+GivesOverlay query a =
+    GivesRouteOrAll query a.route × GivesSideOrBoth query a.side × GivesFrom query a.from × GivesUpTo query a.to × GivesGaps query a.gaps
+    × GivesClasses query a.classes
+
 -- which parts that are gone are asked for
 abbrev pub GivesGone : Text → GoneWanted → Type 0
 GivesGone query w = GivesEditOrAll query w.edit × GivesSince query w.since × GivesUntil query w.until × GivesClassOrAll query w.class
@@ -231,6 +252,7 @@ AsksOf path.Refs query q = (route : Option Name) × (exact : Bool) × GivesRoute
 AsksOf path.Marks query q = (route : Option Name) × GivesRouteOrAll query route × (q ≡ question.List (listing.Marks route))
 AsksOf path.Pieces query q = (route : Option Name) × GivesRouteOrAll query route × (q ≡ question.List (listing.Pieces route))
 AsksOf path.Rows query q = (asked : RowsAsked) × GivesRows query asked × (q ≡ question.Rows asked)
+AsksOf path.Overlay query q = (asked : OverlayAsked) × GivesOverlay query asked × (q ≡ question.Overlay asked)
 AsksOf path.Gone query q = (wanted : GoneWanted) × GivesGone query wanted × (q ≡ question.List (listing.Gone wanted))
 AsksOf path.History query q = (asset : ℕ) × GivesAsset query asset × (q ≡ question.List (listing.History asset))
 AsksOf path.Log query q = (from : ℕ) × (until : Option ℕ) × GivesFirstEdit query from × GivesUntil query until × (q ≡ question.List (listing.Log from until))
@@ -251,6 +273,7 @@ parameters_of path.Refs query = RouteOrAll ∷ Exact ∷ []
 parameters_of path.Marks query = RouteOrAll ∷ []
 parameters_of path.Pieces query = RouteOrAll ∷ []
 parameters_of path.Rows query = RouteOrAll ∷ From ∷ UpTo ∷ ClassOrAll ∷ AssetOrAll ∷ Exact ∷ RowsOnLinks ∷ []
+parameters_of path.Overlay query = RouteOrAll ∷ SideOrBoth ∷ From ∷ UpTo ∷ Gaps ∷ Class ∷ []
 parameters_of path.Lengths query = RouteOrAll ∷ []
 parameters_of path.Gone query = EditOrAll ∷ Since ∷ Until ∷ ClassOrAll ∷ []
 parameters_of path.History query = Asset ∷ []
@@ -264,6 +287,7 @@ parameter_text Way = codes "method"
 parameter_text Position = codes "pos"
 parameter_text To = codes "to"
 parameter_text Hand = codes "side"
+parameter_text SideOrBoth = codes "side"
 parameter_text Class = codes "class"
 parameter_text ClassOrAll = codes "class"
 parameter_text ClassesOrAll = codes "class"
@@ -277,6 +301,7 @@ parameter_text Since = codes "since"
 parameter_text Until = codes "until"
 parameter_text Exact = codes "exact"
 parameter_text RowsOnLinks = codes "on_links"
+parameter_text Gaps = codes "gaps"
 parameter_text Chainage = codes "chainage"
 parameter_text OnLink = codes "link"
 parameter_text Millimetre = codes "mm"
@@ -289,6 +314,7 @@ IsGiven query Way = (m : Method) × GivesMethod query m
 IsGiven query Position = (e : Expr) × GivesPosition query e
 IsGiven query To = (to : Destination) × GivesDestination query to
 IsGiven query Hand = (side : Side) × GivesSide query side
+IsGiven query SideOrBoth = (side : Option LinkSide) × GivesSideOrBoth query side
 IsGiven query Class = (classes : List Name) × GivesClasses query classes
 IsGiven query ClassOrAll = (class : Option Name) × GivesClassOrAll query class
 IsGiven query ClassesOrAll = (classes : List Name) × GivesClassesOrAll query classes
@@ -302,6 +328,7 @@ IsGiven query Since = (since : Option ℕ) × GivesSince query since
 IsGiven query Until = (until : Option ℕ) × GivesUntil query until
 IsGiven query Exact = (exact : Bool) × GivesExact query exact
 IsGiven query RowsOnLinks = (told : RowForm) × GivesForm query told
+IsGiven query Gaps = (gaps : Bool) × GivesGaps query gaps
 IsGiven query Chainage = (place : Place) × GivesPlaceOnRoute query place
 IsGiven query OnLink = (link : ℕ) × GivesLink query link
 IsGiven query Millimetre = (mm : ℕ) × GivesMillimetre query mm

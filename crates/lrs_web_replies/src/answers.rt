@@ -291,7 +291,7 @@ pub fn found_json(alloc: Global, rows: &[FoundRow]) -> Result<Vec<u8>, AllocErro
     list_json(alloc, "rows", rows)
 }
 
-/// How long each value of each class is, in millimetres.
+/// How long each value of each class is, in millimetres, and how many assets hold it.
 ///
 /// # Errors
 /// When memory runs out.

@@ -82,6 +82,7 @@ impl Shown for ValueLength {
         object_of(
             alloc,
             &[
+                Member("assets", Scalar::Whole(self.assets)),
                 Member("class", Scalar::Class(self.class)),
                 Member("left", Scalar::Whole(self.left)),
                 Member("length", Scalar::Whole(self.length)),
@@ -109,14 +110,14 @@ impl Shown for Expr {
 }
 
 /// The measure at a chainage; no text behind the route.
-fn measure_at(route: &Route, chainage: u64) -> Scalar
+pub(crate) fn measure_at(route: &Route, chainage: u64) -> Scalar
     ensures { scalar_data result ≡ string (measure_text route.now.marks chainage) }
 {
     Scalar::Measure(measure_on(route, chainage))
 }
 
 /// The same as a decimal with three places.
-fn decimal_at(route: &Route, chainage: u64) -> Scalar
+pub(crate) fn decimal_at(route: &Route, chainage: u64) -> Scalar
     ensures { scalar_data result ≡ string (decimal_measure_text route.now.marks chainage) }
 {
     Scalar::Thousandths(thousandths_on(route, chainage))

@@ -11,6 +11,7 @@ mod list_parameters;
 mod list_text;
 mod listings;
 mod members;
+mod overlay;
 mod parameters;
 mod parts;
 mod question;

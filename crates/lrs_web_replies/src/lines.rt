@@ -96,13 +96,13 @@ pub(crate) fn rows_lines(
     ensures { IfOk result (λ bytes. bytes.items ≡ rows_text wanted.now (image_of kept.now)) }
 {
     let mut text = BoundedBytes::new(alloc, most);
-    match write_rows(&mut text, kept, wanted) {
+    match write_rows(alloc, &mut text, kept, wanted) {
         Ok(()) => Ok(text.bytes),
         Err(_) => Err(AllocError),
     }
 }
 
-/// The lengths of values as CSV, in metres.
+/// The lengths of values as CSV, in metres, and how many assets hold them.
 ///
 /// # Errors
 /// When memory or so many bytes do not suffice.

@@ -2,15 +2,15 @@
 
 ghost use Rattle.std.specs.Prelude.{◌≡◌, IfOk, IfErr, true, false};
 ghost use Rattle.lrs_web_requests.specs.declared.paths.Resource.TheVariants as path;
-ghost use Rattle.lrs_web_replies.specs.Questions.{AsksOf, CannotAsk, GivesGone, GivesRows, GivesSpot, is_on_link};
+ghost use Rattle.lrs_web_replies.specs.Questions.{AsksOf, CannotAsk, GivesGone, GivesOverlay, GivesRows, GivesSpot, is_on_link};
 
 use crate::parameters::{
-    asset_in, asset_or_all_in, class_or_all_in, edit_or_all_in, exact_in, first_edit_in, form_in,
-    from_in, is_on_link, link_in, millimetre_in, place_on_route_in, route_in, route_or_all_in,
-    since_in, to_in, until_in,
+    asset_in, asset_or_all_in, class_or_all_in, classes_in, edit_or_all_in, exact_in,
+    first_edit_in, form_in, from_in, gaps_in, is_on_link, link_in, millimetre_in,
+    place_on_route_in, route_in, route_or_all_in, side_or_both_in, since_in, to_in, until_in,
 };
 use crate::question::QueryFault;
-use lrs_machine::{AskedPlace, GoneWanted, Listing, Question, RowsAsked};
+use lrs_machine::{AskedPlace, GoneWanted, Listing, OverlayAsked, Question, RowsAsked};
 use std::alloc::Global;
 
 #[tactic(auto, using(crate::proofs::FirstFaults::rows_route, crate::proofs::FirstFaults::rows_from, crate::proofs::FirstFaults::rows_to, crate::proofs::FirstFaults::rows_class, crate::proofs::FirstFaults::rows_asset, crate::proofs::FirstFaults::rows_form))]
@@ -102,6 +102,35 @@ pub(crate) fn rows_question(alloc: Global, query: &[u8]) -> Result<Question, Que
 {
     let asked = rows_in(alloc, query)?;
     Ok(Question::Rows(asked))
+}
+
+#[tactic(auto, using(crate::proofs::FirstFaults::overlay_route, crate::proofs::FirstFaults::overlay_side, crate::proofs::FirstFaults::overlay_from, crate::proofs::FirstFaults::overlay_to, crate::proofs::FirstFaults::overlay_gaps, crate::proofs::FirstFaults::overlay_class))]
+fn overlay_in(alloc: Global, query: &[u8]) -> Result<OverlayAsked, QueryFault>
+    ensures asked { IfOk result (GivesOverlay query.now) }
+    ensures unasked { IfErr result (CannotAsk path.Overlay query.now) }
+{
+    let route = route_or_all_in(alloc, query)?;
+    let side = side_or_both_in(alloc, query)?;
+    let from = from_in(alloc, query)?;
+    let to = to_in(alloc, query)?;
+    let gaps = gaps_in(alloc, query)?;
+    let classes = classes_in(alloc, query)?;
+    Ok(OverlayAsked {
+        classes,
+        route,
+        side,
+        from,
+        to,
+        gaps,
+    })
+}
+
+pub(crate) fn overlay_question(alloc: Global, query: &[u8]) -> Result<Question, QueryFault>
+    ensures asked { IfOk result (AsksOf path.Overlay query.now) }
+    ensures unasked { IfErr result (CannotAsk path.Overlay query.now) }
+{
+    let asked = overlay_in(alloc, query)?;
+    Ok(Question::Overlay(asked))
 }
 
 #[tactic(auto, using(crate::proofs::FirstFaults::lengths_route))]

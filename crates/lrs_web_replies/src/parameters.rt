@@ -7,12 +7,12 @@ ghost use Rattle.lrs_events.specs.Names.{is_class_name};
 ghost use Rattle.lrs_position.specs.declared.expression.Expr.{Expr as Expression};
 ghost use Rattle.lrs_machine.specs.PlaceTexts.{SaysPlace};
 ghost use Rattle.lrs_machine.specs.declared.question.Place.{Place as PlaceValue};
-ghost use Rattle.lrs_web_replies.specs.Questions.{Said, SaidIfGiven, SaysDestination, SaysNumber, GivesAsset, GivesAssetOrAll, GivesClassOrAll, GivesClasses, GivesClassesOrAll, GivesDestination, GivesEditOrAll, GivesExact, GivesFirstEdit, GivesForm, GivesFrom, GivesLink, GivesMethod, GivesMillimetre, GivesPlaceOnRoute, GivesPosition, GivesPositionBy, GivesRoute, GivesRouteOrAll, GivesSide, GivesSince, GivesUntil, GivesUpTo, form_by, is_on_link};
+ghost use Rattle.lrs_web_replies.specs.Questions.{Said, SaidIfGiven, SaysDestination, SaysLinkSide, SaysNumber, GivesAsset, GivesAssetOrAll, GivesClassOrAll, GivesClasses, GivesClassesOrAll, GivesDestination, GivesEditOrAll, GivesExact, GivesFirstEdit, GivesForm, GivesFrom, GivesGaps, GivesLink, GivesMethod, GivesMillimetre, GivesPlaceOnRoute, GivesPosition, GivesPositionBy, GivesRoute, GivesRouteOrAll, GivesSide, GivesSideOrBoth, GivesSince, GivesUntil, GivesUpTo, form_by, is_on_link};
 ghost use Rattle.lrs_web_requests.specs.Query.{parameter, switched};
 ghost use Rattle.lrs_web_replies.specs.Faults.{Lacks, LacksForm, LacksPosition};
 
 use crate::question::{Parameter, QueryFault};
-use lrs_events::{ClassName, Side, read_side};
+use lrs_events::{ClassName, LinkSide, Side, read_side};
 use lrs_machine::{Destination, Place, RowForm, read_place};
 use lrs_measure::limits::{GREATEST_ASSET, GREATEST_LINK, LONGEST_LINK, MOST_EDITS};
 use lrs_measure::{Rows, read_digits};
@@ -30,6 +30,8 @@ const NO_POSITION: QueryFault = QueryFault::Malformed(Parameter::Position);
 const NO_DESTINATION: QueryFault = QueryFault::Malformed(Parameter::To);
 
 const NO_SIDE: QueryFault = QueryFault::Malformed(Parameter::Side);
+
+const NO_SIDE_OR_BOTH: QueryFault = QueryFault::Malformed(Parameter::SideOrBoth);
 
 const NO_CLASS: QueryFault = QueryFault::Malformed(Parameter::Class);
 
@@ -58,6 +60,8 @@ const NO_UNTIL: QueryFault = QueryFault::Malformed(Parameter::Until);
 const NO_EXACT: QueryFault = QueryFault::Malformed(Parameter::Exact);
 
 const NO_FORM: QueryFault = QueryFault::Malformed(Parameter::RowsOnLinks);
+
+const NO_GAPS: QueryFault = QueryFault::Malformed(Parameter::Gaps);
 
 const NO_CHAINAGE: QueryFault = QueryFault::Malformed(Parameter::Chainage);
 
@@ -151,6 +155,32 @@ pub(crate) fn side_in(alloc: Global, query: &[u8]) -> Result<Side, QueryFault>
             None => Err(NO_SIDE),
         },
         None => Err(NO_SIDE),
+    }
+}
+
+/// The side of a text that is not both.
+fn read_link_side(text: &str) -> Option<LinkSide>
+    ensures read { IfSome result (SaysLinkSide text.now) }
+    ensures unread { IfNone result ((side : _) → SaysLinkSide text.now side → ⊥) }
+{
+    match text {
+        "L" => Some(LinkSide::Left),
+        "R" => Some(LinkSide::Right),
+        _ => None,
+    }
+}
+
+/// The side of which an overlay is asked for, if one is named.
+pub(crate) fn side_or_both_in(alloc: Global, query: &[u8]) -> Result<Option<LinkSide>, QueryFault>
+    ensures read { IfOk result (GivesSideOrBoth query.now) }
+    ensures unread { IfErr result (Lacks Parameter.SideOrBoth query.now) }
+{
+    match value_of(alloc, query, "side")? {
+        Some(text) => match read_link_side(text.as_str()) {
+            Some(side) => Ok(Some(side)),
+            None => Err(NO_SIDE_OR_BOTH),
+        },
+        None => Ok(None),
     }
 }
 
@@ -410,6 +440,17 @@ pub(crate) fn form_in(alloc: Global, query: &[u8]) -> Result<RowForm, QueryFault
     match form_by(exact, on_links) {
         Some(form) => Ok(form),
         None => Err(NO_FORM),
+    }
+}
+
+/// Whether an overlay is told only where a class has no value.
+pub(crate) fn gaps_in(alloc: Global, query: &[u8]) -> Result<bool, QueryFault>
+    ensures read { IfOk result (GivesGaps query.now) }
+    ensures unread { IfErr result (Lacks Parameter.Gaps query.now) }
+{
+    match switched(alloc, query, "gaps")? {
+        Some(gaps) => Ok(gaps),
+        None => Err(NO_GAPS),
     }
 }
 

@@ -7,7 +7,7 @@ ghost use Rattle.lrs_web_replies.specs.Questions.{AsksOf, CannotAsk, parameter_t
 
 use crate::list_parameters::{
     gone_question, history_question, lengths_question, log_question, marks_question,
-    pieces_question, refs_question, rows_question, where_question,
+    overlay_question, pieces_question, refs_question, rows_question, where_question,
 };
 use crate::parameters::{
     asset_in, classes_in, classes_or_all_in, destination_in, from_in, position_in, route_in,
@@ -29,6 +29,8 @@ pub enum Parameter {
     /// The destination of a translation.
     To,
     Side,
+    /// The side of an overlay, which may be left out for both.
+    SideOrBoth,
     Class,
     /// The class of a list, which may be left out for all.
     ClassOrAll,
@@ -53,6 +55,8 @@ pub enum Parameter {
     Exact,
     /// That rows are told on the links under them.
     RowsOnLinks,
+    /// That an overlay is told only where a class has no value.
+    Gaps,
     /// Where on a route a place is, by its chainage or by a position.
     Chainage,
     /// The link on which a place is.
@@ -71,7 +75,7 @@ impl Parameter {
             Parameter::Method => "method",
             Parameter::Position => "pos",
             Parameter::To | Parameter::UpTo => "to",
-            Parameter::Side => "side",
+            Parameter::Side | Parameter::SideOrBoth => "side",
             Parameter::Class | Parameter::ClassOrAll | Parameter::ClassesOrAll => "class",
             Parameter::From | Parameter::FirstEdit => "from",
             Parameter::Asset | Parameter::AssetOrAll => "asset",
@@ -80,6 +84,7 @@ impl Parameter {
             Parameter::Until => "until",
             Parameter::Exact => "exact",
             Parameter::RowsOnLinks => "on_links",
+            Parameter::Gaps => "gaps",
             Parameter::Chainage => "chainage",
             Parameter::OnLink => "link",
             Parameter::Millimetre => "mm",
@@ -226,6 +231,7 @@ pub fn question_of(
         Resource::Marks => marks_question(alloc, argument),
         Resource::Pieces => pieces_question(alloc, argument),
         Resource::Rows => rows_question(alloc, argument),
+        Resource::Overlay => overlay_question(alloc, argument),
         Resource::Gone => gone_question(alloc, argument),
         Resource::History => history_question(alloc, argument),
         Resource::Log => log_question(alloc, argument),

@@ -16,6 +16,7 @@ use crate::answers::{
 use crate::bounded::BoundedBytes;
 use crate::lines::lengths_lines;
 use crate::listings::listing_reply;
+use crate::overlay::overlay_reply;
 use crate::reply::{csv_reply, found_reply, refusal, svg_reply};
 use crate::row_lists::rows_reply;
 use lrs_events::Side;
@@ -101,8 +102,8 @@ fn lengths_reply(
     }
 }
 
-/// The reply to what is told to a question: a list, rows and lengths in a format, the log as CSV, a diagram as SVG, and any
-/// other answer as JSON.
+/// The reply to what is told to a question: a list, rows, an overlay and lengths in a format, the log as CSV, a diagram as
+/// SVG, and any other answer as JSON.
 fn told_reply(
     alloc: Global,
     most: usize,
@@ -132,6 +133,9 @@ fn told_reply(
         Told::Where(found) => Ok(found_reply(whereabouts_json(alloc, &found)?)),
         Told::Lengths(rows) => lengths_reply(alloc, most, format, rows.as_slice()),
         Told::Rows { wanted, inventory } => rows_reply(alloc, most, format, inventory, &wanted),
+        Told::Overlay { wanted, inventory } => {
+            overlay_reply(alloc, most, format, inventory, &wanted)
+        }
         Told::Listing { listing, inventory } => {
             listing_reply(alloc, most, format, inventory, &listing)
         }
@@ -139,8 +143,8 @@ fn told_reply(
     }
 }
 
-/// The reply to what is told to a question: its answer, or why it is refused. The format is that of lists, rows and
-/// lengths. It is no longer made once it has so many bytes.
+/// The reply to what is told to a question: its answer, or why it is refused. The format is that of lists, rows, overlays
+/// and lengths. It is no longer made once it has so many bytes.
 ///
 /// # Errors
 /// When memory or so many bytes do not suffice; the reply may be the empty 503 then, too.

@@ -11,7 +11,7 @@ ghost use Rattle.lrs_image.specs.OpenLists.{image_of};
 ghost use Rattle.lrs_report_lists.specs.PlacedPieces.{placed_from, placed_pieces};
 ghost use Rattle.lrs_report_lists.specs.WantedRows.{is_of_route};
 ghost use Rattle.lrs_web_requests.specs.Text.{answer_of};
-ghost use Rattle.lrs_web_replies.specs.Listings.{link_row_data, link_row_items, row_data_with, row_items, row_items_with, rows_answer, rows_data};
+ghost use Rattle.lrs_web_replies.specs.Listings.{link_row_data, link_row_items, row_data_with, row_items_with, rows_answer, rows_data};
 ghost use Rattle.lrs_web_replies.specs.Parts.{item_text, row_part, rows_part};
 
 use crate::entries::{link_row_value, row_value};
@@ -25,7 +25,7 @@ use lrs_inventory::Inventory;
 use lrs_machine::{RouteRow, RowForm, RowsWanted};
 use lrs_ordered::Chunked;
 use lrs_position::Route;
-use lrs_report_lists::{LinkStretch, asset_numbered, is_wanted, on_piece};
+use lrs_report_lists::{LinkStretch, asset_numbered, on_piece, rows_in_road_order};
 use lrs_web_requests::{Format, Response};
 use std::alloc::{AllocError, Global};
 
@@ -152,53 +152,33 @@ fn add_row(
     row: &Span,
 ) -> Result<(), AllocError>
     requires order { each_two asset_before assets.now.rows ≡ true }
-    ensures { OnOk result (bytes.new.items ≡ bytes.old.items
-        ++ flat_map item_text (row_items form assets.now.rows route.now row.now)) }
+    ensures { OnOk result (bytes.new.items
+        ≡ bytes.old.items ++ row_part form assets.now.rows route.now row.now) }
 {
     let asset = asset_numbered(assets, row.asset);
     add_row_with(alloc, most, bytes, form, asset, route, row)
-}
-
-/// Adds a row where it is asked for.
-fn add_wanted_row(
-    alloc: Global,
-    most: usize,
-    bytes: &mut Vec<u8>,
-    wanted: &RowsWanted,
-    assets: &Chunked<Asset>,
-    route: &Route,
-    row: &Span,
-) -> Result<(), AllocError>
-    requires order { each_two asset_before assets.now.rows ≡ true }
-    ensures { OnOk result (bytes.new.items
-        ≡ bytes.old.items ++ row_part wanted.now assets.now.rows route.now row.now) }
-{
-    if is_wanted(wanted, row) {
-        return add_row(alloc, most, bytes, wanted.form, assets, route, row);
-    }
-    Ok(())
 }
 
 fn add_rows_on(
     alloc: Global,
     most: usize,
     bytes: &mut Vec<u8>,
-    wanted: &RowsWanted,
+    form: RowForm,
     assets: &Chunked<Asset>,
     route: &Route,
     rows: &[Span],
 ) -> Result<(), AllocError>
     requires order { each_two asset_before assets.now.rows ≡ true }
     ensures { OnOk result (bytes.new.items
-        ≡ bytes.old.items ++ flat_map (row_part wanted.now assets.now.rows route.now) rows.now) }
+        ≡ bytes.old.items ++ flat_map (row_part form assets.now.rows route.now) rows.now) }
 {
     for row in rows {
-        add_wanted_row(alloc, most, bytes, wanted, assets, route, row)?;
+        add_row(alloc, most, bytes, form, assets, route, row)?;
     }
     Ok(())
 }
 
-/// Adds the rows of a route that are asked for.
+/// Adds the rows of a route that are asked for, in the order of the road.
 fn add_rows_of(
     alloc: Global,
     most: usize,
@@ -212,15 +192,8 @@ fn add_rows_of(
         ≡ bytes.old.items ++ rows_part wanted.now assets.now.rows route_row.now) }
 {
     let route = &route_row.route;
-    add_rows_on(
-        alloc,
-        most,
-        bytes,
-        wanted,
-        assets,
-        route,
-        route_row.spans.rows(),
-    )
+    let rows = rows_in_road_order(alloc, wanted, route_row.spans.rows())?;
+    add_rows_on(alloc, most, bytes, wanted.form, assets, route, &rows)
 }
 
 fn add_each_row(

@@ -33,6 +33,10 @@ pub fn unknown_in<'q>(
             let known = ["route", "from", "to", "class", "asset", "exact", "on_links"];
             unknown_name(alloc, argument, &known)
         }
+        Resource::Overlay => {
+            let known = ["route", "side", "from", "to", "gaps", "class"];
+            unknown_name(alloc, argument, &known)
+        }
         Resource::Refs => unknown_name(alloc, argument, &["route", "exact"]),
         Resource::Marks | Resource::Pieces | Resource::Lengths => {
             unknown_name(alloc, argument, &["route"])

@@ -1,7 +1,7 @@
--- What a path names, a resource and the format of its answer: 32 paths stand for themselves, and the path of a route ends in the route's name.
+-- What a path names, a resource and the format of its answer: 34 paths stand for themselves, and the path of a route ends in the route's name.
 use Rattle.std.specs.Prelude.{◌≡◌, ◌≢◌, ◌⊎◌, ◌↔◌, ℕ, List, [], ◌∷◌, ◌++◌, codes, None, Some, Contains}
 use Rattle.lrs_web_requests.specs.declared.paths.Resource.{Resource}
-use Rattle.lrs_web_requests.specs.declared.paths.Resource.TheVariants.{At, Route, Segments, Totals, Translate, Diagram, Routes, Find, Log, Health, Links, Classes, Refs, Marks, Pieces, Rows, Lengths, Gone, History, Where, Edits, Surveys, Questions}
+use Rattle.lrs_web_requests.specs.declared.paths.Resource.TheVariants.{At, Route, Segments, Totals, Translate, Diagram, Routes, Find, Log, Health, Links, Classes, Refs, Marks, Pieces, Rows, Overlay, Lengths, Gone, History, Where, Edits, Surveys, Questions}
 use Rattle.lrs_web_requests.specs.declared.paths.Format.TheVariants.{Json, Csv}
 use Rattle.lrs_web_requests.specs.Routes.{Named, named_at}
 
@@ -14,7 +14,8 @@ literal_paths =
     ∷ (codes "/v1/history.csv", (History, Csv)) ∷ (codes "/v1/history", (History, Json))
     ∷ (codes "/v1/lengths.csv", (Lengths, Csv)) ∷ (codes "/v1/lengths", (Lengths, Json)) ∷ (codes "/v1/links.csv", (Links, Csv))
     ∷ (codes "/v1/links", (Links, Json)) ∷ (codes "/v1/log", (Log, Json)) ∷ (codes "/v1/marks.csv", (Marks, Csv))
-    ∷ (codes "/v1/marks", (Marks, Json)) ∷ (codes "/v1/pieces.csv", (Pieces, Csv)) ∷ (codes "/v1/pieces", (Pieces, Json))
+    ∷ (codes "/v1/marks", (Marks, Json)) ∷ (codes "/v1/overlay.csv", (Overlay, Csv))
+    ∷ (codes "/v1/overlay", (Overlay, Json)) ∷ (codes "/v1/pieces.csv", (Pieces, Csv)) ∷ (codes "/v1/pieces", (Pieces, Json))
     ∷ (codes "/v1/questions", (Questions, Json)) ∷ (codes "/v1/refs.csv", (Refs, Csv))
     ∷ (codes "/v1/refs", (Refs, Json)) ∷ (codes "/v1/routes.csv", (Routes, Csv)) ∷ (codes "/v1/routes", (Routes, Json))
     ∷ (codes "/v1/rows.csv", (Rows, Csv)) ∷ (codes "/v1/rows", (Rows, Json)) ∷ (codes "/v1/segments", (Segments, Json))

@@ -13,7 +13,7 @@ use Rattle.lrs_web_requests.specs.declared.response.RequestMethod.{RequestMethod
 use Rattle.lrs_web_requests.specs.declared.response.RequestMethod.TheVariants.{Get, Post}
 use Rattle.lrs_web_requests.specs.Text.{method_name}
 use Rattle.lrs_web_requests.specs.declared.paths.Resource.{Resource}
-use Rattle.lrs_web_requests.specs.declared.paths.Resource.TheVariants.{At, Route, Segments, Totals, Translate, Diagram, Routes, Find, Log, Health, Links, Classes, Refs, Marks, Pieces, Rows, Lengths, Gone, History, Where, Edits, Surveys, Questions}
+use Rattle.lrs_web_requests.specs.declared.paths.Resource.TheVariants.{At, Route, Segments, Totals, Translate, Diagram, Routes, Find, Log, Health, Links, Classes, Refs, Marks, Pieces, Rows, Overlay, Lengths, Gone, History, Where, Edits, Surveys, Questions}
 use Rattle.lrs_web_requests.specs.declared.paths.Format.{Format}
 use Rattle.lrs_web_requests.specs.Routes.{Named, named_at}
 use Rattle.lrs_web_requests.specs.declared.request.Request.{Request}
@@ -72,6 +72,7 @@ verb_of Refs = Get
 verb_of Marks = Get
 verb_of Pieces = Get
 verb_of Rows = Get
+verb_of Overlay = Get
 verb_of Lengths = Get
 verb_of Gone = Get
 verb_of History = Get

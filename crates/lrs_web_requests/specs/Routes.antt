@@ -5,7 +5,7 @@ use Rattle.matchit.specs.Rows.{RowsOf, param_token}
 use Rattle.matchit.specs.Router.{RouteOf}
 use Rattle.matchit.specs.Seek.{first}
 use Rattle.lrs_web_requests.specs.declared.paths.Resource.{Resource}
-use Rattle.lrs_web_requests.specs.declared.paths.Resource.TheVariants.{At, Route, Segments, Totals, Translate, Diagram, Routes, Find, Log, Health, Links, Classes, Refs, Marks, Pieces, Rows, Lengths, Gone, History, Where, Edits, Surveys, Questions}
+use Rattle.lrs_web_requests.specs.declared.paths.Resource.TheVariants.{At, Route, Segments, Totals, Translate, Diagram, Routes, Find, Log, Health, Links, Classes, Refs, Marks, Pieces, Rows, Overlay, Lengths, Gone, History, Where, Edits, Surveys, Questions}
 use Rattle.lrs_web_requests.specs.declared.paths.Format.{Format}
 use Rattle.lrs_web_requests.specs.declared.paths.Format.TheVariants.{Json, Csv}
 
@@ -36,6 +36,7 @@ rows =
     ∷ json (codes "/v1/gone") Gone ∷ csv (codes "/v1/history.csv") History ∷ json (codes "/v1/history") History
     ∷ csv (codes "/v1/lengths.csv") Lengths ∷ json (codes "/v1/lengths") Lengths ∷ csv (codes "/v1/links.csv") Links
     ∷ json (codes "/v1/links") Links ∷ json (codes "/v1/log") Log ∷ csv (codes "/v1/marks.csv") Marks ∷ json (codes "/v1/marks") Marks
+    ∷ csv (codes "/v1/overlay.csv") Overlay ∷ json (codes "/v1/overlay") Overlay
     ∷ csv (codes "/v1/pieces.csv") Pieces ∷ json (codes "/v1/pieces") Pieces
     ∷ json (codes "/v1/questions") Questions ∷ csv (codes "/v1/refs.csv") Refs ∷ json (codes "/v1/refs") Refs ∷ with_name (codes "/v1/route/") (Route, Json)
     ∷ csv (codes "/v1/routes.csv") Routes ∷ json (codes "/v1/routes") Routes ∷ csv (codes "/v1/rows.csv") Rows ∷ json (codes "/v1/rows") Rows
@@ -72,6 +73,7 @@ is_list (Find, Json) = true
 is_list (Links, Json) = true
 is_list (Refs, Json) = true
 is_list (Marks, Json) = true
+is_list (Overlay, Json) = true
 is_list (Pieces, Json) = true
 is_list (Route, Json) = true
 is_list (Routes, Json) = true

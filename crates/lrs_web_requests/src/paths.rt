@@ -25,6 +25,7 @@ pub enum Resource {
     Marks,
     Pieces,
     Rows,
+    Overlay,
     Lengths,
     Gone,
     History,
@@ -75,6 +76,7 @@ fn add_lists(router: &mut Router<(Resource, Format)>) -> Result<(), InsertError>
     router.insert("/v1/find", (Resource::Find, Format::Json))?;
     router.insert("/v1/links", (Resource::Links, Format::Json))?;
     router.insert("/v1/marks", (Resource::Marks, Format::Json))?;
+    router.insert("/v1/overlay", (Resource::Overlay, Format::Json))?;
     router.insert("/v1/pieces", (Resource::Pieces, Format::Json))?;
     router.insert("/v1/refs", (Resource::Refs, Format::Json))?;
     router.insert("/v1/route/{name}", (Resource::Route, Format::Json))?;
@@ -103,6 +105,7 @@ fn add_tables(router: &mut Router<(Resource, Format)>) -> Result<(), InsertError
     router.insert("/v1/lengths.csv", (Resource::Lengths, Format::Csv))?;
     router.insert("/v1/links.csv", (Resource::Links, Format::Csv))?;
     router.insert("/v1/marks.csv", (Resource::Marks, Format::Csv))?;
+    router.insert("/v1/overlay.csv", (Resource::Overlay, Format::Csv))?;
     router.insert("/v1/pieces.csv", (Resource::Pieces, Format::Csv))?;
     router.insert("/v1/refs.csv", (Resource::Refs, Format::Csv))?;
     router.insert("/v1/routes.csv", (Resource::Routes, Format::Csv))?;

@@ -64,6 +64,7 @@ fn verb_for(resource: Resource) -> RequestMethod
         | Resource::Marks
         | Resource::Pieces
         | Resource::Rows
+        | Resource::Overlay
         | Resource::Lengths
         | Resource::Gone
         | Resource::History
@@ -116,6 +117,7 @@ fn argument(resource: Resource, target: &str) -> &[u8]
         | Resource::Marks
         | Resource::Pieces
         | Resource::Rows
+        | Resource::Overlay
         | Resource::Lengths
         | Resource::Gone
         | Resource::History

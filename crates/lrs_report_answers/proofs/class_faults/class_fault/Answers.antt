@@ -1,11 +1,12 @@
-use Rattle.std.proofs.Common.{◌∙◌, ap, sym}
+use Rattle.std.proofs.Common.{◌≡◌, ◌∙◌, true, ap, subst, sym}
 use Rattle.std.specs.Prelude.{List}
+use Rattle.lrs_measure.specs.Lists.{each_two}
 use Rattle.lrs_events.specs.declared.class.Class.{Class}
 use Rattle.lrs_events.specs.declared.side.Side.TheVariants.{L}
 use Rattle.lrs_machine.specs.declared.image.Image.{Image}
 use Rattle.lrs_machine.specs.Segments.{segment_fault}
+use Rattle.lrs_machine.specs.Sound.{class_before}
 use Rattle.lrs_image.proofs.Tables.{classes_in_order}
-use Rattle.lrs_image.specs.OpenLists.{image_of}
 use Rattle.lrs_report_answers.proofs.OfState.{classes_are}
 use Rattle.lrs_report_answers.proofs.class_faults.class_fault.Goals as goal
 
@@ -16,5 +17,5 @@ pub returns : goal.returns
 returns c =
     let i = c.args.inventory.now in
     c.fault_of.ensures
-    ∙ ap (λ (i : Image). segment_fault i.classes c.args.wanted.now L) c.kept.ensures.image
+    ∙ ap (λ (j : Image). segment_fault j.classes c.args.wanted.now L) c.kept.ensures.image
     ∙ ap (λ (classes : List Class). segment_fault classes c.args.wanted.now L) (sym (classes_are i))

@@ -6,12 +6,11 @@ use Rattle.lrs_report_answers.proofs.SideBySide.{among_next}
 use Rattle.lrs_report_answers.proofs.overlay_lines.write_on_each.Goals as goal
 
 pub write_on_route-requires : goal.write_on_route-requires
-write_on_route-requires g c = (among_next c.in-Some.route_row.now c.next.new.self c.loop-route_row.route_row-iterator c.args.inventory.now.routes c.loop-route_row.invariant.0 c.in-Some.ensures.steps).0
+write_on_route-requires g c = record { known = (among_next c.in-Some.route_row.now c.next.new.self c.loop-route_row.route_row-iterator c.args.inventory.now.routes c.loop-route_row.invariant.0 c.in-Some.ensures.steps).0 }
 
 pub loop-route_row-preserved : goal.loop-route_row-preserved
 loop-route_row-preserved g c =
-    let text = overlay_of c.args.inventory.now c.args.wanted.now in
-    (
+    let text = overlay_of c.args.inventory.now c.args.wanted.now in (
       (among_next c.in-Some.route_row.now c.next.new.self c.loop-route_row.route_row-iterator c.args.inventory.now.routes c.loop-route_row.invariant.0 c.in-Some.ensures.steps).1,
       leads_next (g.W.Write.contents c.args.writer.now) (g.W.Write.contents c.loop-route_row.writer) (g.W.Write.contents c.write_on_route.new.writer) _ (flat_map text c.next.new.self) (flat_map text c.loop-route_row.route_row-iterator)
           (flat_map text c.args.inventory.now.routes) c.loop-route_row.invariant.1 (ap (flat_map text) c.in-Some.ensures.steps) c.in_ok-write_on_route.ensures,

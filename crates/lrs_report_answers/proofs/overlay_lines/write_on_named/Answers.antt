@@ -1,5 +1,6 @@
-use Rattle.std.proofs.Common.{◌≡◌, ◌∷◌, [], ◌∙◌, append-nil, ap, sym, Some, None}
-use Rattle.std.specs.Prelude.{Option}
+use Rattle.std.proofs.Common.{◌∷◌, [], ◌∙◌, append-nil, ap, subst, sym, Some}
+use Rattle.std.specs.Prelude.{ℕ, List, Option}
+use Rattle.std.specs.Io.KnownBytes.{Appends}
 use Rattle.std.specs.List.{flat_map}
 use Rattle.std.specs.Option.{option_map_or}
 use Rattle.lrs_machine.specs.declared.image.RouteRow.{RouteRow}
@@ -12,7 +13,7 @@ use Rattle.lrs_report_answers.proofs.SideBySide.{route_alone}
 use Rattle.lrs_report_answers.proofs.overlay_lines.write_on_named.Goals as goal
 
 pub write_on_route-requires : goal.write_on_route-requires
-write_on_route-requires g c = found_in (is_named c.args.name.now) c.in-Some.route_row.now c.args.inventory.now.routes (sym c.in-Some.ensures.row)
+write_on_route-requires g c = record { known = found_in (is_named c.args.name.now) c.in-Some.route_row.now c.args.inventory.now.routes (sym c.in-Some.ensures.row) }
 
 pub returns-in-Some : goal.returns-in-Some
 returns-in-Some g c =
@@ -25,4 +26,6 @@ pub returns-in-None : goal.returns-in-None
 returns-in-None g c =
     let i = c.args.inventory.now in
     let text = overlay_of i c.args.wanted.now in
-    subst (λ (t : List ℕ). Appends _ _ t) (ap (λ (o : Option RouteRow). flat_map text (option_map_or (λ (e : RouteRow). e ∷ []) o [])) c.in-None.ensures.row ∙ ap (flat_map text) (sym (route_alone c.args.name.now i c.prove_sound.ensures))) (appends_none (g.W.Write.contents c.args.writer.now))
+    let written = g.W.Write.contents c.args.writer.now in
+    subst (λ (t : List ℕ). Appends written written t)
+    (ap (λ (o : Option RouteRow). flat_map text (option_map_or (λ (e : RouteRow). e ∷ []) o [])) c.in-None.ensures.row ∙ ap (flat_map text) (sym (route_alone c.args.name.now i c.prove_sound.ensures))) (appends_none written)

@@ -1,9 +1,8 @@
-use Rattle.std.proofs.Common.{◌≡◌, ◌++◌, ◌∙◌, append-nil, ap, sym}
+use Rattle.std.proofs.Common.{◌∙◌, append-nil, ap, sym}
 use Rattle.std.specs.Prelude.{Option}
 use Rattle.std.specs.List.{flat_map}
 use Rattle.lrs_events.specs.declared.side.LinkSide.{LinkSide}
-use Rattle.lrs_events.specs.declared.side.LinkSide.TheVariants.{Left, Right}
-use Rattle.lrs_report_lists.proofs.Writing.{appends_last, as_text}
+use Rattle.lrs_report_lists.proofs.Writing.{as_text}
 use Rattle.lrs_report_answers.specs.Overlay.{overlay_of, overlay_on, sides_of}
 use Rattle.lrs_report_answers.proofs.overlay_lines.write_on_route.Goals as goal
 
@@ -13,11 +12,3 @@ returns-in-Some g c =
     let w = c.args.wanted.now in
     let e = c.args.route_row.now in
     as_text c.write_on_side.result _ _ _ (overlay_of i w e) c.write_on_side.ensures (sym (append-nil (overlay_on i w e c.in-Some.side)) ∙ ap (λ (o : Option LinkSide). flat_map (overlay_on i w e) (sides_of o)) (sym c.in-Some.is))
-
-pub returns-in-None : goal.returns-in-None
-returns-in-None g c =
-    let i = c.args.inventory.now in
-    let w = c.args.wanted.now in
-    let e = c.args.route_row.now in
-    appends_last c.write_on_side-2.result (g.W.Write.contents c.args.writer.now) (g.W.Write.contents c.write_on_side.new.writer) (g.W.Write.contents c.write_on_side-2.new.writer) _ _ (overlay_of i w e) c.in_ok-write_on_side.ensures c.write_on_side-2.ensures
-    (ap (λ z. overlay_on i w e Left ++ z) (sym (append-nil (overlay_on i w e Right))) ∙ ap (λ (o : Option LinkSide). flat_map (overlay_on i w e) (sides_of o)) (sym c.in-None.is))

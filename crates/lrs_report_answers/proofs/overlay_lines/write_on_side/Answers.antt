@@ -20,8 +20,8 @@ returns-in-Ok g c =
     let e = c.args.route_row.now in
     let side = c.args.side in
     let found = c.in-Ok.segments in
-    let names = c.as_slice.result.now in
+    let names = c.as_slice-classes.result.now in
     let by_names : map run_of found ≡ segments_on (state_of i) e.route.course names side =
     answered (segment_fault (class_list (state_of i)) names (one_side side)) (λ fs. map run_of fs ≡ segments_on (state_of i) e.route.course names side) found c.in-Ok.ensures in
-    let are : map run_of found ≡ segments_on (state_of i) e.route.course w.classes side = subst (λ (ns : List Name). map run_of found ≡ segments_on (state_of i) e.route.course ns side) c.as_slice.ensures by_names in
+    let are : map run_of found ≡ segments_on (state_of i) e.route.course w.classes side = subst (λ (ns : List Name). map run_of found ≡ segments_on (state_of i) e.route.course ns side) c.as_slice-classes.ensures by_names in
     as_text c.write_each.result _ _ _ (overlay_on i w e side) c.write_each.ensures (wanted_lines w e.route side found ∙ ap (λ runs. flat_map (overlay_line e.route side) (filter (is_segment_wanted w) runs)) are)

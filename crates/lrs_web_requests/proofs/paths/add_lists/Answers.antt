@@ -14,4 +14,5 @@ returns c =
     let i7 = c.in_ok-insert-7.ensures in
     let i8 = c.in_ok-insert-8.ensures in
     let i9 = c.in_ok-insert-9.ensures in
-    rw (i9.1, i8.1, i7.1, i6.1, i5.1, i4.1, i3.1, i2.1, i1.1)
+    let i10 = c.in_ok-insert-10.ensures in
+    rw (i10.1, i9.1, i8.1, i7.1, i6.1, i5.1, i4.1, i3.1, i2.1, i1.1)

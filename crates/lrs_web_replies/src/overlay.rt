@@ -1,0 +1,314 @@
+//! The values of exclusive classes side by side, as replies.
+
+ghost use Rattle.std.specs.Prelude.{◌≡◌, ◌∷◌, ◌++◌, [], IfOk, OnOk, Some, codes, map};
+ghost use Rattle.std.specs.List.{flat_map};
+ghost use Rattle.serde_json.specs.Data.{object, put};
+ghost use Rattle.serde_json.specs.View.{members_view, view};
+ghost use Rattle.serde_json.specs.Written.{compact_text};
+ghost use Rattle.lrs_measure.specs.Lists.{In};
+ghost use Rattle.lrs_report.specs.Sweep.{run_of};
+ghost use Rattle.lrs_report_answers.specs.Overlay.{overlay_text};
+ghost use Rattle.lrs_report_lists.specs.Lists.{routes_named};
+ghost use Rattle.lrs_web_requests.specs.Text.{answer_of};
+ghost use Rattle.lrs_web_replies.specs.JsonParts.{each};
+ghost use Rattle.lrs_web_replies.specs.Members.{scalar_data};
+ghost use Rattle.lrs_web_replies.specs.Overlay.{held_data, overlay_answer, overlay_data, overlay_item, overlay_part, segment_part, side_items};
+ghost use Rattle.lrs_web_replies.specs.Parts.{item_text};
+
+use crate::bounded::BoundedBytes;
+use crate::entries::{decimal_at, measure_at};
+use crate::list_text::{add_item, begin, end};
+use crate::members::{Member, Scalar, members_of, scalar_value, with_value};
+use crate::reply::{csv_reply, found_reply};
+use lrs_events::{LinkSide, Value as AssetValue};
+use lrs_inventory::Inventory;
+use lrs_machine::{OverlayWanted, RouteRow, Segment};
+use lrs_position::{Route, RouteName};
+use lrs_report_answers::{RouteSegments, is_segment_wanted, overlay_segments, write_overlay};
+use lrs_report_lists::link_side_text;
+use lrs_web_requests::{Format, Response};
+use serde_json::{Map, Value};
+use std::alloc::{AllocError, Global};
+
+// ---- a segment
+
+fn held_or_null(value: Option<AssetValue>) -> Scalar
+    ensures { scalar_data result ≡ held_data value }
+{
+    match value {
+        Some(value) => Scalar::Held(value),
+        None => Scalar::Null,
+    }
+}
+
+fn push_held(
+    alloc: Global,
+    values: &mut Vec<Value>,
+    held: Option<AssetValue>,
+) -> Result<(), AllocError>
+    ensures { OnOk result (map view values.new.items
+        ≡ map view values.old.items ++ held_data held ∷ []) }
+{
+    let value = scalar_value(alloc, &held_or_null(held))?;
+    Ok(values.push(value)?)
+}
+
+/// A list of values, each null where there is none.
+fn held_values(alloc: Global, held: &[Option<AssetValue>]) -> Result<Value, AllocError>
+    ensures { IfOk result (λ value. view value ≡ each held_data held.now) }
+{
+    let mut values = Vec::new(alloc);
+    for one in held {
+        push_held(alloc, &mut values, *one)?;
+    }
+    Ok(Value::Array(values))
+}
+
+/// An object of these members and values. It takes them, so that a caller has none to drop where memory runs out.
+fn with_held(
+    alloc: Global,
+    map: Map<String, Value>,
+    held: &[Option<AssetValue>],
+) -> Result<Value, AllocError>
+    ensures { IfOk result (λ value. view value
+        ≡ object (put (codes "values") (each held_data held.now) (members_view map.entries))) }
+{
+    let values = held_values(alloc, held)?;
+    let members = with_value(alloc, map, "values", values)?;
+    Ok(Value::Object(members))
+}
+
+fn segment_value(
+    alloc: Global,
+    route: &Route,
+    side: LinkSide,
+    segment: &Segment,
+) -> Result<Value, AllocError>
+    ensures { IfOk result (λ value. view value
+        ≡ overlay_item route.now side (run_of segment.now)) }
+{
+    let members = members_of(
+        alloc,
+        &[
+            Member("from", Scalar::Whole(segment.from)),
+            Member("from_measure", measure_at(route, segment.from)),
+            Member("from_measure_decimal", decimal_at(route, segment.from)),
+            Member("route", Scalar::Route(route.name)),
+            Member("side", Scalar::Word(link_side_text(side))),
+            Member("to", Scalar::Whole(segment.to)),
+            Member("to_measure", measure_at(route, segment.to)),
+            Member("to_measure_decimal", decimal_at(route, segment.to)),
+        ],
+    )?;
+    with_held(alloc, members, segment.values.as_slice())
+}
+
+// ---- the segments that are asked for
+
+fn add_segment(
+    alloc: Global,
+    most: usize,
+    bytes: &mut Vec<u8>,
+    route: &Route,
+    side: LinkSide,
+    segment: &Segment,
+) -> Result<(), AllocError>
+    ensures { OnOk result (bytes.new.items ≡ bytes.old.items
+        ++ item_text (overlay_item route.now side (run_of segment.now))) }
+{
+    let value = segment_value(alloc, route, side, segment)?;
+    add_item(alloc, most, bytes, value)
+}
+
+/// Adds a segment where it is asked for.
+fn add_wanted_segment(
+    alloc: Global,
+    most: usize,
+    bytes: &mut Vec<u8>,
+    wanted: &OverlayWanted,
+    route: &Route,
+    side: LinkSide,
+    segment: &Segment,
+) -> Result<(), AllocError>
+    ensures { OnOk result (bytes.new.items
+        ≡ bytes.old.items ++ segment_part wanted.now route.now side segment.now) }
+{
+    if is_segment_wanted(wanted, segment) {
+        return add_segment(alloc, most, bytes, route, side, segment);
+    }
+    Ok(())
+}
+
+/// Adds the segments that are asked for, which are made one by one.
+fn add_wanted_segments(
+    alloc: Global,
+    most: usize,
+    bytes: &mut Vec<u8>,
+    wanted: &OverlayWanted,
+    route: &Route,
+    side: LinkSide,
+    mut segments: RouteSegments<'_>,
+) -> Result<(), AllocError>
+    ensures { OnOk result (bytes.new.items ≡ bytes.old.items
+        ++ flat_map (segment_part wanted.now route.now side) segments.entry) }
+{
+    while let Some(segment) = segments.first() {
+        add_wanted_segment(alloc, most, bytes, wanted, route, side, segment)?;
+        segments.pass();
+    }
+    Ok(())
+}
+
+// The classes are known and exclusive where an overlay is told, so memory alone is wanting where there are no segments.
+fn add_on_side(
+    alloc: Global,
+    most: usize,
+    bytes: &mut Vec<u8>,
+    inventory: &Inventory,
+    wanted: &OverlayWanted,
+    route_row: &RouteRow,
+    side: LinkSide,
+) -> Result<(), AllocError>
+    requires known { In route_row.now inventory.now.routes }
+    ensures { OnOk result (bytes.new.items ≡ bytes.old.items
+        ++ flat_map item_text (side_items inventory.now wanted.now route_row.now side)) }
+{
+    let classes = wanted.classes.as_slice();
+    match overlay_segments(alloc, inventory, route_row, classes, side) {
+        Ok(segments) => {
+            let route = &route_row.route;
+            add_wanted_segments(alloc, most, bytes, wanted, route, side, segments)
+        }
+        Err(_) => Err(AllocError),
+    }
+}
+
+/// Adds the segments of a route, of the left side and then of the right one, or of the side that is asked for.
+fn add_sides(
+    alloc: Global,
+    most: usize,
+    bytes: &mut Vec<u8>,
+    inventory: &Inventory,
+    wanted: &OverlayWanted,
+    route_row: &RouteRow,
+) -> Result<(), AllocError>
+    requires known { In route_row.now inventory.now.routes }
+    ensures { OnOk result (bytes.new.items
+        ≡ bytes.old.items ++ overlay_part inventory.now wanted.now route_row.now) }
+{
+    match wanted.side {
+        Some(side) => add_on_side(alloc, most, bytes, inventory, wanted, route_row, side),
+        None => {
+            let left = LinkSide::Left;
+            add_on_side(alloc, most, bytes, inventory, wanted, route_row, left)?;
+            let right = LinkSide::Right;
+            add_on_side(alloc, most, bytes, inventory, wanted, route_row, right)
+        }
+    }
+}
+
+fn add_each_route(
+    alloc: Global,
+    most: usize,
+    bytes: &mut Vec<u8>,
+    inventory: &Inventory,
+    wanted: &OverlayWanted,
+) -> Result<(), AllocError>
+    ensures { OnOk result (bytes.new.items ≡ bytes.old.items
+        ++ flat_map (overlay_part inventory.now wanted.now) inventory.now.routes) }
+{
+    for route_row in inventory.kept().routes.iter() {
+        add_sides(alloc, most, bytes, inventory, wanted, route_row)?;
+    }
+    Ok(())
+}
+
+/// Adds the segments of the route of a name, if there is one.
+fn add_named_route(
+    alloc: Global,
+    most: usize,
+    bytes: &mut Vec<u8>,
+    inventory: &Inventory,
+    wanted: &OverlayWanted,
+    name: &RouteName,
+) -> Result<(), AllocError>
+    ensures { OnOk result (bytes.new.items ≡ bytes.old.items
+        ++ flat_map (overlay_part inventory.now wanted.now)
+        (routes_named (Some name.now) inventory.now)) }
+{
+    // For the prover alone: no two routes have one name.
+    inventory.prove_sound();
+    match inventory.route(name) {
+        Some(route_row) => add_sides(alloc, most, bytes, inventory, wanted, route_row),
+        None => Ok(()),
+    }
+}
+
+/// Adds the segments of the routes that are asked for. A route that is named is found by search.
+fn add_asked_routes(
+    alloc: Global,
+    most: usize,
+    bytes: &mut Vec<u8>,
+    inventory: &Inventory,
+    wanted: &OverlayWanted,
+) -> Result<(), AllocError>
+    ensures { OnOk result (bytes.new.items ≡ bytes.old.items
+        ++ flat_map (overlay_part inventory.now wanted.now)
+        (routes_named wanted.now.route inventory.now)) }
+{
+    match &wanted.route {
+        Some(name) => add_named_route(alloc, most, bytes, inventory, wanted, name),
+        None => add_each_route(alloc, most, bytes, inventory, wanted),
+    }
+}
+
+fn overlay_json(
+    alloc: Global,
+    most: usize,
+    inventory: &Inventory,
+    wanted: &OverlayWanted,
+) -> Result<Vec<u8>, AllocError>
+    ensures { IfOk result (λ bytes. bytes.items
+        ≡ compact_text (overlay_data wanted.now inventory.now)) }
+{
+    let mut bytes = begin(alloc, "overlay")?;
+    let start = bytes.len();
+    add_asked_routes(alloc, most, &mut bytes, inventory, wanted)?;
+    end(bytes, start)
+}
+
+// It takes every byte that it is given, unless it has no room for it or memory runs out.
+fn overlay_lines(
+    alloc: Global,
+    most: usize,
+    inventory: &Inventory,
+    wanted: &OverlayWanted,
+) -> Result<Vec<u8>, AllocError>
+    ensures { IfOk result (λ bytes. bytes.items ≡ overlay_text wanted.now inventory.now) }
+{
+    let mut text = BoundedBytes::new(alloc, most);
+    match write_overlay(alloc, &mut text, inventory, wanted) {
+        Ok(()) => Ok(text.bytes),
+        Err(_) => Err(AllocError),
+    }
+}
+
+/// The reply with the segments that are asked for, and the values of the classes side by side, in a format.
+///
+/// # Errors
+/// When memory or so many bytes do not suffice.
+pub(crate) fn overlay_reply(
+    alloc: Global,
+    most: usize,
+    format: Format,
+    inventory: &Inventory,
+    wanted: &OverlayWanted,
+) -> Result<Response, AllocError>
+    ensures { IfOk result (λ reply. answer_of reply
+        ≡ overlay_answer format inventory.now wanted.now) }
+{
+    match format {
+        Format::Json => Ok(found_reply(overlay_json(alloc, most, inventory, wanted)?)),
+        Format::Csv => Ok(csv_reply(overlay_lines(alloc, most, inventory, wanted)?)),
+    }
+}
