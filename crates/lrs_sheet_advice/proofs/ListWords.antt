@@ -1,13 +1,18 @@
 -- Words of a list, and parts of a word, found one after another.
-use Rattle.std.proofs.Common.{◌≡◌, ℕ, Bool, true, false, suc, ◌+◌, ◌-◌, ◌<◌, List, [], ◌∷◌, Option, Some, None, refl, sym, ap, ◌∙◌, subst, arith}
+use Rattle.std.proofs.Common.{◌≡◌, ℕ, Bool, true, false, suc, ◌+◌, ◌-◌, ◌<◌, List, [], ◌∷◌, Option, Some, None, refl, sym, ap, ◌∙◌, arith}
 use Rattle.std.specs.Prelude.{◌↔◌, IfNone, IfSome, IsTrue, is_some, slice_get}
 use Rattle.lrs_machine.specs.Lines.{Text}
-use Rattle.lrs_sheet_advice.specs.Parts.{IsBadWord, IsItem}
+use Rattle.lrs_sheet_advice.specs.Parts.{IsBadWord, IsItem, IsWrongPart, SaysPart, place_of}
+use Rattle.lrs_sheet_advice.specs.declared.part.Part.{Part}
 use Rattle.lrs_sheet_records.specs.Words.{parts_of}
 
 -- what is still to be passed over, before one more part is
 one_less : (place turn : ℕ) → turn < place → place - turn ≡ suc (place - (turn + 1))
 one_less place turn below = omega (arith, below)
+
+-- before any is passed over
+pub at_start : (byte : ℕ) (text : Text) (place : ℕ) → slice_get (parts_of byte text) (place - 0) ≡ slice_get (parts_of byte text) place
+at_start byte text place = let same : place - 0 ≡ place = omega arith in ap (slice_get (parts_of byte text)) same
 
 -- behind the first part, a part is one place nearer
 pub nearer : (byte : ℕ) (text rest word behind : Text) (place turn : ℕ) → turn < place → parts_of byte rest ≡ word ∷ parts_of byte behind
@@ -31,9 +36,16 @@ found_here byte text rest place turn word same first so_far =
     sym so_far ∙ sym (ap (slice_get (parts_of byte rest)) none) ∙ first
 
 -- what is read is there
-pub read_is : {X : Type 0} (says : X → Type 0) (found : Option X) → IfSome found says → IfNone found ((x : X) → says x → ⊥) → IsTrue (is_some found) ↔ ((x : X) × says x)
-read_is says (Some x) some none = (λ e. (x, some), λ there. refl)
-read_is says None some none = (λ e. cc e, λ there. absurd (none there.0 there.1))
+pub read_is : {X : Type 0} (says : X → Type 0) (found : Option X) (is : Bool) → is ≡ is_some found → IfSome found says → IfNone found ((x : X) → says x → ⊥) → IsTrue is ↔ ((x : X) × says x)
+read_is says (Some x) is same some none = (λ e. (x, some), λ there. same)
+read_is says None is same some none = (λ e. let both : true ≡ false = sym e ∙ same in cc both, λ there. absurd (none there.0 there.1))
+
+-- a text that does not say its part is a wrong part
+pub wrong_here : (word text : Text) (p : Part) (place : ℕ) (is : Bool) → place ≡ place_of p → slice_get (parts_of 58 word) place ≡ Some text → (IsTrue is ↔ SaysPart p text) → is ≡ false → IsWrongPart word p text
+wrong_here word text p place is at here tells fails = record {
+  here = sym (ap (slice_get (parts_of 58 word)) at) ∙ here;
+  wrong = λ said. let both : false ≡ true = sym fails ∙ tells.1 said in cc both;
+}
 
 -- ---- the words of a list
 

@@ -1,9 +1,7 @@
 -- The words of a list, how they are numbered, and which part of a piece or of a mark is wrong.
-use Rattle.std.specs.Prelude.{◌≡◌, ℕ, ◌<◌, Bool, true, false, ⊥, ◌++◌, Some, codes, slice_get}
+use Rattle.std.specs.Prelude.{◌≡◌, ℕ, Bool, true, false, ◌++◌, Some, codes, slice_get}
 use Rattle.std.specs.Fmt.{decimal}
 use Rattle.lrs_measure.specs.Limits.{greatest_link, longest_link, longest_route, greatest_measure}
-use Rattle.lrs_element.specs.declared.link.Piece.{Piece}
-use Rattle.lrs_element.specs.declared.marks.Mark.{Mark}
 use Rattle.lrs_machine.specs.Lines.{Text}
 use Rattle.lrs_sheet_records.specs.Words.{IsMarkText, IsPieceText, SaysNumber, parts_of, sign_text}
 use Rattle.lrs_sheet_advice.specs.AdviceLines.{shown}
@@ -14,10 +12,14 @@ use Rattle.lrs_sheet_advice.specs.declared.part.Part.TheVariants as part
 abbrev pub numbered : Text → ℕ → Text
 numbered name place = shown name ++ shown (decimal place) ++ codes " (the first is 0)"
 
+-- The word says something of a kind.
+abbrev pub SaysSome : {X : Type 0} → (Text → X → Type 0) → Text → Type 0
+SaysSome {X} says word = (x : X) × says word x
+
 -- The word says a piece, or else a mark.
 abbrev pub IsItem : Bool → Text → Type 0
-IsItem true word = (p : Piece) × IsPieceText word p
-IsItem false word = (m : Mark) × IsMarkText word m
+IsItem true word = SaysSome IsPieceText word
+IsItem false word = SaysSome IsMarkText word
 
 -- The word at this place of a list of pieces, or else of marks, says none.
 pub record IsBadWord (of_pieces : Bool) (list : Text) (place : ℕ) : Type 0 where

@@ -1,6 +1,6 @@
 //! The parts of a piece and of a mark, which stand between colons: one table for all parts.
 
-ghost use Rattle.std.specs.Prelude.{◌≡◌, ◌↔◌, ℕ, Bool, ⊥, IfSome, IfNone, IsTrue};
+ghost use Rattle.std.specs.Prelude.{◌≡◌, ◌↔◌, ℕ, Bool, IfSome, IfNone, IsTrue};
 ghost use Rattle.lrs_sheet_records.specs.Words.{SaysNumber, sign_text};
 ghost use Rattle.lrs_sheet_advice.specs.Parts as spec;
 ghost use Rattle.lrs_sheet_advice.specs.Parts.{IsWrongPart, SaysPart};
@@ -94,10 +94,10 @@ fn says(part: Part, text: &[u8]) -> bool
 fn wrong_text(word: &[u8], part: Part) -> Option<&[u8]>
     ensures { IfSome result (λ text. IsWrongPart word.now part text.now) }
 {
-    match word_at(word, b':', place_of(part)) {
-        Some(text) if !says(part, text) => Some(text),
-        _ => None,
-    }
+    let Some(text) = word_at(word, b':', place_of(part)) else {
+        return None;
+    };
+    if says(part, text) { None } else { Some(text) }
 }
 
 /// The first of these parts that is wrong in a word, and what stands there.

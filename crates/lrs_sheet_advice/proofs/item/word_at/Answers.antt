@@ -1,9 +1,9 @@
-use Rattle.std.proofs.Common.{refl, rules}
-use Rattle.lrs_sheet_advice.proofs.ListWords.{found_here, nearer, none_behind}
+use Rattle.std.proofs.Common.{rules}
+use Rattle.lrs_sheet_advice.proofs.ListWords.{at_start, found_here, nearer, none_behind}
 use Rattle.lrs_sheet_advice.proofs.item.word_at.Goals as goal
 
 pub loop-turn-init : goal.loop-turn-init
-loop-turn-init c = refl
+loop-turn-init c = at_start c.args.byte c.args.text.now c.args.place
 
 pub returns-in-None-clause-none : goal.returns-in-None-clause-none
 returns-in-None-clause-none c =
