@@ -1,5 +1,5 @@
 -- Words of a list, and parts of a word, found one after another.
-use Rattle.std.proofs.Common.{◌≡◌, ℕ, Bool, true, false, suc, ◌+◌, ◌-◌, ◌<◌, List, [], ◌∷◌, Option, Some, None, refl, sym, ap, ◌∙◌, arith}
+use Rattle.std.proofs.Common.{◌≡◌, ℕ, Bool, true, false, suc, ◌+◌, ◌-◌, ◌<◌, List, [], ◌∷◌, Option, Some, None, sym, ap, ◌∙◌, arith}
 use Rattle.std.specs.Prelude.{◌↔◌, IfNone, IfSome, IsTrue, is_some, slice_get}
 use Rattle.lrs_machine.specs.Lines.{Text}
 use Rattle.lrs_sheet_advice.specs.Parts.{IsBadWord, IsItem, IsWrongPart, SaysPart, place_of}
