@@ -1,3 +1,5 @@
 pub mod Appending
 pub mod Answered
+pub mod Listed
+pub mod Passing
 pub mod Whole

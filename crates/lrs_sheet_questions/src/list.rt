@@ -1,0 +1,186 @@
+//! The lines of a list: its entries are counted, and then written one by one.
+
+ghost use Rattle.std.specs.Prelude.{◌≡◌, ◌⊎◌, ◌∷◌, [], ℕ, List, Option, IfErr, IfOk, OnOk, Some};
+ghost use Rattle.std.specs.Fmt.{decimal};
+ghost use Rattle.std.specs.Io.KnownBytes.{Appends};
+ghost use Rattle.lrs_sheet_questions.specs.Entries.{behind_first, entry_lines, line_count, list_lines};
+ghost use Rattle.lrs_sheet_questions.specs.Lines.{fields_line, told_lines};
+ghost use Rattle.lrs_sheet_questions.specs.Lists.{entry_word, list_kind, list_text, list_word};
+
+use crate::counter::LineCounter;
+use crate::entries::Entries;
+use crate::given::Given;
+use crate::kind::ListKind;
+use crate::stage::Stage;
+use lrs_machine::{Key, Listing};
+use lrs_report_answers::{Told, write_overlay};
+use lrs_report_lists::{write_history, write_lengths, write_rows};
+use lrs_sheet_records::SheetFault;
+use std::alloc::Global;
+use std::io;
+use std::io::{ErrorKind, Write};
+
+/// Which list is told, if it is one.
+pub(crate) fn kind_of(told: &Told<'_>) -> Option<ListKind>
+    ensures { result ≡ list_kind told.now }
+{
+    match told {
+        Told::Rows { .. } => Some(ListKind::Rows),
+        Told::Overlay { .. } => Some(ListKind::Overlay),
+        Told::Lengths(_) => Some(ListKind::Lengths),
+        Told::Listing {
+            listing: Listing::History(_),
+            ..
+        } => Some(ListKind::History),
+        Told::Listing { .. }
+        | Told::At { .. }
+        | Told::Translated { .. }
+        | Told::OnLink { .. }
+        | Told::Found(_)
+        | Told::Segments { .. }
+        | Told::Route(_)
+        | Told::Diagram(_)
+        | Told::Totals(_)
+        | Told::Where(_)
+        | Told::Health(_) => None,
+    }
+}
+
+fn name_of(kind: ListKind) -> &'static str
+    ensures { result.now ≡ list_word kind }
+{
+    match kind {
+        ListKind::Rows => "rows",
+        ListKind::Overlay => "overlay",
+        ListKind::Lengths => "lengths",
+        ListKind::History => "history",
+    }
+}
+
+fn word_of(kind: ListKind) -> &'static str
+    ensures { result.now ≡ entry_word kind }
+{
+    match kind {
+        ListKind::Rows => "row",
+        ListKind::Overlay => "segment",
+        ListKind::Lengths => "length",
+        ListKind::History => "event",
+    }
+}
+
+/// Writes a list as it is printed, with its header.
+fn write_text<W: Write>(alloc: Global, writer: &mut W, told: &Told<'_>) -> io::Result<()>
+    ensures { OnOk result (Appends (W.contents writer.old) (W.contents writer.new)
+        (list_text told.now)) }
+{
+    match told {
+        Told::Rows { wanted, inventory } => write_rows(alloc, writer, inventory.kept(), wanted),
+        Told::Overlay { wanted, inventory } => write_overlay(alloc, writer, inventory, wanted),
+        Told::Lengths(lengths) => write_lengths(writer, lengths.as_slice()),
+        Told::Listing {
+            listing: Listing::History(asset),
+            inventory,
+        } => write_history(writer, inventory.kept(), *asset),
+        Told::Listing { .. }
+        | Told::At { .. }
+        | Told::Translated { .. }
+        | Told::OnLink { .. }
+        | Told::Found(_)
+        | Told::Segments { .. }
+        | Told::Route(_)
+        | Told::Diagram(_)
+        | Told::Totals(_)
+        | Told::Where(_)
+        | Told::Health(_) => Ok(()),
+    }
+}
+
+/// How many entries a list has.
+fn count_entries(alloc: Global, told: &Told<'_>) -> io::Result<u64>
+    ensures { IfOk result (λ count. count ≡ line_count (behind_first (list_text told.now))) }
+{
+    let mut counter = LineCounter::new();
+    write_text(alloc, &mut counter, told)?;
+    Ok(counter.behind_first())
+}
+
+/// Writes the entries of a list to a writer that holds these bytes.
+fn pass_entries<W: Write>(
+    alloc: Global,
+    to: &mut W,
+    key: Key,
+    word: &'static str,
+    told: &Told<'_>,
+) -> io::Result<()>
+    ghost start: { Option (List ℕ) }
+    requires { W.contents to.old ≡ start }
+    ensures { OnOk result (Appends start (W.contents to.new)
+        (entry_lines key word.now (behind_first (list_text told.now)))) }
+{
+    let mut entries = Entries {
+        to,
+        key,
+        word,
+        stage: Stage::Header,
+        is_broken: false,
+        given: Given::new(),
+    };
+    write_text(alloc, &mut entries, told)?;
+    if entries.is_broken {
+        return Err(io::Error::from(ErrorKind::BrokenPipe));
+    }
+    Ok(())
+}
+
+/// Writes how many entries a list has.
+fn write_count<W: Write>(writer: &mut W, key: Key, name: &str, count: u64) -> io::Result<()>
+    ensures { OnOk result (Appends (W.contents writer.old) (W.contents writer.new)
+        (fields_line (key ∷ name.now ∷ decimal count ∷ []))) }
+{
+    writeln!(writer, "{key},{name},{count}")
+}
+
+/// Writes how many entries a list has, and each of them.
+fn write_counted<W: Write>(
+    alloc: Global,
+    writer: &mut W,
+    key: Key,
+    kind: ListKind,
+    told: &Told<'_>,
+    count: u64,
+) -> io::Result<()>
+    requires { count ≡ line_count (behind_first (list_text told.now)) }
+    ensures { OnOk result (Appends (W.contents writer.old) (W.contents writer.new)
+        (list_lines key (list_word kind) (entry_word kind) (list_text told.now))) }
+{
+    write_count(writer, key, name_of(kind), count)?;
+    pass_entries(alloc, writer, key, word_of(kind), told)
+}
+
+/// Writes the lines of a list of this kind. The list is made twice: its entries are counted before the first is written, and
+/// none is kept.
+///
+/// # Errors
+/// `Memory` where it runs out while they are counted, and nothing is written. `Write` if the writer fails, and also where
+/// memory runs out only behind that; part of the lines may be written then.
+pub(crate) fn write_list<W: Write>(
+    alloc: Global,
+    writer: &mut W,
+    key: Key,
+    kind: ListKind,
+    told: &Told<'_>,
+) -> Result<(), SheetFault>
+    requires { list_kind told.now ≡ Some kind }
+    ensures written { OnOk result (Appends (W.contents writer.old) (W.contents writer.new)
+        (told_lines key told.now)) }
+    ensures faults { IfErr result (λ e. (e ≡ SheetFault.Write)
+        ⊎ ((e ≡ SheetFault.Memory) × (W.contents writer.new ≡ W.contents writer.old))) }
+{
+    let Ok(count) = count_entries(alloc, told) else {
+        return Err(SheetFault::Memory);
+    };
+    match write_counted(alloc, writer, key, kind, told, count) {
+        Ok(()) => Ok(()),
+        Err(_) => Err(SheetFault::Write),
+    }
+}
