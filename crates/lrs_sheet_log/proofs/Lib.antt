@@ -10,3 +10,4 @@ pub mod RouteTexts
 pub mod SetReferents
 pub mod RouteRecords
 pub mod Parts
+pub mod MadeRoutes
