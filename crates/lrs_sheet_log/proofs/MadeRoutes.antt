@@ -1,12 +1,12 @@
 -- The commands of a route make it.
 use Rattle.std.proofs.Common.{◌≡◌, ℕ, zero, suc, ◌+◌, ◌<◌, ◌≤◌, Bool, true, false, cond, List, [], ◌∷◌, ◌++◌, length, map, Option, Some, None, Ok, Ordering, Less, Equal, Greater, is_lt, refl, sym, ap, subst, ◌∙◌, append_assoc, append-nil, arith, length-append}
 use Rattle.std.specs.Prelude.{Result, if◌then◌else◌, ◌||◌, ◌&&◌, not, is_some, is_none, nat_eq, nat_le, nat_lt}
-use Rattle.std.specs.List.{AllByRecursion, find, list_all, list_any, position, position_or_len}
+use Rattle.std.specs.List.{AllByRecursion, find, list_all, list_any, position}
 use Rattle.std.specs.Option.{ok_or, option_and_then, option_map, option_or}
 use Rattle.std.specs.Ordering.{is_eq}
 use Rattle.std.specs.Cmp.{Equal-is, tied_itself}
 use Rattle.std.specs.Cmp.Lexicographic.{bytes_decides, nat_list_cmp_total, nat_list_eq_equiv, texts_ties}
-use Rattle.std.proofs.lemmas.Bool.{and_from, and_parts, false≢true}
+use Rattle.std.proofs.lemmas.Bool.{and_from, and_parts, false≢true, not-true}
 use Rattle.std.proofs.lemmas.Bool.Decides.{nat_tests}
 use Rattle.std.proofs.lemmas.List.Folds.{list_any-append}
 use Rattle.std.proofs.lemmas.Map.Lookups.{exact_bytes}
@@ -34,6 +34,7 @@ use Rattle.lrs_machine.specs.declared.command.Command.TheVariants as verb
 use Rattle.lrs_machine.proofs.Registers.{find-put}
 use Rattle.lrs_machine.proofs.Stop.Edits.{none_still}
 use Rattle.lrs_report_lists.proofs.CoursePieces.{pieces_make}
+use Rattle.lrs_sheet_log.proofs.LaidCourses.{both-false, neither, none-found, pieces_pass}
 use Rattle.lrs_sheet_log.proofs.SetReferents.{set_exactly}
 use Rattle.lrs_report_lists.specs.CoursePieces.{pieces_of}
 use Rattle.lrs_sheet_log.specs.Laws.{CommandsMakeTheRoute, HasRoomFor, edit_of, with_route}
@@ -50,6 +51,7 @@ done-as limits c s t new room made =
     ∙ ap (λ (r : Result (Unit {0}) Cause). (outcome_of c.key c.command s (r >> attempt (length s.done + 1) c.command s)).state) room
     ∙ ap (λ (r : Result State Cause). (outcome_of c.key c.command s r).state) made
 
+-- there is room for one more
 not-full : (n most : ℕ) → n < most → nat_le most n ≡ false
 not-full n most h = grind (arith, nat_tests)
 
@@ -59,14 +61,11 @@ not-full n most h = grind (arith, nat_tests)
 abbrev AreNew : List Record → List Edit → Type 0
 AreNew cs done = AllByRecursion (λ c. place_of_key c.key done ≡ None) cs
 
+-- two commands have different keys
 abbrev differ : Record → Record → Bool
 differ a b = not (same_name a.key b.key)
 
-not-true : (b : Bool) → not b ≡ true → b ≡ false
-not-true true h = sym h
-not-true false h = refl
-
--- ... with one edit more of another key
+-- no edit has a key of these with one edit more, of another key
 new-still : (c : Record) (cs : List Record) (done : List Edit) → AreNew cs done → list_all (differ c) cs ≡ true → AreNew cs (done ++ edit_of c ∷ [])
 new-still c [] done new apart = tt
 new-still c (d ∷ cs) done new apart =
@@ -86,6 +85,7 @@ before-differs a b h = by (name_cmp a b) refl
 behind-differs : (a b : Name) → name_before b a ≡ true → same_name a b ≡ false
 behind-differs a b h = nat_list_eq_equiv.symm a b ∙ before-differs b a h
 
+-- the keys of referents in the order of their names, and of one last command
 refs-differ : (route : Name) (x : Referent) (xs : List Referent) (last : Record) → list_all (referent_before x) xs ≡ true → differ (set_on route x) last ≡ true → list_all (differ (set_on route x)) (map (set_on route) xs ++ last ∷ []) ≡ true
 refs-differ route x [] last before other = and_from (differ (set_on route x) last) true other refl
 refs-differ route x (y ∷ xs) last before other =
@@ -135,28 +135,6 @@ short-enough course h = grind (arith, nat_tests)
 
 -- ---- the route is laid
 
--- where no row passes, nothing is found
-none-found : {X : Type 0} (p : X → Bool) (xs : List X) → list_any p xs ≡ false → position p xs ≡ None
-none-found {X = X} p xs h =
-    let all = in-front xs h in
-    let not-below : nat_lt (position_or_len p xs) (length xs) ≡ false = grind (arith, nat_tests) in
-    ap (λ (b : Bool). cond b (Some (position_or_len p xs)) None) not-below
-  where
-    in-front : (xs : List X) → list_any p xs ≡ false → position_or_len p xs ≡ length xs
-    in-front [] h = refl
-    in-front (x ∷ xs) h = by (p x) refl h (in-front xs)
-      where
-        by : (b : Bool) → p x ≡ b → (b || list_any p xs) ≡ false → (list_any p xs ≡ false → position_or_len p xs ≡ length xs) → position_or_len p (x ∷ xs) ≡ length (x ∷ xs)
-        by true e h rest = absurd (false≢true (sym h))
-        by false e h rest = ap (λ (b : Bool). cond (not b) (1 + position_or_len p xs) 0) e ∙ ap (λ (n : ℕ). 1 + n) (rest h) ∙ (omega arith)
-
-neither : (a b : Bool) → (a || b) ≡ false → (a ≡ false) × (b ≡ false)
-neither true b h = absurd (false≢true (sym h))
-neither false b h = (refl, h)
-
-either-false : (a b : Bool) → a ≡ false → b ≡ false → (a || b) ≡ false
-either-false a b h k = λ i. h i || k i
-
 -- what meets neither of two parts
 taken-parts : (rows : List (Name × Alignment)) (xs ys : List Ground) → list_any (λ route. meets (xs ++ ys) route.1.course) rows ≡ false
     → (list_any (λ route. meets xs route.1.course) rows ≡ false) × (list_any (λ route. meets ys route.1.course) rows ≡ false)
@@ -165,14 +143,15 @@ taken-parts (e ∷ rows) xs ys h =
     let one = neither (meets (xs ++ ys) e.1.course) (list_any (λ route. meets (xs ++ ys) route.1.course) rows) h in
     let two = neither (meets xs e.1.course) (meets ys e.1.course) (sym (list_any-append _ xs ys) ∙ one.0) in
     let rest = taken-parts rows xs ys one.1 in
-    (either-false _ _ two.0 rest.0, either-false _ _ two.1 rest.1)
+    (both-false _ _ two.0 rest.0, both-false _ _ two.1 rest.1)
 
 no-piece-taken : (s : State) (pieces : List Piece) → is_taken s (course_of pieces) ≡ false → list_any (λ p. is_taken s (expand p)) pieces ≡ false
 no-piece-taken s [] h = refl
 no-piece-taken s (p ∷ pieces) h =
     let both = taken-parts s.routes.rows (expand p) (course_of pieces) h in
-    either-false (is_taken s (expand p)) (list_any (λ p. is_taken s (expand p)) pieces) both.0 (no-piece-taken s pieces both.1)
+    both-false (is_taken s (expand p)) (list_any (λ p. is_taken s (expand p)) pieces) both.0 (no-piece-taken s pieces both.1)
 
+-- a route of new ground under a new name
 lay : (name : Name) (pieces : List Piece) (marks : List Mark) (s : State) → contains_key s.routes name ≡ false → check_pieces s pieces ≡ Ok tt → is_too_long (course_of pieces) ≡ false
     → is_taken s (course_of pieces) ≡ false → bad_mark (length (course_of pieces)) marks ≡ None → do_route name pieces marks s ≡ Ok (set_route name (course_of pieces) marks s)
 lay name pieces marks s unknown parts short free good =
@@ -308,7 +287,7 @@ laid-made : (limits : Limits) (s : State) (r : Route) (marks : List Mark) → Ha
 unfolding attempt
 laid-made limits s r marks h good =
     subst (λ (course : List Ground). is_too_long course ≡ false → is_taken s course ≡ false → bad_mark (length course) marks ≡ None → do_route r.name (pieces_of r.course) marks s ≡ Ok (set_route r.name course marks s))
-    (pieces_make r.course).0 (lay r.name (pieces_of r.course) marks s h.name h.pieces) (not-long r) h.free good
+    (pieces_make r.course).0 (lay r.name (pieces_of r.course) marks s h.name (pieces_pass s r.course h.known h.once)) (not-long r) h.free good
 
 laid-as : (limits : Limits) (s : State) (r : Route) (marks : List Mark) → HasRoomFor limits s r → bad_mark (length r.course) marks ≡ None → place_of_key (laid r marks).key s.done ≡ None → length s.done < limits.edits
     → (step_record limits (laid r marks) s).state ≡ accept (laid r marks).key (laid r marks).command (set_route r.name r.course marks s)
@@ -317,6 +296,7 @@ laid-as limits s r marks h good new more =
 
 -- ---- the referents
 
+-- the route as it is before it gets its marks
 abbrev by_chainage : Route → Alignment
 by_chainage r = record { course = r.course; marks = chainage_marks (length r.course) }
 
@@ -337,6 +317,7 @@ set-made : (s : State) (r : Route) (x : Referent) → s.referents x.name ≡ Non
 unfolding attempt
 set-made s r x unknown known within = set-as s r x unknown known within
 
+-- the commands of referents, before others that wait
 run-refs : (limits : Limits) (r : Route) (more : List Record) (xs : List Referent) (s : State) → get s.routes r.name ≡ Some (by_chainage r) → AllByRecursion (λ x. s.referents x.name ≡ None) xs
     → each_two referent_before xs ≡ true → list_all (λ x. nat_lt x.at (length r.course)) xs ≡ true → Waits limits (map (set_on r.name) xs ++ more) s.done
     → (state_after limits (map (set_on r.name) xs ++ more) s ≡ state_after limits more (referred r xs s)) × Waits limits more (referred r xs s).done
