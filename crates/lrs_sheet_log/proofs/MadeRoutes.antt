@@ -333,10 +333,11 @@ run-refs limits r more (x ∷ xs) s known unknown sorted on w =
     let low : x.at < length r.course = let test = places.0 in grind (arith, nat_tests) in
     let step : (step_record limits c s).state ≡ u = done-as limits c s t w.new.0 (room-for-more limits s x.name r.name x.at (omega (arith, room))) (set-made s r x unknown.0 known low) in
     let rest = run-refs limits r more xs u known (still-unknown s c x (ground_at r.course x.at) xs names.0 unknown.1) names.1 places.1 (waits-on limits c (map (set_on r.name) xs ++ more) s.done w) in
-    let same : u.done ++ map edit_of (map (set_on r.name) xs) ≡ s.done ++ map edit_of (map (set_on r.name) (x ∷ xs)) = append_assoc s.done (edit_of c ∷ []) (map edit_of (map (set_on r.name) xs)) in
-    (ap (λ (t : State). state_after limits (map (set_on r.name) xs ++ more) t) step ∙ rest.0
-    ∙ ap (λ (t : State). state_after limits more t) (λ i. record s { referents = set_all r.course (x ∷ xs) s.referents; done = same i }),
-    subst (λ (d : List Edit). Waits limits more d) same rest.1)
+    let same : u.done ++ map edit_of (map (set_on r.name) xs) ≡ s.done ++ map edit_of (map (set_on r.name) (x ∷ xs)) = append_assoc s.done (edit_of c ∷ []) (map edit_of (map (set_on r.name) xs)) in (
+      ap (λ (t : State). state_after limits (map (set_on r.name) xs ++ more) t) step ∙ rest.0
+          ∙ ap (λ (t : State). state_after limits more t) (λ i. record s { referents = set_all r.course (x ∷ xs) s.referents; done = same i }),
+      subst (λ (d : List Edit). Waits limits more d) same rest.1,
+    )
 
 -- ---- all of them
 
