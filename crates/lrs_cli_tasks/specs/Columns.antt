@@ -1,6 +1,6 @@
 -- The columns of a list, and what is picked of it: some of them, in an order.
-use Rattle.std.specs.Prelude.{◌≡◌, ◌⊎◌, ⊤, ℕ, nat_eq, Bool, false, not, IsTrue, List, [], ◌∷◌, ◌++◌, map, Option, Some, None, slice_index_or, IsSomeAnd}
-use Rattle.std.specs.List.{join_with_byte, list_any, position}
+use Rattle.std.specs.Prelude.{◌≡◌, ◌⊎◌, ⊤, ℕ, suc, nat_eq, Bool, false, not, IsTrue, if◌then◌else◌, List, [], ◌∷◌, ◌++◌, map, Option, Some, None, option_map, slice_index_or, IsSomeAnd}
+use Rattle.std.specs.List.{join_with_byte, list_any}
 use Rattle.std.specs.Str.{bytes_eq}
 use Rattle.lrs_measure.specs.Lists.{each_two}
 use Rattle.lrs_measure.specs.Texts.{Name}
@@ -36,7 +36,8 @@ columns_of q = []
 
 -- the place of a column, counted from 0: of the first of its name
 abbrev pub place_of : List Text → Text → Option ℕ
-place_of columns name = position (λ column. bytes_eq column name) columns
+place_of [] name = None
+place_of (column ∷ others) name = if bytes_eq column name then Some 0 else option_map suc (place_of others name)
 
 -- the place is one of these
 abbrev pub is_among : ℕ → List ℕ → Bool

@@ -1,7 +1,6 @@
 //! The columns of a list: which there are, and the places of those that are named.
 
 ghost use Rattle.std.specs.Prelude.{◌≡◌, ◌⊎◌, ◌+◌, ◌++◌, IfOk, IfErr, IfSome, IfNone, OnOk, [], ◌∷◌, Some, None, false, true, length, option_map};
-ghost use Rattle.std.specs.List.{list_any};
 ghost use Rattle.lrs_machine.specs.Image.{nothing};
 ghost use Rattle.lrs_report_lists.specs.Lists.{rows_header};
 ghost use Rattle.lrs_sheet_records.specs.Words.{parts_of};
@@ -76,7 +75,7 @@ fn place_among(names: &[u8], name: &[u8]) -> Result<usize, usize>
 {
     let mut rest = names;
     let mut place = 0;
-    loop {
+    'names: loop {
         let (first, behind) = cut_at(rest, b',');
         if first == name {
             return Ok(place);
@@ -102,7 +101,12 @@ fn class_columns(question: &Question) -> &[ClassName]
 fn class_place(classes: &[ClassName], name: &[u8]) -> Option<usize>
     ensures { result ≡ place_of classes.now name.now }
 {
-    classes.iter().position(|class| class.bytes() == name)
+    for (place, class) in classes.iter().enumerate() {
+        if class.bytes() == name {
+            return Some(place);
+        }
+    }
+    None
 }
 
 /// The place of a class behind so many columns.
@@ -135,6 +139,17 @@ fn column_place(question: &Question, name: &[u8]) -> Result<usize, QuestionFault
     }
 }
 
+fn is_among(places: &[usize], place: usize) -> bool
+    ensures { result ≡ is_among place places.now }
+{
+    for other in places {
+        if *other == place {
+            return true;
+        }
+    }
+    false
+}
+
 /// Puts a place behind others, where it is none of them.
 fn push_place(places: &mut Vec<usize>, place: usize) -> Result<(), QuestionFault>
     ensures pushed { OnOk result (places.new.items ≡ places.old.items ++ place ∷ []) }
@@ -142,7 +157,7 @@ fn push_place(places: &mut Vec<usize>, place: usize) -> Result<(), QuestionFault
     ensures unread { IfErr result (λ e. ((e ≡ Unreadable word.RepeatedColumn)
         × (is_among place places.old.items ≡ true)) ⊎ (e ≡ Memory)) }
 {
-    if places.iter().any(|other| *other == place) {
+    if is_among(places.as_slice(), place) {
         return Err(QuestionFault::Unreadable(BadWord::RepeatedColumn));
     }
     match places.push(place) {
@@ -152,20 +167,19 @@ fn push_place(places: &mut Vec<usize>, place: usize) -> Result<(), QuestionFault
 }
 
 /// The places of the columns that a text names, with a comma between two.
-fn places_of(
-    alloc: Global,
-    question: &Question,
-    names: &[u8],
-) -> Result<Rows<usize>, QuestionFault>
+fn places_of(alloc: Global, question: &Question, names: &[u8]) -> Result<Rows<usize>, QuestionFault>
     ensures read { IfOk result (ArePlaces (columns_of question.now) names.now) }
     ensures unread { IfErr result (CannotPlace (columns_of question.now) names.now) }
 {
     let mut places = Vec::new(alloc);
     let mut rest = names;
-    loop {
+    'names: loop {
         let (name, behind) = cut_at(rest, b',');
         let place = column_place(question, name)?;
-        push_place(&mut places, place)?;
+        match push_place(&mut places, place) {
+            Ok(()) => {}
+            Err(fault) => return Err(fault),
+        }
         match behind {
             Some(more) => rest = more,
             None => return Ok(Rows::from_vec(places)),

@@ -240,11 +240,7 @@ fn write_segments<W: Write>(
 ///
 /// # Errors
 /// That of the writer, and one of the kind `OutOfMemory`. Part of the lines may be written then.
-pub(crate) fn write_told<W: Write>(
-    alloc: Global,
-    writer: &mut W,
-    told: Told<'_>,
-) -> io::Result<()>
+pub(crate) fn write_told<W: Write>(alloc: Global, writer: &mut W, told: Told<'_>) -> io::Result<()>
     ensures { OnOk result (Appends (W.contents writer.old) (W.contents writer.new)
         (told_text told.entry)) }
 {

@@ -61,12 +61,16 @@ fn write_line<W: Write>(writer: &mut W, places: &[usize], line: &[u8]) -> io::Re
 }
 
 /// Writes of each line of a CSV text whose cells have no quotes the fields at these places, in this order.
-pub(crate) fn write_picked<W: Write>(writer: &mut W, places: &[usize], text: &[u8]) -> io::Result<()>
+pub(crate) fn write_picked<W: Write>(
+    writer: &mut W,
+    places: &[usize],
+    text: &[u8],
+) -> io::Result<()>
     ensures { OnOk result (Appends (W.contents writer.old) (W.contents writer.new)
         (picked_cells places.now text.now)) }
 {
     let mut rest = text;
-    loop {
+    'lines: loop {
         let (line, behind) = cut_at(rest, b'\n');
         write_line(writer, places, line)?;
         match behind {

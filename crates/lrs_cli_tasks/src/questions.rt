@@ -1,6 +1,6 @@
 //! Questions: asked of a desk, and their answers printed.
 
-ghost use Rattle.std.specs.Prelude.{◌≡◌, ◌⊎◌, IfOk, IfErr, Err, false, true};
+ghost use Rattle.std.specs.Prelude.{◌≡◌, ◌⊎◌, IfOk, IfErr, OnOk, Err, false};
 ghost use Rattle.std.specs.Io.KnownBytes.{Appends};
 ghost use Rattle.std.specs.IoError.{error_kind};
 ghost use Rattle.lrs_report_answers.specs.ToldAnswers.{IsTold};
@@ -121,7 +121,19 @@ fn picked_text(alloc: Global, text: &[u8], places: &[usize]) -> Result<Vec<u8>, 
     }
 }
 
-// Writes a text through a buffer in front of the writer, as it is or each cell as text, and gives the writer back.
+// Writes a CSV text, as it is or each cell as text.
+fn write_cells<W: Write>(writer: &mut W, text: &[u8], as_text: bool) -> io::Result<()>
+    ensures { OnOk result (Appends (W.contents writer.old) (W.contents writer.new)
+        (in_cells as_text text.now)) }
+{
+    if as_text {
+        write_text_cells(writer, text)
+    } else {
+        writer.write_all(text)
+    }
+}
+
+// The same through a buffer in front of the writer, which is given back.
 fn print_cells<W: Write + Drop>(
     alloc: Global,
     text: &[u8],
@@ -133,12 +145,7 @@ fn print_cells<W: Write + Drop>(
     ensures faults { IfErr result (λ e. (e ≡ ProgramFault.Memory) ⊎ (e ≡ ProgramFault.Write)) }
 {
     let mut writer = buffered(alloc, to)?;
-    let written = if as_text {
-        write_text_cells(&mut writer, text)
-    } else {
-        writer.write_all(text)
-    };
-    match written {
+    match write_cells(&mut writer, text, as_text) {
         Ok(()) => behind(writer),
         Err(_) => Err(ProgramFault::Write),
     }

@@ -1,7 +1,0 @@
-use Rattle.lrs_cli_tasks.proofs.AnsweredInCells.{told_in_cells}
-use Rattle.lrs_cli_tasks.proofs.questions.answer_in_cells.Goals as goal
-
-pub returns-in_ok-print_cells-in-Ok-clause-answered : goal.returns-in_ok-print_cells-in-Ok-clause-answered
-returns-in_ok-print_cells-in-Ok-clause-answered g c =
-    told_in_cells c.args.desk.now.image c.args.question (g.W.Write.contents c.args.to) c.in-Ok.ensures.0 c.new-text.result.items c.print_answer.new.writer.items _
-    c.in-Ok.ensures.1 c.new-text.ensures.items c.in-Ok.ensures.2 (rw c.as_slice.ensures.value at c.in_ok-print_cells-in-Ok.ensures.written)
