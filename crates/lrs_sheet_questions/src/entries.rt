@@ -1,17 +1,21 @@
 //! The entries of a list, each behind a key and a word.
 
-ghost use Rattle.std.specs.Prelude.{◌≡◌, ◌==◌, ◌<◌, ◌≤◌, false, length, take, Some, OnOk};
+ghost use Rattle.std.specs.Prelude.{◌≡◌, ◌==◌, ◌≤◌, length, OnOk};
 ghost use Rattle.std.specs.List.{list_any, position};
 ghost use Rattle.std.specs.Io.KnownBytes.{Appends};
-ghost use Rattle.lrs_sheet_questions.specs.Entries.{front_of};
+ghost use Rattle.lrs_sheet_questions.specs.Entries.{behind_first, entry_lines, front_of, line_count, with_front};
 ghost use Rattle.lrs_sheet_questions.specs.FirstLine.{line_length};
-ghost use Rattle.lrs_sheet_questions.specs.Passing.{HasTold, HasTold-prop, next_stage, stage_of, told_from, told_of};
 
-use crate::given::Given;
-use crate::stage::Stage;
 use lrs_machine::Key;
 use std::io;
-use std::io::{ErrorKind, Write};
+use std::io::Write;
+
+/// How many lines end in some bytes.
+pub(crate) fn lines_in(bytes: &[u8]) -> u64
+    ensures { result ≡ line_count bytes.now }
+{
+    bytes.iter().filter(|byte| **byte == b'\n').count() as u64
+}
 
 /// The first line end.
 fn line_end(bytes: &[u8]) -> Option<usize>
@@ -32,83 +36,52 @@ fn first_line(bytes: &[u8]) -> (usize, bool)
     }
 }
 
-/// The stage behind a line, whose end may be missing.
-fn behind_line(stage: Stage, is_whole: bool) -> Stage
-    ensures { result ≡ next_stage stage is_whole }
+/// What stands behind the first line of a text.
+pub(crate) fn behind_first(text: &[u8]) -> &[u8]
+    ensures { result.now ≡ behind_first text.now }
 {
-    match (stage, is_whole) {
-        (_, true) => Stage::Start,
-        (Stage::Header, false) => Stage::Header,
-        (Stage::Start | Stage::Inside, false) => Stage::Inside,
-    }
+    let (length, _) = first_line(text);
+    &text[length..]
 }
 
-fn write_front<W: Write>(to: &mut W, key: Key, word: &str) -> io::Result<()>
-    ensures { OnOk result (Appends (W.contents to.old) (W.contents to.new)
+fn write_front<W: Write>(writer: &mut W, key: Key, word: &str) -> io::Result<()>
+    ensures { OnOk result (Appends (W.contents writer.old) (W.contents writer.new)
         (front_of key word.now)) }
 {
-    write!(to, "{key},{word},")
+    write!(writer, "{key},{word},")
 }
 
-/// Writes what is told of the first line of some bytes, which is so long.
-fn write_line<W: Write>(
-    to: &mut W,
+/// Writes a byte, and before it the key and the word where a line begins.
+fn write_byte<W: Write>(
+    writer: &mut W,
     key: Key,
     word: &str,
-    stage: Stage,
-    line: &[u8],
+    begins: bool,
+    byte: u8,
 ) -> io::Result<()>
-    requires line { line.now ≡ take (line_length line.now) line.now }
-    requires some { 0 < length line.now }
-    ensures { OnOk result (Appends (W.contents to.old) (W.contents to.new)
-        (told_from (front_of key word.now) stage line.now)) }
+    ensures { OnOk result (Appends (W.contents writer.old) (W.contents writer.new)
+        (with_front (front_of key word.now) begins byte)) }
 {
-    match stage {
-        Stage::Header => Ok(()),
-        Stage::Start => {
-            write_front(to, key, word)?;
-            to.write_all(line)
-        }
-        Stage::Inside => to.write_all(line),
+    if begins {
+        write_front(writer, key, word)?;
     }
+    writer.write_all(&[byte])
 }
 
-/// Passes the entries of a list on to a writer, each line behind a key and a word, and leaves its header out. It keeps nothing.
-#[derive(Drop)]
-pub(crate) struct Entries<'a, W: Write> {
-    pub(crate) to: &'a mut W,
-    pub(crate) key: Key,
-    pub(crate) word: &'static str,
-    pub(crate) stage: Stage,
-    pub(crate) is_broken: bool,
-    pub(crate) given: Given,
-    ghost staged: { stage ≡ stage_of given.text },
-    ghost told: { HasTold is_broken given.start (W.contents to.now)
-        (told_of (front_of key word.now) given.text) } by { HasTold-prop is_broken given.start
-            (W.contents to.now) (told_of (front_of key word.now) given.text) },
-}
-
-impl<'a, W: Write> Write for Entries<'a, W> {
-    ghost contents = { λ entries. Some entries.given.text };
-
-    fn write(&mut self, buf: &[u8]) -> io::Result<usize> {
-        if self.is_broken {
-            return Err(io::Error::from(ErrorKind::BrokenPipe));
-        }
-        if buf.is_empty() {
-            return Ok(0);
-        }
-        let (length, is_whole) = first_line(buf);
-        let line = &buf[..length];
-        self.is_broken = true;
-        write_line(self.to, self.key, self.word, self.stage, line)?;
-        self.given.note(line);
-        self.stage = behind_line(self.stage, is_whole);
-        self.is_broken = false;
-        Ok(length)
+/// Writes the lines of a text, each behind a key and a word.
+pub(crate) fn write_entries<W: Write>(
+    writer: &mut W,
+    key: Key,
+    word: &str,
+    body: &[u8],
+) -> io::Result<()>
+    ensures { OnOk result (Appends (W.contents writer.old) (W.contents writer.new)
+        (entry_lines key word.now body.now)) }
+{
+    let mut begins = true;
+    for byte in body {
+        write_byte(writer, key, word, begins, *byte)?;
+        begins = *byte == b'\n';
     }
-
-    fn flush(&mut self) -> io::Result<()> {
-        Ok(())
-    }
+    Ok(())
 }

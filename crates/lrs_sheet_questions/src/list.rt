@@ -1,24 +1,21 @@
-//! The lines of a list: its entries are counted, and then written one by one.
+//! The lines of a list: how many entries it has, and each of them.
 
-ghost use Rattle.std.specs.Prelude.{◌≡◌, ◌⊎◌, ◌∷◌, [], ℕ, List, Option, IfErr, IfOk, OnOk, Some};
+ghost use Rattle.std.specs.Prelude.{◌≡◌, ◌⊎◌, ◌∷◌, [], IfErr, IfOk, OnOk, Some};
 ghost use Rattle.std.specs.Fmt.{decimal};
 ghost use Rattle.std.specs.Io.KnownBytes.{Appends};
-ghost use Rattle.lrs_sheet_questions.specs.Entries.{behind_first, entry_lines, line_count, list_lines};
+ghost use Rattle.lrs_sheet_questions.specs.Entries.{list_lines};
 ghost use Rattle.lrs_sheet_questions.specs.Lines.{fields_line, told_lines};
 ghost use Rattle.lrs_sheet_questions.specs.Lists.{entry_word, list_kind, list_text, list_word};
 
-use crate::counter::LineCounter;
-use crate::entries::Entries;
-use crate::given::Given;
+use crate::entries::{behind_first, lines_in, write_entries};
 use crate::kind::ListKind;
-use crate::stage::Stage;
 use lrs_machine::{Key, Listing};
 use lrs_report_answers::{Told, write_overlay};
 use lrs_report_lists::{write_history, write_lengths, write_rows};
 use lrs_sheet_records::SheetFault;
-use std::alloc::Global;
+use std::alloc::{AllocError, Global};
 use std::io;
-use std::io::{ErrorKind, Write};
+use std::io::Write;
 
 /// Which list is told, if it is one.
 pub(crate) fn kind_of(told: &Told<'_>) -> Option<ListKind>
@@ -95,41 +92,16 @@ fn write_text<W: Write>(alloc: Global, writer: &mut W, told: &Told<'_>) -> io::R
     }
 }
 
-/// How many entries a list has.
-fn count_entries(alloc: Global, told: &Told<'_>) -> io::Result<u64>
-    ensures { IfOk result (λ count. count ≡ line_count (behind_first (list_text told.now))) }
+/// A list as it is printed, with its header.
+fn text_of(alloc: Global, told: &Told<'_>) -> Result<Vec<u8>, AllocError>
+    ensures { IfOk result (λ text. text.items ≡ list_text told.now) }
 {
-    let mut counter = LineCounter::new();
-    write_text(alloc, &mut counter, told)?;
-    Ok(counter.behind_first())
-}
-
-/// Writes the entries of a list to a writer that holds these bytes.
-fn pass_entries<W: Write>(
-    alloc: Global,
-    to: &mut W,
-    key: Key,
-    word: &'static str,
-    told: &Told<'_>,
-) -> io::Result<()>
-    ghost start: { Option (List ℕ) }
-    requires { W.contents to.old ≡ start }
-    ensures { OnOk result (Appends start (W.contents to.new)
-        (entry_lines key word.now (behind_first (list_text told.now)))) }
-{
-    let mut entries = Entries {
-        to,
-        key,
-        word,
-        stage: Stage::Header,
-        is_broken: false,
-        given: Given::new(),
-    };
-    write_text(alloc, &mut entries, told)?;
-    if entries.is_broken {
-        return Err(io::Error::from(ErrorKind::BrokenPipe));
+    let mut text = Vec::new(alloc);
+    // of what is written into memory, that alone can run out
+    match write_text(alloc, &mut text, told) {
+        Ok(()) => Ok(text),
+        Err(_) => Err(AllocError),
     }
-    Ok(())
 }
 
 /// Writes how many entries a list has.
@@ -140,29 +112,20 @@ fn write_count<W: Write>(writer: &mut W, key: Key, name: &str, count: u64) -> io
     writeln!(writer, "{key},{name},{count}")
 }
 
-/// Writes how many entries a list has, and each of them.
-fn write_counted<W: Write>(
-    alloc: Global,
-    writer: &mut W,
-    key: Key,
-    kind: ListKind,
-    told: &Told<'_>,
-    count: u64,
-) -> io::Result<()>
-    requires { count ≡ line_count (behind_first (list_text told.now)) }
+/// Writes how many lines a text has behind its first one, and each of these.
+fn write_counted<W: Write>(writer: &mut W, key: Key, kind: ListKind, text: &[u8]) -> io::Result<()>
     ensures { OnOk result (Appends (W.contents writer.old) (W.contents writer.new)
-        (list_lines key (list_word kind) (entry_word kind) (list_text told.now))) }
+        (list_lines key (list_word kind) (entry_word kind) text.now)) }
 {
-    write_count(writer, key, name_of(kind), count)?;
-    pass_entries(alloc, writer, key, word_of(kind), told)
+    let body = behind_first(text);
+    write_count(writer, key, name_of(kind), lines_in(body))?;
+    write_entries(writer, key, word_of(kind), body)
 }
 
-/// Writes the lines of a list of this kind. The list is made twice: its entries are counted before the first is written, and
-/// none is kept.
+/// Writes the lines of a list of this kind. The list is made in memory before the first is written.
 ///
 /// # Errors
-/// `Memory` where it runs out while they are counted, and nothing is written. `Write` if the writer fails, and also where
-/// memory runs out only behind that; part of the lines may be written then.
+/// `Memory` where it runs out, and nothing is written. `Write` if the writer fails; part of the lines may be written then.
 pub(crate) fn write_list<W: Write>(
     alloc: Global,
     writer: &mut W,
@@ -176,10 +139,10 @@ pub(crate) fn write_list<W: Write>(
     ensures faults { IfErr result (λ e. (e ≡ SheetFault.Write)
         ⊎ ((e ≡ SheetFault.Memory) × (W.contents writer.new ≡ W.contents writer.old))) }
 {
-    let Ok(count) = count_entries(alloc, told) else {
+    let Ok(text) = text_of(alloc, told) else {
         return Err(SheetFault::Memory);
     };
-    match write_counted(alloc, writer, key, kind, told, count) {
+    match write_counted(writer, key, kind, &text) {
         Ok(()) => Ok(()),
         Err(_) => Err(SheetFault::Write),
     }

@@ -1,5 +1,0 @@
-use Rattle.std.proofs.Common.{None}
-use Rattle.lrs_sheet_questions.proofs.counter.LineCounter.new.Given as goal
-
-abbrev pub ghost-new : goal.ghost-new
-ghost-new a = None
