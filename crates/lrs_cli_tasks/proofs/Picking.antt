@@ -1,15 +1,17 @@
 -- Fields of a line, columns of a text, and the places of names.
-use Rattle.std.proofs.Common.{◌≡◌, ◌∙◌, ◌<◌, ◌+◌, ◌&&◌, ◌||◌, ℕ, suc, Bool, true, false, true≢false, not, cond, List, [], ◌∷◌, ◌++◌, map, length, Option, Some, None, is_some, option_map, IfNone, IfSome, refl, sym, ap, subst, append_assoc, append-nil, zero-add, arith}
-use Rattle.std.specs.Prelude.{◌==◌, OnOk, Result, Ok, Err, nat_eq}
+use Rattle.std.proofs.Common.{◌≡◌, ◌∙◌, ◌⊎◌, ◌<◌, ◌+◌, ◌&&◌, ◌||◌, ℕ, suc, Bool, true, false, true≢false, not, cond, List, [], ◌∷◌, ◌++◌, map, length, Option, Some, None, Ok, Err, Result, inl, inr, is_some, option_map, IfNone, IfSome, refl, sym, ap, subst, append_assoc, append-nil, zero-add, arith}
+use Rattle.std.specs.Prelude.{◌==◌, IfErr, IfOk, nat_eq}
 use Rattle.std.specs.List.{flat_map, join_with_byte, list_all}
 use Rattle.std.specs.Io.KnownBytes.{Appends}
 use Rattle.std.specs.Str.{bytes_eq}
 use Rattle.std.proofs.lemmas.List.Splits.{length-slice_split}
-use Rattle.lrs_cli_tasks.specs.Columns.{ArePlaces, NamesNone, NamesTwice, are_apart, field_at, is_among, picked_cells, picked_line, place_of}
+use Rattle.lrs_cli_words.specs.declared.question.BadWord.TheVariants as word
+use Rattle.lrs_cli_words.specs.declared.question.QuestionFault.{QuestionFault}
+use Rattle.lrs_cli_words.specs.declared.question.QuestionFault.TheVariants.{Unreadable, Memory}
+use Rattle.lrs_cli_tasks.specs.Columns.{ArePlaces, NamesTwice, are_apart, field_at, is_among, picked_cells, picked_line, place_of}
 use Rattle.lrs_machine.specs.Lines.{Text, fields}
 use Rattle.lrs_report.proofs.Writing.{appends_more}
 use Rattle.lrs_sheet_records.specs.Words.{parts_of}
-use Rattle.lrs_cli_tasks.proofs.TextCells.{appends_none}
 
 -- ---- fields with a comma between two
 
@@ -20,10 +22,6 @@ fields_next f x (y ∷ ys) = ap (λ (t : Text). f x ++ 44 ∷ t) (fields_next f 
 pub line_next : (first : ℕ) (others : List ℕ) (line : Text) → 0 < length line → field_at line first ++ flat_map (λ place. 44 ∷ field_at line place) others ≡ picked_line (first ∷ others) line
 line_next first others [] some = absurd (omega (arith, some))
 line_next first others (byte ∷ rest) some = sym (fields_next (field_at (byte ∷ rest)) first others)
-
-pub line_none : (line : Text) → picked_line [] line ≡ []
-line_none [] = refl
-line_none (byte ∷ rest) = refl
 
 -- ---- lines
 
@@ -45,9 +43,6 @@ pub record HasPicked (places : List ℕ) (text rest : Text) (old new : Option (L
   pub appended : Appends old new written
   pub left : written ++ picked_cells places rest ≡ picked_cells places text
 
-pub none_picked : (places : List ℕ) (text : Text) (old : Option (List ℕ)) → HasPicked places text text old old
-none_picked places text old = record { written = []; appended = appends_none old; left = refl }
-
 -- one line more, and the end of the line
 pub more_picked : (places : List ℕ) (text rest line behind : Text) (old a b c : Option (List ℕ)) → HasPicked places text rest old a → Appends a b (picked_line places line) → Appends b c (10 ∷ [])
     → parts_of 10 rest ≡ line ∷ parts_of 10 behind → HasPicked places text behind old c
@@ -60,14 +55,6 @@ more_picked places text rest line behind old a b c before one end split =
           ∙ ap (λ (t : Text). before.written ++ t) (sym (cells_more places rest line behind split))
           ∙ before.left;
     }
-
--- the last line
-pub all_picked : (places : List ℕ) (text rest line : Text) (old a b : Option (List ℕ)) → HasPicked places text rest old a → Appends a b (picked_line places line)
-    → parts_of 10 rest ≡ line ∷ [] → Appends old b (picked_cells places text)
-all_picked places text rest line old a b before one last =
-    let this = picked_line places line in
-    let left : before.written ++ this ≡ picked_cells places text = ap (λ (t : Text). before.written ++ t) (sym (ap (λ (ls : List Text). join_with_byte 10 (map (picked_line places) ls)) last)) ∙ before.left in
-    subst (λ (t : Text). Appends old b t) left (appends_more old a b before.written this before.appended one)
 
 -- ---- the place of a name
 
@@ -84,33 +71,10 @@ pub behind_none : (o : Option ℕ) → o ≡ behind_by 0 o
 behind_none None = refl
 behind_none (Some k) = ap Some (sym (zero-add k))
 
-behind_one : (n : ℕ) (o : Option ℕ) → behind_by n (option_map suc o) ≡ behind_by (n + 1) o
-behind_one n None = refl
-behind_one n (Some k) = ap Some (let e : n + suc k ≡ (n + 1) + k = omega arith in e)
-
 -- the names before the rest are passed
 pub record HasPassed (names : List Text) (name : Text) (rest : List Text) (place : ℕ) : Type 0 where
   pub found : place_of names name ≡ behind_by place (place_of rest name)
   pub count : length names ≡ place + length rest
-
-pub none_passed : (names : List Text) (name : Text) → HasPassed names name names 0
-none_passed names name = record { found = behind_none (place_of names name); count = sym (zero-add (length names)) }
-
-pub one_passed : (names : List Text) (name x : Text) (rest behind : List Text) (place : ℕ) → HasPassed names name rest place → rest ≡ x ∷ behind → bytes_eq x name ≡ false
-    → HasPassed names name behind (place + 1)
-one_passed names name x rest behind place before split other = record {
-  found = before.found ∙ ap (λ (ps : List Text). behind_by place (place_of ps name)) split ∙ ap (behind_by place) (place_later x name behind other) ∙ behind_one place (place_of behind name);
-  count = let n : length rest ≡ suc (length behind) = ap length split in omega (arith, before.count, n);
-}
-
-pub found_at : (names : List Text) (name x : Text) (rest behind : List Text) (place : ℕ) → HasPassed names name rest place → rest ≡ x ∷ behind → bytes_eq x name ≡ true
-    → place_of names name ≡ Some place
-found_at names name x rest behind place before split same =
-    before.found ∙ ap (λ (ps : List Text). behind_by place (place_of ps name)) split ∙ ap (behind_by place) (place_here x name behind same) ∙ ap Some (let e : place + 0 ≡ place = omega arith in e)
-
--- behind all of them there is none
-pub all_passed : (names : List Text) (name : Text) (place : ℕ) → HasPassed names name [] place → (place_of names name ≡ None) × (place ≡ length names)
-all_passed names name place before = (before.found, let n = before.count in omega (arith, n))
 
 -- one list behind another
 suc_none : (o : Option ℕ) → option_map suc o ≡ None → o ≡ None
@@ -144,6 +108,23 @@ before_step false x xs ys name place other found below =
 pub place_before : (xs ys : List Text) (name : Text) (place : ℕ) → place_of xs name ≡ Some place → place_of (xs ++ ys) name ≡ Some place
 place_before [] ys name place found = absurd (true≢false (ap is_some (sym found)))
 place_before (x ∷ xs) ys name place found = before_step (bytes_eq x name) x xs ys name place refl found (place_before xs ys name)
+
+-- the same where the place behind the first list is given, or none is
+module _ (columns first classes given : List Text) (name : Text) (count : ℕ) (whole : columns ≡ first ++ classes) (none : place_of first name ≡ None) (counted : count ≡ length first) (same : given ≡ classes) where
+  columns_behind : place_of columns name ≡ behind_by count (place_of given name)
+  columns_behind =
+      ap (λ (cs : List Text). place_of cs name) whole ∙ place_behind first classes name none ∙ ap (λ (n : ℕ). behind_by n (place_of classes name)) (sym counted)
+      ∙ ap (λ (cs : List Text). behind_by count (place_of cs name)) (sym same)
+
+  pub behind_found : (r : Result ℕ QuestionFault) → IfOk r (λ place. behind_by count (place_of given name) ≡ Some place) → IfOk r (λ place. place_of columns name ≡ Some place)
+  behind_found (Ok place) found = columns_behind ∙ found
+  behind_found (Err e) found = tt
+
+  pub behind_unread : (r : Result ℕ QuestionFault) → IfErr r (λ e. ((e ≡ Unreadable word.Columns) × (place_of given name ≡ None)) ⊎ (e ≡ Memory))
+      → IfErr r (λ e. ((e ≡ Unreadable word.Columns) × (place_of columns name ≡ None)) ⊎ (e ≡ Memory))
+  behind_unread (Ok place) unread = tt
+  behind_unread (Err e) (inl h) = inl (h.0, columns_behind ∙ ap (behind_by count) h.1)
+  behind_unread (Err e) (inr h) = inr h
 
 -- ---- places that are apart
 
@@ -191,9 +172,6 @@ pub record HasFound (columns : List Text) (names rest : Text) (places : List ℕ
   pub found : map (place_of columns) front ≡ map Some places
   pub apart : are_apart places ≡ true
 
-pub none_found : (columns : List Text) (names : Text) → HasFound columns names names []
-none_found columns names = record { front = []; split = refl; found = refl; apart = refl }
-
 module _ (columns : List Text) (names rest name : Text) (places : List ℕ) (place : ℕ) where
   found_last : (front : List Text) → map (place_of columns) front ≡ map Some places → place_of columns name ≡ Some place → map (place_of columns) (front ++ name ∷ []) ≡ map Some (places ++ place ∷ [])
   found_last front before one =
@@ -217,9 +195,6 @@ module _ (columns : List Text) (names rest name : Text) (places : List ℕ) (pla
     ap (map (place_of columns)) (split_last before [] last ∙ append-nil (before.front ++ name ∷ [])) ∙ found_last before.front before.found one,
     apart_last place places ∙ and_not (are_apart places) (is_among place places) before.apart new,
   )
-
-  pub names_none : HasFound columns names rest places → (others : List Text) × (parts_of 44 rest ≡ name ∷ others) → place_of columns name ≡ None → NamesNone columns names
-  names_none before (others, split) none = (before.front, others, name, before.split ∙ ap (λ (ps : List Text). before.front ++ ps) split, none)
 
   pub names_twice : HasFound columns names rest places → (others : List Text) × (parts_of 44 rest ≡ name ∷ others) → place_of columns name ≡ Some place → is_among place places ≡ true → NamesTwice columns names
   names_twice before (others, split) one again = (

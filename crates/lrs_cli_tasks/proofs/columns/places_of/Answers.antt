@@ -1,4 +1,4 @@
-use Rattle.std.proofs.Common.{inl, inr, subst, sym}
+use Rattle.std.proofs.Common.{◌∙◌, inl, inr, subst, sym}
 use Rattle.lrs_cli_tasks.specs.Columns.{ArePlaces, columns_of}
 use Rattle.lrs_cli_tasks.proofs.Picking.{HasFound, all_found, first_name, names_twice, one_found}
 use Rattle.lrs_cli_tasks.proofs.columns.places_of.Goals as goal
@@ -22,6 +22,6 @@ names-preserved c =
 
 pub returns-in-None-clause-read : goal.returns-in-None-clause-read
 returns-in-None-clause-read c =
-    subst (ArePlaces (columns_of c.args.question.now) c.args.names.now) (sym c.in-Ok.ensures.pushed)
+    subst (ArePlaces (columns_of c.args.question.now) c.args.names.now) (sym (c.from_vec.ensures ∙ c.in-Ok.ensures.pushed))
     (all_found (columns_of c.args.question.now) c.args.names.now c.names.rest.now c.cut_at.result.0.now c.names.places.items c.in_ok-place.place c.names.invariant
     (rw c.in-None.is at c.cut_at.ensures.last) c.in_ok-place.ensures.found c.in-Ok.ensures.apart)
