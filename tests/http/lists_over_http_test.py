@@ -13,7 +13,7 @@ from serving import AT_3000, by_curl, by_http_client, by_socket, answer, error, 
 from stores import MORE, edit, is_whole, make, rows_of
 
 # the fields that are numbers as JSON, of whichever list; all others are texts, but for the measure of a mark, which is whole
-NUMBERS = {"length", "left", "right", "link", "link_from", "link_to", "chainage", "asset", "from", "to", "offset", "entry", "edit"}
+NUMBERS = {"assets", "length", "left", "right", "link", "link_from", "link_to", "chainage", "asset", "from", "to", "offset", "entry", "edit"}
 # the fields that are told exact and as decimals as JSON, and in one of these ways as CSV
 MEASURES = {"refs": ["measure"], "rows": ["from_measure", "to_measure"]}
 

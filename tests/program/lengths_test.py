@@ -12,7 +12,7 @@ from program import ends, faults, run, sheet_of
 from sent_sheets import random_record
 from stores import edit, look, make, make_full
 
-HEADER = ["class", "value", "left", "right", "length"]
+HEADER = ["class", "value", "left", "right", "length", "assets"]
 
 
 @pytest.fixture
@@ -34,19 +34,20 @@ def metres(millimetres):
 
 
 def wanted(path, route=None):
-    """Each millimetre of a route once, however many assets of the class and value hold it."""
-    left, right = {}, {}
-    for of, lo, hi, side, kind, value in look(path, "SELECT s.route, s.lo, s.hi, s.side, a.class, a.value FROM span s JOIN asset a ON a.number = s.asset")[0]:
+    """Each millimetre of a route once, however many assets of the class and value hold it; and how many assets do."""
+    left, right, holders = {}, {}, {}
+    for asset, of, lo, hi, side, kind, value in look(path, "SELECT s.asset, s.route, s.lo, s.hi, s.side, a.class, a.value FROM span s JOIN asset a ON a.number = s.asset")[0]:
         if route is not None and of != route:
             continue
         held = {(of, mm) for mm in range(lo, hi)}
+        holders.setdefault((kind, value), set()).add(asset)
         for chosen, sides in ((left, "LB"), (right, "RB")):
             if "LRB"[side] in sides:
                 chosen.setdefault((kind, value), set()).update(held)
     keys = sorted(set(left) | set(right))
     none = set()
     return [
-        [kind, value, *(metres(len(held)) for held in (left.get(key, none), right.get(key, none), left.get(key, none) | right.get(key, none)))]
+        [kind, value, *(metres(len(held)) for held in (left.get(key, none), right.get(key, none), left.get(key, none) | right.get(key, none))), str(len(holders[key]))]
         for key in keys
         for kind, value in [key]
     ]
@@ -70,11 +71,17 @@ def test_stretches_of_one_value_that_overlap_count_once(db):
         "o6,enter,35,SIGN,A1,B,abs,900,,STOP,0",
     )
     assert told(db) == [
-        ["RAIL", "steel", "2.000", "2.000", "2.500"],
-        ["RAIL", "wood", "0.000", "0.500", "0.500"],
-        ["SIGN", "STOP", "0.001", "0.001", "0.001"],
+        ["RAIL", "steel", "2.000", "2.000", "2.500", "3"],
+        ["RAIL", "wood", "0.000", "0.500", "0.500", "1"],
+        ["SIGN", "STOP", "0.001", "0.001", "0.001", "2"],
     ]
     assert told(db) == wanted(db)
+
+
+def test_an_asset_counts_once_however_many_rows_it_has(db):
+    make(db, "t1,enter,30,RAIL,A1,L,abs,0,6000,steel,0", "t2,retire,30,A1,abs,1000,2000", "t3,split,A1,5000,A2")
+    assert [row[-1] for row in told(db)] == ["1"] and told(db) == wanted(db)
+    assert [told(db, "--route", route) for route in ("A1", "A2")] == [wanted(db, "A1"), wanted(db, "A2")]
 
 
 def test_what_is_retired_has_no_length(db):

@@ -38,6 +38,17 @@ shape_of slot.ChainageStart = Some chainage
 shape_of slot.ChainageEnd = Some chainage
 shape_of slot.Unused = None
 
+-- the field that names the method by which a text of this shape is read
+abbrev pub method_by : Shape → Option Field
+method_by (PositionBy field) = Some field
+method_by (OrNothing shape) = method_by shape
+method_by other = None
+
+-- the same of a field, where something is wanted in it
+abbrev pub method_in : Option Shape → Option Field
+method_in None = None
+method_in (Some shape) = method_by shape
+
 -- what the fields behind a verb say; there are none behind a verb that is not known
 abbrev pub shapes_behind : Option Verb → List Shape
 shapes_behind None = []

@@ -233,7 +233,17 @@ fn argument_of(cause: Cause, verb: Verb) -> Option<Field> {
     None
 }
 
-/// The field that a cause is about, in a record of this verb.
+/// The field in which a record of this verb says where a stretch ends.
+pub(crate) fn end_of(verb: Verb) -> Option<Field> {
+    for field in &ARGUMENTS {
+        if matches!(slot_of(Some(verb), *field), Slot::To(_) | Slot::ChainageEnd) {
+            return Some(*field);
+        }
+    }
+    None
+}
+
+/// The field that a cause is about, in a record of this verb: of a stretch where it starts.
 pub(crate) fn field_of(cause: Cause, verb: Option<Verb>) -> Option<Field> {
     match cause {
         Cause::Malformed(field) => Some(field),

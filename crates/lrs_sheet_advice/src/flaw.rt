@@ -30,7 +30,10 @@ pub(crate) enum Flaw {
 /// What a field wants: what can be wrong with its text.
 #[derive(Clone, Copy)]
 enum Sort {
+    /// The number of a link or of an asset.
     Number,
+    /// A number of millimetres.
+    Length,
     Key,
     Value,
     RouteName,
@@ -52,13 +55,12 @@ fn sort_of(slot: Slot) -> Sort {
         Slot::Route | Slot::NewName | Slot::SecondRoute => Sort::RouteName,
         Slot::ClassName => Sort::Code(8),
         Slot::Referent => Sort::Code(12),
-        Slot::LinkNumber
-        | Slot::LinkLength
-        | Slot::Asset
+        Slot::LinkNumber | Slot::Asset => Sort::Number,
+        Slot::LinkLength
         | Slot::Offset
         | Slot::Chainage
         | Slot::ChainageStart
-        | Slot::ChainageEnd => Sort::Number,
+        | Slot::ChainageEnd => Sort::Length,
         Slot::Pieces | Slot::SomePieces => Sort::Pieces,
         Slot::Marks => Sort::Marks,
         Slot::RouteSide => Sort::Side,
@@ -105,16 +107,19 @@ fn has_wrong_small_letter(sort: Sort, text: &[u8], method: Option<Method>) -> bo
     }
 }
 
-/// Whether a text looks like metres, or like a decimal number, in a field that has whole numbers.
-fn is_decimal(sort: Sort, text: &[u8], method: Option<Method>) -> bool {
-    let has_numbers = match sort {
-        Sort::Number | Sort::Pieces | Sort::Marks => true,
+/// Whether a text looks like metres, or like a decimal number.
+fn is_decimal(text: &[u8]) -> bool {
+    has_digit(text)
+        && (has_byte(text, b'.') || has_byte(text, b',') || matches!(text, [.., b'm' | b'M']))
+}
+
+/// Whether a field has lengths or measures, which are whole numbers.
+fn has_lengths(sort: Sort, method: Option<Method>) -> bool {
+    match sort {
+        Sort::Length => true,
         Sort::Position => method != Some(Method::Int),
         _ => false,
-    };
-    has_numbers
-        && has_digit(text)
-        && (has_byte(text, b'.') || has_byte(text, b',') || matches!(text, [.., b'm' | b'M']))
+    }
 }
 
 /// Whether a byte is one of the alphabet of a field.
@@ -136,6 +141,14 @@ fn byte_flaw(sort: Sort, text: &[u8]) -> Flaw {
         }
     }
     Flaw::Other
+}
+
+fn number_flaw(text: &[u8]) -> Flaw {
+    if are_digits(text) {
+        Flaw::TooGreat
+    } else {
+        byte_flaw(Sort::Number, text)
+    }
 }
 
 fn name_flaw(sort: Sort, text: &[u8], most: usize) -> Flaw {
@@ -177,8 +190,7 @@ fn position_flaw(text: &[u8], method: Option<Method>) -> Flaw {
 /// What is seen in a text that is not empty and has no flaw of letters or spaces.
 fn sort_flaw(sort: Sort, text: &[u8], method: Option<Method>) -> Flaw {
     match sort {
-        Sort::Number if are_digits(text) => Flaw::TooGreat,
-        Sort::Number => byte_flaw(sort, text),
+        Sort::Number | Sort::Length => number_flaw(text),
         Sort::Key => name_flaw(sort, text, 40),
         Sort::Value | Sort::RouteName => name_flaw(sort, text, 12),
         Sort::Code(most) => name_flaw(sort, text, most),
@@ -203,7 +215,7 @@ pub(crate) fn flaw_of(slot: Slot, text: &[u8], method: Option<Method>) -> Flaw {
         Flaw::SmallLetters
     } else if matches!(sort, Sort::Word) && has_capital(text) {
         Flaw::Capitals
-    } else if is_decimal(sort, text, method) {
+    } else if has_lengths(sort, method) && is_decimal(text) {
         match method {
             Some(Method::Abs) => Flaw::DecimalMeasure,
             _ => Flaw::Decimal,
@@ -215,7 +227,7 @@ pub(crate) fn flaw_of(slot: Slot, text: &[u8], method: Option<Method>) -> Flaw {
     }
 }
 
-/// What is said of a flaw behind the text in which it is seen. `Byte` and `Word` have more to be said.
+/// What is said of a flaw behind the text in which it is seen. Of `Byte` and `Word` more is said.
 pub(crate) fn words_of(flaw: Flaw) -> &'static str {
     match flaw {
         Flaw::Unused => " stands where nothing is wanted",
@@ -224,7 +236,7 @@ pub(crate) fn words_of(flaw: Flaw) -> &'static str {
         Flaw::SmallLetters => " has small letters",
         Flaw::Capitals => " has capital letters",
         Flaw::Decimal => {
-            " is not a whole number: write millimetres, as 300000 for 300 m, without a point, a comma or a unit"
+            " is not a whole number of millimetres: write 300000 for 300 m, without a point, a comma or a unit"
         }
         Flaw::DecimalMeasure => {
             " is not a whole number: a measure is whole and in the unit of the route's marks, without a point, a comma or a unit"

@@ -13,6 +13,7 @@ mod item;
 pub mod laws;
 mod line;
 mod malformed;
+mod part;
 mod place;
 mod records;
 mod refused;

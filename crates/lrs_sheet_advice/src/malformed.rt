@@ -1,16 +1,34 @@
 //! What is said of a field that is malformed.
 
+ghost use Rattle.std.specs.Prelude.{◌≡◌, ◌++◌, OnOk};
+ghost use Rattle.lrs_sheet_advice.specs.Parts as spec;
+
 use crate::flaw::{Flaw, flaw_of, words_of};
 use crate::item::word_at;
 use crate::line::AdviceLine;
+use crate::part::{Part, words_behind, wrong_part};
 use crate::records::Records;
-use crate::slot::Slot;
+use crate::slot::{Slot, method_field, slot_of};
 use crate::wanted::say_wanted;
 use lrs_machine::Field;
 use lrs_position::Method;
 use std::alloc::{AllocError, Global};
 
-/// Says which word of a list is meant, counted from 1: `piece 1 "7:0:5000:+"`.
+/// Says the number of a word of a list, from 0: `mark 1 (the first is 0)`.
+fn say_numbered(
+    alloc: Global,
+    line: &mut AdviceLine,
+    name: &str,
+    place: u64,
+) -> Result<(), AllocError>
+    ensures { OnOk result (line.new ≡ line.old ++ spec.numbered name.now place) }
+{
+    line.say_bytes(name.as_bytes())?;
+    line.say_number(alloc, place)?;
+    line.say_plain(" (the first is 0)")
+}
+
+/// Says which word of a list is meant: `mark 1 (the first is 0) "5000:6000"`.
 pub(crate) fn say_item(
     alloc: Global,
     line: &mut AdviceLine,
@@ -18,10 +36,8 @@ pub(crate) fn say_item(
     list: &[u8],
     place: u64,
 ) -> Result<(), AllocError> {
-    line.say(name)?;
-    line.say(" ")?;
-    line.say_number(alloc, place.saturating_add(1))?;
-    match word_at(list, place) {
+    say_numbered(alloc, line, name, place)?;
+    match word_at(list, b' ', place) {
         Some(word) => {
             line.say(" ")?;
             line.quote(word)
@@ -30,25 +46,52 @@ pub(crate) fn say_item(
     }
 }
 
-/// What a word of a list is called.
-fn item_name(slot: Slot) -> &'static str {
-    match slot {
-        Slot::Marks => "mark",
-        _ => "piece",
+/// Says which part of a word is wrong, and what is wanted in its place.
+fn say_part(line: &mut AdviceLine, part: Part, text: &[u8]) -> Result<(), AllocError> {
+    line.say(", ")?;
+    line.quote(text)?;
+    line.say(words_behind(part))
+}
+
+/// Says that a word is none of a list for this, and what is wanted.
+fn say_no_item(line: &mut AdviceLine, slot: Slot) -> Result<(), AllocError> {
+    line.say(match slot {
+        Slot::Marks => " is no mark; ",
+        _ => " is no piece; ",
+    })?;
+    say_wanted(line, slot, None)
+}
+
+/// Says of a list for this which word of it is wrong, and which part of the word, and what is wanted there.
+fn say_word(
+    alloc: Global,
+    line: &mut AdviceLine,
+    slot: Slot,
+    list: &[u8],
+    place: u64,
+) -> Result<(), AllocError> {
+    let (name, of_pieces) = match slot {
+        Slot::Marks => ("mark ", false),
+        _ => ("piece ", true),
+    };
+    let word = word_at(list, b' ', place).unwrap_or(b"");
+    match wrong_part(word, of_pieces) {
+        Some((part, text)) => {
+            line.say("in ")?;
+            say_item(alloc, line, name, list, place)?;
+            say_part(line, part, text)
+        }
+        None => {
+            say_item(alloc, line, name, list, place)?;
+            say_no_item(line, slot)
+        }
     }
 }
 
 /// Says what is wrong with a text.
-fn say_flaw(
-    alloc: Global,
-    line: &mut AdviceLine,
-    slot: Slot,
-    text: &[u8],
-    flaw: Flaw,
-) -> Result<(), AllocError> {
+fn say_flaw(line: &mut AdviceLine, text: &[u8], flaw: Flaw) -> Result<(), AllocError> {
     match flaw {
         Flaw::Empty => line.say("the field")?,
-        Flaw::Word(place) => say_item(alloc, line, item_name(slot), text, place)?,
         _ => line.quote(text)?,
     }
     line.say(words_of(flaw))?;
@@ -58,11 +101,21 @@ fn say_flaw(
     }
 }
 
-/// The method by which a field is read.
-fn method_of(records: &Records<'_>, slot: Slot) -> Option<Method> {
-    match slot {
-        Slot::At(field) | Slot::From(field) | Slot::To(field) => records.method_in(field),
-        _ => None,
+/// Says what is wrong with a text, and what is wanted in its place.
+fn say_text(
+    alloc: Global,
+    line: &mut AdviceLine,
+    slot: Slot,
+    text: &[u8],
+    method: Option<Method>,
+) -> Result<(), AllocError> {
+    match flaw_of(slot, text, method) {
+        Flaw::Word(place) => say_word(alloc, line, slot, text, place),
+        flaw => {
+            say_flaw(line, text, flaw)?;
+            line.say("; ")?;
+            say_wanted(line, slot, method)
+        }
     }
 }
 
@@ -72,11 +125,11 @@ pub(crate) fn say_malformed(
     line: &mut AdviceLine,
     records: &Records<'_>,
     field: Field,
-    slot: Slot,
 ) -> Result<(), AllocError> {
-    let text = records.text_of(field);
-    let method = method_of(records, slot);
-    say_flaw(alloc, line, slot, text, flaw_of(slot, text, method))?;
-    line.say("; ")?;
-    say_wanted(line, slot, method)
+    let slot = slot_of(records.verb(), field);
+    let method = match method_field(slot) {
+        Some(named) => records.method_in(named),
+        None => None,
+    };
+    say_text(alloc, line, slot, records.text_of(field), method)
 }

@@ -3,15 +3,18 @@
 ghost use Rattle.std.specs.Prelude.{◌≡◌, ◌++◌, OnOk};
 ghost use Rattle.lrs_sheet_advice.specs.Refusals as spec;
 
-use crate::cause::{field_of, read_cause};
-use crate::column::say_column;
+use crate::cause::{end_of, field_of, read_cause};
+use crate::column::say_columns;
 use crate::line::AdviceLine;
 use crate::malformed::{say_item, say_malformed};
 use crate::records::Records;
 use crate::reply::cause_text;
 use crate::sentence::sentence;
-use crate::slot::slot_of;
-use lrs_machine::Cause;
+use crate::slot::{method_field, name_of, slot_of};
+use lrs_machine::{Cause, Field};
+use lrs_measure::limits::LONGEST_ROUTE;
+use lrs_measure::read_digits;
+use lrs_sheet_records::Verb;
 use std::alloc::{AllocError, Global};
 
 /// Says on which line a record starts.
@@ -72,11 +75,89 @@ fn say_named(
             line.say_number(alloc, asset)
         }
         Cause::BadPiece(place) | Cause::Taken(place) => {
-            say_item(alloc, line, "piece", text, place)
+            say_item(alloc, line, "piece ", text, place)
         }
-        Cause::BadMarks(place) => say_item(alloc, line, "mark", text, place),
+        Cause::BadMarks(place) => say_item(alloc, line, "mark ", text, place),
         _ => Ok(()),
     }
+}
+
+/// The field in which the record says where a stretch ends, if it says it.
+fn end_in(records: &Records<'_>) -> Option<Field> {
+    let end = end_of(records.verb()?)?;
+    if records.text_of(end).is_empty() {
+        None
+    } else {
+        Some(end)
+    }
+}
+
+/// The chainage in a field.
+fn chainage_in(records: &Records<'_>, field: Field) -> u64 {
+    read_digits(records.text_of(field), LONGEST_ROUTE).unwrap_or(0)
+}
+
+/// Which of two chainages is farther along the route: the end, where they are equal.
+fn farther(records: &Records<'_>, start: Field, end: Field) -> Field {
+    if chainage_in(records, start) > chainage_in(records, end) {
+        start
+    } else {
+        end
+    }
+}
+
+/// The fields that a cause is about, of which the first is known: of a stretch both ends, where the reply does not say
+/// which one is meant. Of two chainages the farther one leads off the route.
+fn fields_of(records: &Records<'_>, cause: Cause, first: Field) -> (Field, Option<Field>) {
+    match (cause, end_in(records), records.verb()) {
+        (Cause::OffRoute, Some(end), Some(Verb::Realign)) => (farther(records, first, end), None),
+        (Cause::NoRef | Cause::OffRoute | Cause::Empty, Some(end), _) => (first, Some(end)),
+        _ => (first, None),
+    }
+}
+
+/// Says in which column a field stands, and of a position in which one its method stands. Whether there is an end is said
+/// by one column alone.
+fn say_field(
+    line: &mut AdviceLine,
+    records: &Records<'_>,
+    cause: Cause,
+    field: Field,
+) -> Result<(), AllocError> {
+    let slot = slot_of(records.verb(), field);
+    let method = match cause {
+        Cause::WrongKind => None,
+        _ => method_field(slot),
+    };
+    say_columns(line, records.kind(), method, field, name_of(slot))
+}
+
+/// Says in which columns that stands which a cause is about.
+fn say_place(
+    line: &mut AdviceLine,
+    records: &Records<'_>,
+    cause: Cause,
+    first: Field,
+) -> Result<(), AllocError> {
+    let (field, other) = fields_of(records, cause, first);
+    say_field(line, records, cause, field)?;
+    if let Some(end) = other {
+        line.say(", or ")?;
+        say_field(line, records, cause, end)?;
+    }
+    line.say(": ")
+}
+
+/// Says what a cause means, and what to do about it. `text` is that of the field that it is about.
+fn say_meaning(
+    alloc: Global,
+    line: &mut AdviceLine,
+    records: &Records<'_>,
+    cause: Cause,
+    text: &[u8],
+) -> Result<(), AllocError> {
+    say_named(alloc, line, cause, text)?;
+    line.say(sentence(cause, records.verb(), end_in(records).is_some()))
 }
 
 /// Says why the record is refused, and what to do about it.
@@ -86,18 +167,14 @@ fn say_cause(
     records: &Records<'_>,
     cause: Cause,
 ) -> Result<(), AllocError> {
-    let verb = records.verb();
-    let mut text: &[u8] = b"";
-    if let Some(field) = field_of(cause, verb) {
-        let slot = slot_of(verb, field);
-        say_column(line, records.kind(), field, slot)?;
-        if let Cause::Malformed(_) = cause {
-            return say_malformed(alloc, line, records, field, slot);
-        }
-        text = records.text_of(field);
+    let Some(field) = field_of(cause, records.verb()) else {
+        return say_meaning(alloc, line, records, cause, b"");
+    };
+    say_place(line, records, cause, field)?;
+    match cause {
+        Cause::Malformed(_) => say_malformed(alloc, line, records, field),
+        _ => say_meaning(alloc, line, records, cause, records.text_of(field)),
     }
-    say_named(alloc, line, cause, text)?;
-    line.say(sentence(cause, verb, !text.is_empty()))
 }
 
 /// Says what is wrong with the record of a refusal, and what to do about it.

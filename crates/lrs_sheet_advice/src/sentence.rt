@@ -30,20 +30,20 @@ fn of_verb(cause: Cause, verb: Option<Verb>, has_end: bool) -> &'static str {
         (Cause::NoRef, Some(Verb::Unref)) => {
             "no referent has this name: mend it, or leave this record out if the referent is gone"
         }
-        (Cause::NoRef, Some(Verb::Ref)) => {
-            "the referent in this position does not stand on this route: mend its name, or put its ref record before this one"
-        }
-        (Cause::NoRef, _) => {
+        (Cause::NoRef, _) if has_end => {
             "a referent in from or to does not stand on this route: mend its name, or put its ref record before this one"
         }
-        (Cause::OffRoute, Some(Verb::Ref)) => {
-            "this position is not on the route: take one from its start to its end, with a measure from its first mark to its last"
+        (Cause::NoRef, _) => {
+            "the referent in this position does not stand on this route: mend its name, or put its ref record before this one"
         }
         (Cause::OffRoute, Some(Verb::Realign)) => {
-            "from or to is behind the end of the route: take chainages up to its length"
+            "this chainage is behind the end of the route: take one up to its length"
+        }
+        (Cause::OffRoute, _) if has_end => {
+            "from or to is not on the route: take positions from its start to its end, with measures from its first mark to its last"
         }
         (Cause::OffRoute, _) => {
-            "from or to is not on the route: take positions from its start to its end, with measures from its first mark to its last"
+            "this position is not on the route: take one from its start to its end, with a measure from its first mark to its last"
         }
         (Cause::Empty, Some(Verb::Retire)) => {
             "the asset has nothing between from and to on this route: mend the positions, or leave this record out if it is retired already"
@@ -71,7 +71,7 @@ fn of_verb(cause: Cause, verb: Option<Verb>, has_end: bool) -> &'static str {
 }
 
 /// What is said of a cause, in a record of this verb, behind the piece, the mark, the asset or the edit that it names.
-/// `has_end`: whether the field that the cause is about says something.
+/// `has_end`: whether the record says where a stretch ends.
 pub(crate) fn sentence(cause: Cause, verb: Option<Verb>, has_end: bool) -> &'static str {
     match cause {
         Cause::Malformed(_) => "it cannot be read",

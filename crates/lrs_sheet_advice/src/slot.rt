@@ -1,7 +1,7 @@
 //! What each field of a record is for: the table of verbs, as advice needs it.
 
 ghost use Rattle.std.specs.Prelude.{◌≡◌, map, Some};
-ghost use Rattle.lrs_sheet_advice.specs.Slots.{IsSlotOf, shape_of, shapes_behind};
+ghost use Rattle.lrs_sheet_advice.specs.Slots.{IsSlotOf, method_in, shape_of, shapes_behind};
 
 use lrs_machine::Field;
 use lrs_sheet_records::{Verb, place_of};
@@ -96,6 +96,16 @@ pub(crate) fn slot_of(verb: Option<Verb>, field: Field) -> Slot
             Some(slot) => *slot,
             None => Slot::Unused,
         },
+    }
+}
+
+/// The field that names the method by which a field is read, of one that has a position.
+pub(crate) fn method_field(slot: Slot) -> Option<Field>
+    ensures { result ≡ method_in (shape_of slot) }
+{
+    match slot {
+        Slot::At(method) | Slot::From(method) | Slot::To(method) => Some(method),
+        _ => None,
     }
 }
 

@@ -10,3 +10,5 @@ pub mod RouteTexts
 pub mod SetReferents
 pub mod RouteRecords
 pub mod Parts
+pub mod LaidCourses
+pub mod MadeRoutes

@@ -1,18 +1,23 @@
--- The laws of the log: it reads as its records, and each of them says the command of its edit; and the sheet of a route is such a log.
-use Rattle.std.specs.Prelude.{◌≡◌, ℕ, ◌+◌, ◌<◌, List, ◌∷◌, ◌++◌, Option, Some, None, IsTrue, length, map}
-use Rattle.std.specs.List.{AllByRecursion}
-use Rattle.std.specs.Option.{option_map}
+-- The laws of the log: it reads as its records, and each of them says the command of its edit; and the sheet of a route is such a log, whose commands make the route.
+use Rattle.std.specs.Prelude.{◌≡◌, ℕ, ◌+◌, ◌<◌, ◌≤◌, true, false, List, ◌∷◌, ◌++◌, Option, Some, None, IsTrue, length, map}
+use Rattle.std.specs.List.{AllByRecursion, list_all}
+use Rattle.std.specs.Option.{option_and_then, option_map, option_or}
+use Rattle.lrs_measure.specs.Lists.{each_two}
 use Rattle.lrs_measure.specs.Texts.{Name}
 use Rattle.lrs_element.specs.declared.link.Ground.{Ground}
-use Rattle.lrs_element.specs.Course.{IsFewest, course_of}
+use Rattle.lrs_element.specs.Course.{IsFewest, Millimetre, course_of, ground_at}
 use Rattle.lrs_position.specs.Locations.{cell, located}
 use Rattle.lrs_position.specs.Names.{is_referent_name, is_route_name}
+use Rattle.lrs_position.specs.Translations.{referent_at}
 use Rattle.lrs_position.specs.declared.route.Referent.{Referent}
 use Rattle.lrs_position.specs.declared.route.Route.{Route}
+use Rattle.lrs_events.specs.Places.{differs}
 use Rattle.lrs_machine.specs.EnteredNumbers.{are_entered_marks, are_entered_pieces, is_chainage}
 use Rattle.lrs_machine.specs.Keys.{is_key}
+use Rattle.lrs_machine.specs.Laws.{is_known}
 use Rattle.lrs_machine.specs.Lines.{line_of}
-use Rattle.lrs_machine.specs.Machine.{Record, state_after}
+use Rattle.lrs_machine.specs.Machine.{Record, is_taken, place_of_key, set_route, state_after}
+use Rattle.lrs_machine.specs.Register.{contains_key, len}
 use Rattle.lrs_machine.specs.State.{Edit, State}
 use Rattle.lrs_machine.specs.WellFormedCommands.{IsWellFormed}
 use Rattle.lrs_machine.specs.declared.answer.Limits.{Limits}
@@ -81,3 +86,27 @@ pub record ReadsAsMade (r : Route) : Type 0 where
 
 abbrev pub RouteSheetsRead : Type 0
 RouteSheetsRead = (r : Route) → IsEnteredRoute r → ReadsAsMade r
+
+-- the millimetre of the ground in which a referent of this name stands on the route
+abbrev pub referent_ground : Route → Name → Option Millimetre
+referent_ground r name = option_and_then (ground_at r.course) (referent_at r.refs name)
+
+-- the state with the route: its course and its marks under its name, and its referents where they stand
+abbrev pub with_route : Route → State → State
+with_route r s = record (set_route r.name r.course r.marks s) { referents = λ name. option_or (referent_ground r name) (s.referents name) }
+
+-- A state has room for a route: its name and those of its referents are not known; its course runs over known links, over no millimetre twice and over none of another route; no edit has a key of its commands; and the limits leave room for these and for the route.
+pub record HasRoomFor (limits : Limits) (s : State) (r : Route) : Type 0 where
+  pub name : contains_key s.routes r.name ≡ false
+  pub refs : AllByRecursion (λ x. s.referents x.name ≡ None) r.refs
+  pub known : list_all (λ g. is_known s (g.link, g.mm)) r.course ≡ true
+  pub once : each_two differs r.course ≡ true
+  pub free : is_taken s r.course ≡ false
+  pub keys : AllByRecursion (λ c. place_of_key c.key s.done ≡ None) (makes_route r)
+  pub edits : length s.done + length (makes_route r) ≤ limits.edits
+  pub routes : len s.routes < limits.routes
+
+-- The commands that make a route, one after another, make it where there is room for it: its course, its marks and its referents are what they were, each command is an edit, and nothing else changes.
+abbrev pub CommandsMakeTheRoute : Type 0
+CommandsMakeTheRoute = (limits : Limits) (s : State) (r : Route) → HasRoomFor limits s r
+    → state_after limits (makes_route r) s ≡ record (with_route r s) { done = s.done ++ map edit_of (makes_route r) }

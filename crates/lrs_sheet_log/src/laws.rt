@@ -1,7 +1,7 @@
 //! The laws of the log.
 
 ghost use Rattle.lrs_sheet_log.specs.Differences.{TablesMakeImages};
-ghost use Rattle.lrs_sheet_log.specs.Laws.{LogReadsAsRecords, LogRecordsSay, LogsHaveParts, PiecesMakeCourses, ReferentsAreSetExactly, RouteSheetsRead};
+ghost use Rattle.lrs_sheet_log.specs.Laws.{CommandsMakeTheRoute, LogReadsAsRecords, LogRecordsSay, LogsHaveParts, PiecesMakeCourses, ReferentsAreSetExactly, RouteSheetsRead};
 ghost use Rattle.lrs_sheet_log.specs.Sums.{SumsFollow};
 
 /// The record of an edit says the command that was accepted, under its key.
@@ -43,4 +43,10 @@ pub fn referents_are_set_exactly()
 /// The sheet of a route reads as the records of the commands that make it, and each of them says its command.
 pub fn route_sheets_read()
     ensures { RouteSheetsRead }
+{}
+
+/// The commands that make a route, done one after another where there is room for it, make it: its course, its marks and
+/// its referents are what they were, each command is an edit, and nothing else changes.
+pub fn commands_make_the_route()
+    ensures { CommandsMakeTheRoute }
 {}

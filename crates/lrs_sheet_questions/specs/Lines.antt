@@ -12,13 +12,20 @@ use Rattle.lrs_events.specs.declared.side.Side.{Side}
 use Rattle.lrs_machine.specs.Lines.{Text, fields, method_text}
 use Rattle.lrs_machine.specs.declared.hit.Hit.{Hit}
 use Rattle.lrs_machine.specs.declared.segment.Segment.{Segment}
+use Rattle.lrs_machine.specs.declared.image.Image.{Image}
+use Rattle.lrs_machine.specs.declared.question.Listing.{Listing}
+use Rattle.lrs_machine.specs.declared.question.Listing.TheVariants.{History}
 use Rattle.lrs_report.specs.Drawings.Strips.{value_text}
+use Rattle.lrs_report_lists.specs.Length.Lines.{lengths_text}
+use Rattle.lrs_report_lists.specs.Lists.{history_text, rows_text}
 use Rattle.lrs_report_answers.specs.Answers.{direction_text}
+use Rattle.lrs_report_answers.specs.Overlay.{overlay_text}
 use Rattle.lrs_report_answers.specs.declared.hits.AtAnswer.{AtAnswer}
 use Rattle.lrs_report_answers.specs.declared.places.answer.Whereabouts.{Whereabouts}
 use Rattle.lrs_report_answers.specs.declared.rows.FoundRow.{FoundRow}
 use Rattle.lrs_report_answers.specs.declared.told.Told.{Told}
 use Rattle.lrs_report_answers.specs.declared.told.Told.TheVariants as told
+use Rattle.lrs_sheet_questions.specs.Entries.{list_lines}
 
 -- fields with a comma between them, and the end of the line
 abbrev pub fields_line : List Text → Text
@@ -85,6 +92,11 @@ abbrev pub segment_count : Told → ℕ
 segment_count (told.Segments route side len classes segments) = length segments
 segment_count _ = 0
 
+-- of the lists of the inventory a sheet asks for a history
+abbrev pub listing_lines : Text → Listing → Image → Text
+listing_lines key (History asset) i = list_lines key (codes "history") (codes "event") (history_text asset i)
+listing_lines key _ i = []
+
 -- What is told to a question of a sheet, under its key; a sheet asks nothing that is told in another way.
 abbrev pub told_lines : Text → Told → Text
 told_lines key (told.At route found) = at_lines key route found
@@ -93,6 +105,10 @@ told_lines key (told.OnLink route link distance) = position_line key route (code
 told_lines key (told.Found rows) = found_lines key rows
 told_lines key (told.Where w) = where_lines key w
 told_lines key (told.Segments route side len classes segments) = segments_lines key route side segments
+told_lines key (told.Rows wanted i) = list_lines key (codes "rows") (codes "row") (rows_text wanted i.now)
+told_lines key (told.Overlay wanted i) = list_lines key (codes "overlay") (codes "segment") (overlay_text wanted i.now)
+told_lines key (told.Lengths lengths) = list_lines key (codes "lengths") (codes "length") (lengths_text lengths)
+told_lines key (told.Listing listing i) = listing_lines key listing i.now
 told_lines key _ = []
 
 -- why a question is refused

@@ -1,13 +1,15 @@
 //! A record is asked at a desk and answered.
 
-ghost use Rattle.std.specs.Prelude.{◌≡◌, ◌≤◌, ◌⊎◌, ◌++◌, length, codes, false, IfOk, IfErr, OnOk, Some};
+ghost use Rattle.std.specs.Prelude.{◌≡◌, ◌≤◌, ◌⊎◌, ◌++◌, length, codes, false, IfOk, IfErr, None, OnOk, Some};
 ghost use Rattle.std.specs.Io.KnownBytes.{Appends};
 ghost use Rattle.csv.specs.Records.{fields_of};
 ghost use Rattle.lrs_report_answers.specs.Causes.{cause_text};
 ghost use Rattle.lrs_sheet_questions.specs.Lines.{refused_line, told_lines};
+ghost use Rattle.lrs_sheet_questions.specs.Lists.{list_kind};
 ghost use Rattle.lrs_sheet_questions.specs.Replies.{IsReplied, Reply, malformed, reply_of};
 
 use crate::lines::{count_segments, write_told};
+use crate::list::{kind_of, write_list};
 use csv::ByteRecord;
 use lrs_desk::{Desk, Keeper};
 use lrs_machine::{Field, Key};
@@ -51,8 +53,9 @@ fn write_malformed<W: Write>(writer: &mut W, row: &ByteRecord, field: Field) -> 
     }
 }
 
-/// Writes what is told to a question. What it takes of memory is taken before anything is written.
-fn write_answer<W: Write>(writer: &mut W, key: Key, told: Told<'_>) -> Result<(), SheetFault>
+/// Writes what is told to a question, where it is no list. What it takes of memory is taken before anything is written.
+fn write_single<W: Write>(writer: &mut W, key: Key, told: Told<'_>) -> Result<(), SheetFault>
+    requires { list_kind told ≡ None }
     ensures written { OnOk result (Appends (W.contents writer.old) (W.contents writer.new)
         (told_lines key told.entry)) }
     ensures faults { IfErr result (λ e. (e ≡ SheetFault.Write)
@@ -67,8 +70,27 @@ fn write_answer<W: Write>(writer: &mut W, key: Key, told: Told<'_>) -> Result<()
     }
 }
 
+/// Writes what is told to a question.
+fn write_answer<W: Write>(
+    alloc: Global,
+    writer: &mut W,
+    key: Key,
+    told: Told<'_>,
+) -> Result<(), SheetFault>
+    ensures written { OnOk result (Appends (W.contents writer.old) (W.contents writer.new)
+        (told_lines key told.entry)) }
+    ensures faults { IfErr result (λ e. (e ≡ SheetFault.Write)
+        ⊎ ((e ≡ SheetFault.Memory) × (W.contents writer.new ≡ W.contents writer.old))) }
+{
+    match kind_of(&told) {
+        Some(kind) => write_list(alloc, writer, key, kind, &told),
+        None => write_single(writer, key, told),
+    }
+}
+
 /// Writes what is told to a question, or why it is refused, and says whether it is told.
 fn write_said<W: Write>(
+    alloc: Global,
     writer: &mut W,
     key: Key,
     said: Result<Told<'_>, AskFault>,
@@ -81,7 +103,7 @@ fn write_said<W: Write>(
 {
     match said {
         Ok(told) => {
-            write_answer(writer, key, told)?;
+            write_answer(alloc, writer, key, told)?;
             Ok(true)
         }
         Err(fault) => match cause_of(fault) {
@@ -97,7 +119,8 @@ fn write_said<W: Write>(
 /// Asks the question of a record and writes the lines of its reply. Says whether they are an answer.
 ///
 /// # Errors
-/// `Write` if the writer fails, and `Memory`, where nothing is written.
+/// `Write` if the writer fails, and `Memory`, where nothing is written. Where memory runs out only behind the first line of
+/// a list, that is `Write`.
 pub(crate) fn answer_row<W: Write, K: Keeper>(
     alloc: Global,
     row: &ByteRecord,
@@ -113,7 +136,7 @@ pub(crate) fn answer_row<W: Write, K: Keeper>(
         ⊎ ((e ≡ SheetFault.Memory) × (W.contents writer.new ≡ W.contents writer.old))) }
 {
     match question_in(alloc, row) {
-        Ok((key, question)) => write_said(writer, key, desk.ask(question)),
+        Ok((key, question)) => write_said(alloc, writer, key, desk.ask(question)),
         Err(ReadFault::Field(field)) => match write_malformed(writer, row, field) {
             Ok(()) => Ok(false),
             Err(_) => Err(SheetFault::Write),

@@ -3,7 +3,10 @@
 #![tactic(auto)]
 
 mod answer;
+mod entries;
+mod kind;
 mod lines;
+mod list;
 mod run;
 mod tally;
 

@@ -1,12 +1,13 @@
 //! The lines of answers, written without taking memory.
 
-ghost use Rattle.std.specs.Prelude.{◌≡◌, ◌∷◌, [], length, codes, IfOk, OnOk};
+ghost use Rattle.std.specs.Prelude.{◌≡◌, ◌∷◌, [], length, codes, IfOk, None, OnOk};
 ghost use Rattle.std.specs.List.{flat_map};
 ghost use Rattle.std.specs.Fmt.{decimal};
 ghost use Rattle.std.specs.Io.KnownBytes.{Appends};
 ghost use Rattle.lrs_events.specs.Names.{side_text};
 ghost use Rattle.lrs_machine.specs.Lines.{fields, method_text};
 ghost use Rattle.lrs_sheet_questions.specs.Lines.{at_lines, expression_line, fields_line, found_lines, hit_line, place_line, row_line, segment_count, segment_line, segments_lines, told_lines, value_field, where_lines};
+ghost use Rattle.lrs_sheet_questions.specs.Lists.{list_kind};
 
 use lrs_events::{Side, Value};
 use lrs_machine::{Hit, Key, Segment};
@@ -294,19 +295,21 @@ pub(crate) fn count_segments(told: &Told<'_>) -> Result<usize, AllocError>
         | Told::Where(_)
         | Told::Lengths(_)
         | Told::Rows { .. }
+        | Told::Overlay { .. }
         | Told::Listing { .. }
         | Told::Health(_) => Ok(0),
     }
 }
 
-/// Writes what is told to a question of a sheet, under its key. So many segments are told.
+/// Writes what is told to a question of a sheet, under its key, where it is no list. So many segments are told.
 pub(crate) fn write_told<W: Write>(
     writer: &mut W,
     key: Key,
     told: Told<'_>,
     count: usize,
 ) -> io::Result<()>
-    requires { count ≡ segment_count told }
+    requires counted { count ≡ segment_count told }
+    requires no_list { list_kind told ≡ None }
     ensures { OnOk result (Appends (W.contents writer.old) (W.contents writer.new)
         (told_lines key told.entry)) }
 {
@@ -331,6 +334,7 @@ pub(crate) fn write_told<W: Write>(
         | Told::Totals(_)
         | Told::Lengths(_)
         | Told::Rows { .. }
+        | Told::Overlay { .. }
         | Told::Listing { .. }
         | Told::Health(_) => Ok(()),
     }

@@ -12,7 +12,7 @@ use Rattle.lrs_machine.specs.declared.segment.Segment.{Segment}
 use Rattle.lrs_machine.specs.Lines.{Text}
 use Rattle.lrs_report.specs.Sweep.{run_of}
 use Rattle.lrs_report_answers.specs.Overlay.{is_segment_wanted, sides_of}
-use Rattle.lrs_web_replies.specs.Overlay.{overlay_item, overlay_items, overlay_part, segment_part, side_items}
+use Rattle.lrs_web_replies.specs.Overlay.{overlay_item, overlay_part, segment_part, side_items}
 use Rattle.lrs_web_replies.specs.Parts.{item_text}
 
 -- the text of those that are asked for

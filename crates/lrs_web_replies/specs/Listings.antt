@@ -1,7 +1,7 @@
 -- Lists as JSON and as CSV. As JSON each is the one member of an object, with the columns of the lists that are CSV as the members of each entry; the log is an edit sheet in either.
 
 -- An object has its members in the order of their names, and a list its entries in the order in which the image keeps them; rows are in that of the road.
-use Rattle.std.specs.Prelude.{ℕ, ◌+◌, Bool, List, [], ◌∷◌, ◌++◌, codes, filter, length, map, Option, Some, None}
+use Rattle.std.specs.Prelude.{ℕ, ◌+◌, List, [], ◌∷◌, ◌++◌, codes, filter, length, map, Option, Some, None}
 use Rattle.std.specs.List.{flat_map}
 use Rattle.std.specs.Option.{option_map_or}
 use Rattle.serde_json.specs.Data.{Data, null, string}

@@ -183,7 +183,26 @@ fn add_on_side(
     }
 }
 
-/// Adds the segments of a route, of the left side and then of the right one, or of the side that is asked for.
+/// Adds the segments of the left side of a route, and then those of the right one.
+fn add_both_sides(
+    alloc: Global,
+    most: usize,
+    bytes: &mut Vec<u8>,
+    inventory: &Inventory,
+    wanted: &OverlayWanted,
+    route_row: &RouteRow,
+) -> Result<(), AllocError>
+    requires known { In route_row.now inventory.now.routes }
+    ensures { OnOk result (bytes.new.items ≡ bytes.old.items
+        ++ (flat_map item_text (side_items inventory.now wanted.now route_row.now LinkSide.Left)
+        ++ flat_map item_text (side_items inventory.now wanted.now route_row.now LinkSide.Right))) }
+{
+    let (left, right) = (LinkSide::Left, LinkSide::Right);
+    add_on_side(alloc, most, bytes, inventory, wanted, route_row, left)?;
+    add_on_side(alloc, most, bytes, inventory, wanted, route_row, right)
+}
+
+/// Adds the segments of a route, of both sides or of the one that is asked for.
 fn add_sides(
     alloc: Global,
     most: usize,
@@ -198,12 +217,7 @@ fn add_sides(
 {
     match wanted.side {
         Some(side) => add_on_side(alloc, most, bytes, inventory, wanted, route_row, side),
-        None => {
-            let left = LinkSide::Left;
-            add_on_side(alloc, most, bytes, inventory, wanted, route_row, left)?;
-            let right = LinkSide::Right;
-            add_on_side(alloc, most, bytes, inventory, wanted, route_row, right)
-        }
+        None => add_both_sides(alloc, most, bytes, inventory, wanted, route_row),
     }
 }
 

@@ -1,4 +1,4 @@
-use Rattle.std.proofs.Common.{Some, List, ℕ, map, filter, ap, sym, ◌++◌, ◌∙◌}
+use Rattle.std.proofs.Common.{Some, List, map, filter, ap, sym, ◌++◌, ◌∙◌}
 use Rattle.std.specs.List.{flat_map}
 use Rattle.std.proofs.lemmas.List.Concat.{flat_map-append}
 use Rattle.lrs_machine.specs.declared.image.Edit.{Edit}

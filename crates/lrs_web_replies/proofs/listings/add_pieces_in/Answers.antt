@@ -1,5 +1,5 @@
 use Rattle.std.proofs.Common.{Some, ◌≡◌, ◌+◌, ◌∙◌, ◌++◌, false, refl, ap, sym, get_or, arith}
-use Rattle.std.specs.Prelude.{ℕ, List}
+use Rattle.std.specs.Prelude.{ℕ}
 use Rattle.std.specs.List.{flat_map}
 use Rattle.lrs_element.specs.Pieces.{piece_len}
 use Rattle.lrs_element.specs.declared.link.Piece.{Piece}

@@ -6,7 +6,7 @@ use Rattle.lrs_web_replies.specs.Overlay.{overlay_part}
 use Rattle.lrs_web_replies.proofs.overlay.add_each_route.Goals as goal
 
 pub add_sides-requires : goal.add_sides-requires
-add_sides-requires c = (among_next c.in-Some.route_row.now c.next.new.self c.loop-route_row.route_row-iterator c.args.inventory.now.routes c.loop-route_row.invariant.0 c.in-Some.ensures.steps).0
+add_sides-requires c = record { known = (among_next c.in-Some.route_row.now c.next.new.self c.loop-route_row.route_row-iterator c.args.inventory.now.routes c.loop-route_row.invariant.0 c.in-Some.ensures.steps).0 }
 
 pub loop-route_row-preserved : goal.loop-route_row-preserved
 loop-route_row-preserved c =

@@ -12,7 +12,7 @@ use Rattle.lrs_web_replies.specs.Overlay.{overlay_part}
 use Rattle.lrs_web_replies.proofs.overlay.add_named_route.Goals as goal
 
 pub add_sides-requires : goal.add_sides-requires
-add_sides-requires c = found_in (is_named c.args.name.now) c.in-Some.route_row.now c.args.inventory.now.routes (sym c.in-Some.ensures.row)
+add_sides-requires c = record { known = found_in (is_named c.args.name.now) c.in-Some.route_row.now c.args.inventory.now.routes (sym c.in-Some.ensures.row) }
 
 pub returns-in-Some : goal.returns-in-Some
 returns-in-Some c =

@@ -24,9 +24,9 @@ returns-in-Ok c =
     let e = c.args.route_row.now in
     let side = c.args.side in
     let found = c.in-Ok.segments in
-    let names = c.as_slice.result.now in
+    let names = c.as_slice-classes.result.now in
     let by_names : map run_of found ≡ segments_on (state_of i) e.route.course names side =
     answered (segment_fault (class_list (state_of i)) names (one_side side)) (λ fs. map run_of fs ≡ segments_on (state_of i) e.route.course names side) found c.in-Ok.ensures in
-    let are : map run_of found ≡ segments_on (state_of i) e.route.course w.classes side = subst (λ (ns : List Name). map run_of found ≡ segments_on (state_of i) e.route.course ns side) c.as_slice.ensures by_names in
+    let are : map run_of found ≡ segments_on (state_of i) e.route.course w.classes side = subst (λ (ns : List Name). map run_of found ≡ segments_on (state_of i) e.route.course ns side) c.as_slice-classes.ensures by_names in
     as_text c.add_wanted_segments.result (Some c.args.bytes.now.items) (Some c.add_wanted_segments.new.bytes.items) _ (flat_map item_text (side_items i w e side)) c.add_wanted_segments.ensures
     (wanted_items w e.route side found ∙ ap (λ (runs : List (Run Values)). flat_map item_text (map (overlay_item e.route side) (filter (is_segment_wanted w) runs))) are)

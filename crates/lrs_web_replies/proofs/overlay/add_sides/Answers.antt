@@ -1,5 +1,5 @@
 use Rattle.std.proofs.Common.{Some}
-use Rattle.lrs_report_lists.proofs.Writing.{appends_last, as_text}
+use Rattle.lrs_report_lists.proofs.Writing.{as_text}
 use Rattle.lrs_web_replies.specs.Overlay.{overlay_part}
 use Rattle.lrs_web_replies.proofs.Overlaid.{of_side, of_sides}
 use Rattle.lrs_web_replies.proofs.overlay.add_sides.Goals as goal
@@ -16,4 +16,4 @@ returns-in-None c =
     let i = c.args.inventory.now in
     let w = c.args.wanted.now in
     let e = c.args.route_row.now in
-    appends_last c.add_on_side-2.result (Some c.args.bytes.now.items) (Some c.add_on_side.new.bytes.items) (Some c.add_on_side-2.new.bytes.items) _ _ (overlay_part i w e) c.in_ok-add_on_side.ensures c.add_on_side-2.ensures (of_sides i w e c.in-None.is)
+    as_text c.add_both_sides.result (Some c.args.bytes.now.items) (Some c.add_both_sides.new.bytes.items) _ (overlay_part i w e) c.add_both_sides.ensures (of_sides i w e c.in-None.is)

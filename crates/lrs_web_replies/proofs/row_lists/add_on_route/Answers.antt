@@ -1,5 +1,4 @@
 use Rattle.std.proofs.Common.{ap, ◌∙◌}
-use Rattle.std.specs.Prelude.{Option}
 use Rattle.serde_json.specs.Written.{has_float}
 use Rattle.lrs_web_replies.proofs.Whole.{row_whole}
 use Rattle.lrs_web_replies.proofs.row_lists.add_on_route.Goals as goal
