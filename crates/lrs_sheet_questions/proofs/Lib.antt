@@ -1,6 +1,6 @@
 pub mod Appending
 pub mod Answered
-pub mod Fronted
 pub mod Listed
 pub mod Passing
+pub mod Story
 pub mod Whole

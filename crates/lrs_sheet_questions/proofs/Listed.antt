@@ -10,7 +10,8 @@ use Rattle.lrs_report_answers.specs.declared.told.Told.{Told}
 use Rattle.lrs_report_answers.specs.declared.told.Told.TheVariants as told
 use Rattle.lrs_sheet_questions.specs.Entries.{list_lines}
 use Rattle.lrs_sheet_questions.specs.Lines.{listing_lines, told_lines}
-use Rattle.lrs_sheet_questions.specs.Lists.{entry_word, list_kind, list_text, list_word, listing_kind}
+use Rattle.lrs_sheet_questions.specs.Kinds.{entry_word, list_word}
+use Rattle.lrs_sheet_questions.specs.Lists.{list_kind, list_text, listing_kind}
 use Rattle.lrs_sheet_questions.specs.declared.kind.ListKind.{ListKind}
 use Rattle.lrs_sheet_questions.specs.declared.kind.ListKind.TheVariants as kind
 

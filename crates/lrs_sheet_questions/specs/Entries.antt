@@ -19,11 +19,6 @@ fronted front false [] = []
 fronted front true (byte ∷ text) = front ++ byte ∷ fronted front (byte == 10) text
 fronted front false (byte ∷ text) = byte ∷ fronted front (byte == 10) text
 
--- a byte, with the front before it where a line begins
-abbrev pub with_front : Text → Bool → ℕ → Text
-with_front front true byte = front ++ byte ∷ []
-with_front front false byte = byte ∷ []
-
 -- a key and a word, each with a comma behind it
 abbrev pub front_of : Text → Text → Text
 front_of key word = key ++ (44 ∷ (word ++ 44 ∷ []))

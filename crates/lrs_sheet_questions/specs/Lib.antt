@@ -1,7 +1,10 @@
 pub mod Entries
 pub mod FirstLine
+pub mod Kinds
 pub mod Lines
 pub mod Lists
+pub mod Passing
 pub mod Replies
 pub mod SheetAnswers
 pub mod Rows
+pub mod Story

@@ -1,5 +1,5 @@
--- The lists that a sheet asks for: the text of each, and its words.
-use Rattle.std.specs.Prelude.{ℕ, [], codes, Option, Some, None}
+-- The lists that a sheet asks for, and the text of each.
+use Rattle.std.specs.Prelude.{[], Option, Some, None}
 use Rattle.lrs_machine.specs.Lines.{Text}
 use Rattle.lrs_machine.specs.declared.image.Image.{Image}
 use Rattle.lrs_machine.specs.declared.question.Listing.{Listing}
@@ -11,19 +11,6 @@ use Rattle.lrs_report_answers.specs.declared.told.Told.{Told}
 use Rattle.lrs_report_answers.specs.declared.told.Told.TheVariants as told
 use Rattle.lrs_sheet_questions.specs.declared.kind.ListKind.{ListKind}
 use Rattle.lrs_sheet_questions.specs.declared.kind.ListKind.TheVariants as kind
-
--- the word of a list, and that of each entry
-abbrev pub list_word : ListKind → Text
-list_word kind.Rows = codes "rows"
-list_word kind.Overlay = codes "overlay"
-list_word kind.Lengths = codes "lengths"
-list_word kind.History = codes "history"
-
-abbrev pub entry_word : ListKind → Text
-entry_word kind.Rows = codes "row"
-entry_word kind.Overlay = codes "segment"
-entry_word kind.Lengths = codes "length"
-entry_word kind.History = codes "event"
 
 -- which list is told, if it is one
 abbrev pub listing_kind : Listing → Option ListKind

@@ -3,11 +3,14 @@
 #![tactic(auto)]
 
 mod answer;
+mod counter;
 mod entries;
+mod given;
 mod kind;
 mod lines;
 mod list;
 mod run;
+mod stage;
 mod tally;
 
 pub use run::{ask_all, ask_arriving};

@@ -8,5 +8,5 @@ returns-in-Ok-write_malformed-clause-replied g c = (
   malformed (fields_of c.args.row.now) c.in-Err-Field.field,
   inr (c.in-Err-Field.field, rw c.in-Err-Field.field-0-is at c.in-Err-Field.ensures.refuses, refl),
   refl,
-  c.in-Ok-write_malformed.ensures,
+  rw c.in-Err-Field.field-0-is at c.in-Ok-write_malformed.ensures,
 )
