@@ -49,9 +49,8 @@ fn unreadable_class<'a>(classes: &[&'a str]) -> Option<&'a str> {
 
 fn class_in<'a>(job: &Job<'a>) -> Option<&'a str> {
     match job {
-        Job::Strip { classes, .. }
-        | Job::Diagram { classes, .. }
-        | Job::Overlay { classes, .. } => unreadable_class(classes.as_slice()),
+        Job::Strip { classes, .. } | Job::Diagram { classes, .. } | Job::Overlay { classes, .. } =>
+            unreadable_class(classes.as_slice()),
         Job::Rows { class, .. } | Job::Gone { class, .. } => *class,
         _ => None,
     }
