@@ -202,7 +202,7 @@ fn gives(host: &HostRuntime, rt: &impl Abort, words: &str, text: &str, wanted: &
 
 /// Jobs by their words, with the text of their sheet; what each writes, and the status of the program behind it. Of a path it
 /// is looked whether something is there: so files in memory are named as one that is.
-const JOBS: [(&str, &str, &str, u8); 21] = [
+const JOBS: [(&str, &str, &str, u8); 22] = [
     ("edit /bin/sh sheet", EDITS, REPLIES, 1),
     ("check /bin/sh sheet", EDITS, REPLIES, 1),
     (
@@ -234,6 +234,12 @@ const JOBS: [(&str, &str, &str, u8); 21] = [
     ("find /bin/sh 7", "", "A1 1000 3000 B\n", 0),
     ("find /bin/sh x", "", "error: ASSET is no asset number\n", 2),
     ("rows /bin/sh", "", ROWS, 0),
+    (
+        "overlay /bin/sh SPEED --side L --gaps --columns to,from",
+        "",
+        "to,from\n1000,0\n5000,3000\n",
+        0,
+    ),
     (
         "gone /bin/sh",
         "",
