@@ -158,23 +158,21 @@ asks_so i j input (inr one) records begins = of_one records
     of_one [] = tt
     of_one (fields ∷ rest) = (inr one, of_one rest)
 
+-- what a record may ask of two images, and what is done of records that ask it
+abbrev AsksOf : Image → Image → List Text → Type 0
+AsksOf i j fields = IsOfNoHistory fields ⊎ (i ≡ j)
+
+abbrev Done : (List Text → Type 0) → Image → Text → Text → List (List Text) → List QuestionReply → Type 0
+Done Asks i old written records replies = AreReplied i records replies (Some old) (Some written) × AllByRecursion Asks records
+
 pub question_sheets_end_alike : QuestionSheetsEndAlike
 question_sheets_end_alike i j input old written earlier other ended end same one_inventory asks d e runs run =
-    by ended end (framed_alike IsQuestionHeader width input question_tally [] [] [] (λ header records more is one two. refl) (written ≡ old) (other ≡ earlier) Done Did ended end
-    (asked_so Asks input (asks_so i j input asks) i old written ended d runs) (asked_so Asks input (asks_so i j input asks) j earlier other end e run))
+    by ended end (framed_alike IsQuestionHeader width input question_tally [] [] [] (λ header records more is one two. refl) (written ≡ old) (other ≡ earlier) (Done (AsksOf i j) i old written) (Done (AsksOf i j) j earlier other) ended end
+    (asked_so (AsksOf i j) input (asks_so i j input asks) i old written ended d runs) (asked_so (AsksOf i j) input (asks_so i j input asks) j earlier other end e run))
   where
-    abbrev Asks : List Text → Type 0
-    Asks fields = IsOfNoHistory fields ⊎ (i ≡ j)
-
-    abbrev Done : List (List Text) → List QuestionReply → Type 0
-    Done records replies = AreReplied i records replies (Some old) (Some written) × AllByRecursion Asks records
-
-    abbrev Did : List (List Text) → List QuestionReply → Type 0
-    Did records replies = AreReplied j records replies (Some earlier) (Some other) × AllByRecursion Asks records
-
-    by : (ended end : Result QuestionTally SheetFault) → Alike (written ≡ old) (other ≡ earlier) Done Did ended end → WroteAlike old written earlier other ended end
+    by : (ended end : Result QuestionTally SheetFault) → Alike (written ≡ old) (other ≡ earlier) (Done (AsksOf i j) i old written) (Done (AsksOf i j) j earlier other) ended end → WroteAlike old written earlier other ended end
     by _ _ (neither ended keeps kept) = record { reply = []; one = keeps ∙ sym (append-nil old); same = kept ∙ sym (append-nil earlier); ends = refl }
-    by _ _ (each end records replies more (done, asked) (did, _)) =
+    by _ _ (each end records replies more (done, asked) (did, also)) =
         let alike = replies_alike i j same one_inventory records asked replies more done.replied did.replied in
         record {
           reply = question_lines replies;
