@@ -263,10 +263,10 @@ module _ (format : Format) (i : Image) (query : Text) (answer : Answer) (served 
       → ((first last : Option ℕ) (inventory : Bor Image) → inventory.now ≡ i → ShowsTold format (told_of first last inventory) answer → answer ≡ shown first last) → (said : Result Told AskFault)
       (from to : Result (Option ℕ) AskFault) → MatchResult from (λ first. MatchResult to (λ last. Tells (IsInventory i) (told_of first last) said) (λ fault. said ≡ Err fault)) (λ fault. said ≡ Err fault)
       → IsReplyTo format said answer → answer ≡ between_reply shown from to
-  between_said told_of shown as said (Err fault) to h shows = subst (λ r. IsReplyTo format r answer) h shows
-  between_said told_of shown as said (Ok first) (Err fault) h shows = subst (λ r. IsReplyTo format r answer) h shows
-  between_said told_of shown as (Ok t) (Ok first) (Ok last) (inventory, same, is) shows = as first last inventory same (subst (λ u. ShowsTold format u answer) is shows)
-  between_said told_of shown as (Err fault) (Ok first) (Ok last) never shows = absurd never
+  between_said told_of shown one said (Err fault) to h shows = subst (λ r. IsReplyTo format r answer) h shows
+  between_said told_of shown one said (Ok first) (Err fault) h shows = subst (λ r. IsReplyTo format r answer) h shows
+  between_said told_of shown one (Ok t) (Ok first) (Ok last) (inventory, same, is) shows = one first last inventory same (subst (λ u. ShowsTold format u answer) is shows)
+  between_said told_of shown one (Err fault) (Ok first) (Ok last) never shows = absurd never
 
   rows_said : (said : Result Told AskFault) (a : RowsAsked) (o : Option Missing)
       → UnlessMissing o (OnStretch i a.route a.from a.to (λ first last. Tells (IsInventory i) (told.Rows (wanted_of a first last)))) said → IsReplyTo format said answer
