@@ -147,7 +147,7 @@ module _ (Asks : List Text → Type 0) (input : Text) (only : (records : List (L
 
 -- no record asks for a history, or there is one image
 asks_so : (i j : Image) (input : Text) → AsksNoHistory input ⊎ (i ≡ j) → (records : List (List Text)) → BeginsWith input records → AllByRecursion (λ fields. IsOfNoHistory fields ⊎ (i ≡ j)) records
-asks_so i j input (inl no) records begins = each_one records (no records begins)
+asks_so i j input (inl never_asked) records begins = each_one records (never_asked records begins)
   where
     each_one : (records : List (List Text)) → AllByRecursion IsOfNoHistory records → AllByRecursion (λ fields. IsOfNoHistory fields ⊎ (i ≡ j)) records
     each_one [] h = tt

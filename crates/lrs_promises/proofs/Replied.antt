@@ -51,7 +51,7 @@ use Rattle.lrs_report_answers.specs.Place.Answers.{IsWhereabouts}
 use Rattle.lrs_promises.specs.Determinism.{IsOfNoHistory, SameInventories}
 use Rattle.lrs_promises.proofs.Agreeing.{tells_moved, where_moved, with_ledgers}
 use Rattle.lrs_promises.proofs.Places.{lengths_once, where_once}
-use Rattle.lrs_promises.proofs.Once.{OneUnlessMemory, at_once, ok_is_not_err, same_some, segmented_once, some_is_not_none, tells_once, unless_memory}
+use Rattle.lrs_promises.proofs.Once.{OneUnlessMemory, at_once, ok_is_not_err, same_err, same_some, segmented_once, some_is_not_none, tells_once, unless_memory}
 use Rattle.lrs_promises.proofs.Translated.{by_method_once, on_link_once, stated_above}
 
 -- the rows of an asset
@@ -87,7 +87,8 @@ listed_alike key i l None (Ok t) (Err fault) h never = absurd never
 listed_alike key i l None (Err fault) other never g = absurd never
 listed_alike key i l (Some what) (Ok t) other (x, never, is) g = absurd (ok_is_not_err x (asked.Missing what) never)
 listed_alike key i l (Some what) (Err fault) (Ok u) h (y, never, is) = absurd (ok_is_not_err y (asked.Missing what) never)
-listed_alike key i l (Some what) (Err fault) (Err other) h g = ap (reply_of key) (h ∙ sym g)
+listed_alike key i l (Some what) (Err fault) (Err other) h g =
+    ap (λ (e : AskFault). reply_of key (Err e)) (same_err fault (asked.Missing what) h ∙ sym (same_err other (asked.Missing what) g))
 
 -- the segments of routes of an image, as those of a state
 abbrev overlay_lines : State → Image → OverlayWanted → Text
@@ -132,63 +133,63 @@ module _ (i j : Image) (same : state_of i ≡ state_of j) (alike : SameInventori
   -- a history is told by the ledgers; no other list is asked for
   listing_alike : (key : Text) (l : Listing) → SaysQuestion fields key (question.List l) → IsOfNoHistory fields ⊎ (i ≡ j) → (said other : Result Told AskFault) → Tells (IsListing i l) (told.Listing l) said
       → Tells (IsListing j l) (told.Listing l) other → reply_of key said ≡ reply_of key other
-  listing_alike key (listing.History asset) says (inl no) said other h g = absurd (no says.same_question)
+  listing_alike key (listing.History asset) says (inl never_asked) said other h g = absurd (never_asked says.same_question)
   listing_alike key (listing.History asset) says (inr one) said other h g =
       listed_alike key j (listing.History asset) (missing_of j (listing.History asset)) said other
       (subst (λ (x : Image). Tells (IsListing x (listing.History asset)) (told.Listing (listing.History asset)) said) one h) g
-  listing_alike key listing.Routes says no said other h g = absurd (nameless (subst (Contains all_questions) says.same_question says.is_question))
-  listing_alike key listing.Links says no said other h g = absurd (nameless (subst (Contains all_questions) says.same_question says.is_question))
-  listing_alike key listing.Classes says no said other h g = absurd (nameless (subst (Contains all_questions) says.same_question says.is_question))
-  listing_alike key (listing.Refs route exact) says no said other h g = absurd (nameless (subst (Contains all_questions) says.same_question says.is_question))
-  listing_alike key (listing.Marks route) says no said other h g = absurd (nameless (subst (Contains all_questions) says.same_question says.is_question))
-  listing_alike key (listing.Pieces route) says no said other h g = absurd (nameless (subst (Contains all_questions) says.same_question says.is_question))
-  listing_alike key (listing.Gone wanted) says no said other h g = absurd (nameless (subst (Contains all_questions) says.same_question says.is_question))
-  listing_alike key (listing.Log from until) says no said other h g = absurd (nameless (subst (Contains all_questions) says.same_question says.is_question))
-  listing_alike key (listing.LogOfKey other_key) says no said other h g = absurd (nameless (subst (Contains all_questions) says.same_question says.is_question))
+  listing_alike key listing.Routes says never_asked said other h g = absurd (nameless (subst (Contains all_questions) says.same_question says.is_question))
+  listing_alike key listing.Links says never_asked said other h g = absurd (nameless (subst (Contains all_questions) says.same_question says.is_question))
+  listing_alike key listing.Classes says never_asked said other h g = absurd (nameless (subst (Contains all_questions) says.same_question says.is_question))
+  listing_alike key (listing.Refs route exact) says never_asked said other h g = absurd (nameless (subst (Contains all_questions) says.same_question says.is_question))
+  listing_alike key (listing.Marks route) says never_asked said other h g = absurd (nameless (subst (Contains all_questions) says.same_question says.is_question))
+  listing_alike key (listing.Pieces route) says never_asked said other h g = absurd (nameless (subst (Contains all_questions) says.same_question says.is_question))
+  listing_alike key (listing.Gone wanted) says never_asked said other h g = absurd (nameless (subst (Contains all_questions) says.same_question says.is_question))
+  listing_alike key (listing.Log from until) says never_asked said other h g = absurd (nameless (subst (Contains all_questions) says.same_question says.is_question))
+  listing_alike key (listing.LogOfKey other_key) says never_asked said other h g = absurd (nameless (subst (Contains all_questions) says.same_question says.is_question))
 
   -- what is told of two images of one state is replied alike, unless memory runs out
   told_alike : (key : Text) (q : Question) → SaysQuestion fields key q → IsOfNoHistory fields ⊎ (i ≡ j) → (said other : Result Told AskFault) → IsTold i q said → IsTold j q other → (said ≡ Err Memory → ⊥) → (other ≡ Err Memory → ⊥)
       → reply_of key said ≡ reply_of key other
-  told_alike key (question.At route e) says no said other h g some also =
+  told_alike key (question.At route e) says never_asked said other h g some also =
       as_one key said other (
       tells_once (IsAt (state_of i) route e) (told.At route) (at_once (state_of i) route e) said other h (subst (λ s. Tells (IsAt s route e) (told.At route) other) (sym same) g) some also
       )
-  told_alike key (question.Segments route side classes) says no said other h g some also =
+  told_alike key (question.Segments route side classes) says never_asked said other h g some also =
       as_one key said other (
       tells_once (IsSegmented (state_of i) route classes side) (told.Segments route side (length_on (state_of i) route) classes) (segmented_once (state_of i) route classes side) said other h
       (subst (λ s. Tells (IsSegmented s route classes side) (told.Segments route side (length_on s route) classes) other) (sym same) g) some also
       )
-  told_alike key (question.Translate route e (destination.Method t)) says no said other h g some also =
+  told_alike key (question.Translate route e (destination.Method t)) says never_asked said other h g some also =
       as_one key said other (
       tells_once (IsTranslated (state_of i) route e t) (told.Translated route) (by_method_once i route e t (stated_in fields _ e says.arguments.1.1.0)) said other h
       (subst (λ s. Tells (IsTranslated s route e t) (told.Translated route) other) (sym same) g) some also
       )
-  told_alike key (question.Translate route e destination.Link) says no said other h g some also =
+  told_alike key (question.Translate route e destination.Link) says never_asked said other h g some also =
       as_one key said other (
       tells_once (IsOnLink (state_of i) route e) (λ on. told.OnLink route on.0 on.1) (on_link_once i route e (stated_in fields _ e says.arguments.1.1.0)) said other h
       (subst (λ s. Tells (IsOnLink s route e) (λ on. told.OnLink route on.0 on.1) other) (sym same) g) some also
       )
-  told_alike key (question.Find asset) says no said other h g some also =
+  told_alike key (question.Find asset) says never_asked said other h g some also =
       as_one key said other (
       tells_once (IsFound (state_of i) asset) told.Found (found_once (state_of i) asset) said other h (subst (λ s. Tells (IsFound s asset) told.Found other) (sym same) g) some also
       )
-  told_alike key (question.Route route) says no said other h g some also = absurd (nameless (subst (Contains all_questions) says.same_question says.is_question))
-  told_alike key (question.Diagram route classes from to) says no said other h g some also = absurd (nameless (subst (Contains all_questions) says.same_question says.is_question))
-  told_alike key question.Totals says no said other h g some also = absurd (nameless (subst (Contains all_questions) says.same_question says.is_question))
-  told_alike key (question.Where spot) says no said other h g some also =
+  told_alike key (question.Route route) says never_asked said other h g some also = absurd (nameless (subst (Contains all_questions) says.same_question says.is_question))
+  told_alike key (question.Diagram route classes from to) says never_asked said other h g some also = absurd (nameless (subst (Contains all_questions) says.same_question says.is_question))
+  told_alike key question.Totals says never_asked said other h g some also = absurd (nameless (subst (Contains all_questions) says.same_question says.is_question))
+  told_alike key (question.Where spot) says never_asked said other h g some also =
       let moved = tells_moved (IsWhereabouts (with_ledgers i j) spot) (IsWhereabouts j spot) told.Where (where_moved i j (ap state_of (sym is_with_ledgers) ∙ same) spot) said
       (subst (λ (x : Image). Tells (IsWhereabouts x spot) told.Where said) is_with_ledgers h) in
       as_one key said other (tells_once (IsWhereabouts j spot) told.Where (where_once j spot) said other moved g some also)
-  told_alike key (question.Rows asked) says no said other h g some also =
+  told_alike key (question.Rows asked) says never_asked said other h g some also =
       rows_alike key asked (missing_row j (wanted_of asked None None)) said other (subst (λ (x : Image). IsTold x (question.Rows asked) said) is_with_ledgers h) g
-  told_alike key (question.Overlay asked) says no said other h g some also =
+  told_alike key (question.Overlay asked) says never_asked said other h g some also =
       overlay_alike key asked (missing_route j asked.route) (segment_fault (class_list (state_of j)) asked.classes L) said other
       (subst (λ s. UnlessMissing (missing_route j asked.route) (UnlessRefused (segment_fault (class_list s) asked.classes L) (OnStretch (with_ledgers i j) asked.route asked.from asked.to (λ first last.
       Tells (IsInventory (with_ledgers i j)) (told.Overlay (overlay_wanted asked first last))))) said) one_state (subst (λ (x : Image). IsTold x (question.Overlay asked) said) is_with_ledgers h)) g
-  told_alike key (question.Lengths route) says no said other h g some also =
+  told_alike key (question.Lengths route) says never_asked said other h g some also =
       as_one key said other (tells_once (AreLengthsOf j route) told.Lengths (lengths_once j route) said other (subst (λ (x : Image). Tells (AreLengthsOf x route) told.Lengths said) is_with_ledgers h) g some also)
-  told_alike key (question.List listing) says no said other h g some also = listing_alike key listing says no said other h g
-  told_alike key question.Health says no said other h g some also = absurd (nameless (subst (Contains all_questions) says.same_question says.is_question))
+  told_alike key (question.List listing) says never_asked said other h g some also = listing_alike key listing says never_asked said other h g
+  told_alike key question.Health says never_asked said other h g some also = absurd (nameless (subst (Contains all_questions) says.same_question says.is_question))
 
   -- there is no reply where memory ran out
   has_memory : (key : Text) (said : Result Told AskFault) (r : Reply) → reply_of key said ≡ Some r → said ≡ Err Memory → ⊥
@@ -196,14 +197,14 @@ module _ (i j : Image) (same : state_of i ≡ state_of j) (alike : SameInventori
 
   -- so is a reply
   reply_alike : IsOfNoHistory fields ⊎ (i ≡ j) → (r p : Reply) → IsReplied i fields r → IsReplied j fields p → r ≡ p
-  reply_alike no r p (inl (key, q, said, says, told, is)) (inl (key', q', said', says', told', is')) =
+  reply_alike never_asked r p (inl (key, q, said, says, told, is)) (inl (key', q', said', says', told', is')) =
       let (keys, asked) = one-question fields key key' q q' says says' in
       let also : IsTold j q said' = subst (λ x. IsTold j x said') (sym asked) told' in
-      let replies = told_alike key q says no said said' told also (has_memory key said r is) (has_memory key' said' p is') in
+      let replies = told_alike key q says never_asked said said' told also (has_memory key said r is) (has_memory key' said' p is') in
       same_some r p (sym is ∙ replies ∙ (λ k. reply_of (keys k) said') ∙ is')
-  reply_alike no r p (inl (key, q, said, says, told, is)) (inr (at, first, is')) = absurd (first.malformed (well-formed-asked fields key q says (place_of at)))
-  reply_alike no r p (inr (at, first, is)) (inl (key, q, said, says, told, is')) = absurd (first.malformed (well-formed-asked fields key q says (place_of at)))
-  reply_alike no r p (inr (at, first, is)) (inr (at', first', is')) =
+  reply_alike never_asked r p (inl (key, q, said, says, told, is)) (inr (at, first, is')) = absurd (first.malformed (well-formed-asked fields key q says (place_of at)))
+  reply_alike never_asked r p (inr (at, first, is)) (inl (key, q, said, says, told, is')) = absurd (first.malformed (well-formed-asked fields key q says (place_of at)))
+  reply_alike never_asked r p (inr (at, first, is)) (inr (at', first', is')) =
       is ∙ ap (λ (f : Field). malformed fields f) (one-malformed all_questions question_shapes fields at at' first first') ∙ sym is'
 
 -- and so are those of records
