@@ -177,7 +177,7 @@ def wanted_rows(path, route=None, start=None, end=None, class_=None, asset=None,
     found = look(
         path,
         "SELECT s.route, s.lo, s.hi, s.side, s.asset, a.class, a.value, a.lateral, o.edit FROM span s JOIN asset a ON a.number = s.asset"
-        " JOIN origin o ON o.asset = s.asset ORDER BY s.route, a.class, s.asset, s.lo, s.side",
+        " JOIN origin o ON o.asset = s.asset ORDER BY s.route, s.lo, s.side, a.class, s.asset",
     )[0]
     return [
         [r, str(lo), str(hi), measure_at(marks[r], lo, exact), measure_at(marks[r], hi, exact), sides[side], str(number), kind, value, str(offset), str(edit)]

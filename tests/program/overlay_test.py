@@ -161,6 +161,8 @@ def as_item(header, row):
 def test_over_http(db):
     make_full(db)
     edit(db, sheet_of(*MORE))
+    # while it is served no other program has the file
+    printed = {query: run("overlay", db, *words).stdout for query, words in ASKED.items()}
     with serving(2 * len(ASKED) + 3, db) as server:
 
         def fetched(target, status=200):
@@ -168,8 +170,7 @@ def test_over_http(db):
             assert head.startswith(f"HTTP/1.1 {status} ".encode()), (target, head, body)
             return body
 
-        for query, words in ASKED.items():
-            listed = run("overlay", db, *words).stdout
+        for query, listed in printed.items():
             assert fetched(f"overlay.csv?{query}") == listed, query
             header, *rows = csv.reader(io.StringIO(listed.decode()))
             items = json.loads(fetched(f"overlay?{query}"))["overlay"]
