@@ -94,7 +94,7 @@ def completed(line):
         ("roadlrs ch", ["check"]),
         ("roadlrs list roads.db r", ["routes", "refs"]),
         ("roadlrs at roads.db A1 ", ["abs", "rel", "int"]),
-        ("roadlrs rows roads.db --c", ["--class"]),
+        ("roadlrs rows roads.db --c", ["--class", "--columns"]),
         ("roadlrs edit roads.db first.csv --", ["--sums", "--resume", "--all", "--whole", *GENERAL, "--help"]),
         ("roadlrs edit :m", [":memory:"]),
         ("roadlrs where roads.db l", ["link"]),

@@ -6,8 +6,8 @@ import subprocess
 import pytest
 
 from documents import blocks
-from program import FIRST, FIRST_REPLIES, PATIENCE, PROGRAM, TOP, ends, run
-from stores import digest, edit, make_full
+from program import PATIENCE, PROGRAM, TOP, ends, run
+from stores import digest, make_full
 
 BLOCKS = [text for _, text in blocks(TOP / "docs" / "OPERATING.md")]
 
@@ -31,13 +31,6 @@ def typed(tmp_path):
     return type_in
 
 
-def test_a_store_for_many_small_edits(typed, tmp_path):
-    typed(shown("PRAGMA page_size"))
-    ends(edit(tmp_path / "NAME.db", FIRST), FIRST_REPLIES, 0)
-    assert typed("sqlite3 NAME.db 'PRAGMA page_size'") == "1024\n"
-    ends(run("audit", str(tmp_path / "NAME.db")), b"sound, and as its log says\n", 0)
-
-
 def test_the_sum_of_a_log(typed, tmp_path):
     make_full(tmp_path / "NAME.db")
     sums = typed(shown("sha256sum")).splitlines(keepends=True)
@@ -58,4 +51,4 @@ def test_looking_into_a_copy(typed, tmp_path):
 
 
 def test_each_block_is_typed_here_or_by_the_test_of_explanations():
-    assert len(BLOCKS) == 4 and shown("HEADER.csv")
+    assert len(BLOCKS) == 3 and shown("HEADER.csv")
