@@ -202,7 +202,9 @@ def test_help_names_an_option_where_it_may_be_given(option):
     line = re.compile(rb"^      " + option + rb" +" + re.escape(says) + rb"\n", re.M)
     said = {name: run(name, "--help").stdout for name in NAMES_OF_JOBS}
     assert [name for name, text in said.items() if line.search(text)] == names, said
-    assert option not in b"".join(line.sub(b"", text) for text in said.values()), said
+    # an example may have it too
+    others = [it for text in said.values() for it in line.sub(b"", text).splitlines() if b" roadlrs " not in f" {it.decode()}".encode()]
+    assert option not in b"\n".join(others), said
 
 
 USAGES = {"edit": b"<DB> <SHEET>", "survey": b"<DB> <SHEET>", "serve": b"<DB> <PORT> <MAX>"}

@@ -377,4 +377,4 @@ def test_assets_that_come_and_go_in_any_order_are_listed_in_theirs():
         sheet.add(f"retire,{number},A,abs,0,1000", "Empty")
     with started() as server:
         sheet.sent_to(server)
-        assert [(row["asset"], row["from"]) for row in listed(server, "rows")] == sorted(held.items())
+        assert [(row["asset"], row["from"]) for row in listed(server, "rows")] == sorted(held.items(), key=lambda it: it[1])
