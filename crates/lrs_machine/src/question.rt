@@ -170,6 +170,11 @@ pub enum Question {
     Where(AskedPlace),
     /// How long each value of each class is, on a route where it is given.
     Lengths(Option<RouteName>),
+    /// How long each combination of the values of these exclusive classes is, on a route where it is given.
+    Combinations {
+        route: Option<RouteName>,
+        classes: Rows<ClassName>,
+    },
     /// The stretches that assets hold.
     Rows(RowsAsked),
     /// The segments of routes by exclusive classes, with their values side by side.
