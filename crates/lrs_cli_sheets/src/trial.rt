@@ -17,7 +17,7 @@ use crate::sheets::{
 use crate::trial_notes::tell_of_trial;
 use crate::world::{Sheets, World};
 use lrs_cli_tasks::{Ending, ProgramFault, open_full};
-use lrs_image_plain::Plain;
+use lrs_desk::Plain;
 use lrs_inventory::Inventory;
 use lrs_sheet::{Desk, Keeper, Sheet, SheetFault, Tally};
 use std::alloc::Global;

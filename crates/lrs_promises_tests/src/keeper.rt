@@ -78,7 +78,7 @@ impl Holder for Failing {
 }
 
 impl Keeper for Failing {
-    ghost use Rattle.lrs_image_plain.specs.PlainKeeper.{finds_kept};
+    ghost use Rattle.lrs_desk.specs.PlainKeeper.{finds_kept};
 
     ghost staged = { λ f. f.plain.staged };
 

@@ -1,6 +1,6 @@
 use Rattle.std.proofs.Common.{◌∙◌, ap}
 use Rattle.lrs_image.specs.KeeperCalls.{content_by, content_of}
-use Rattle.lrs_image_plain.specs.PlainKeeper.{PlainView}
+use Rattle.lrs_desk.specs.PlainKeeper.{PlainView}
 use Rattle.lrs_cli_sheets.proofs.trial.copy_of.Goals as goal
 
 pub returns-in-Ok-new-clause-content : goal.returns-in-Ok-new-clause-content

@@ -3,7 +3,7 @@ use Rattle.std.specs.Prelude.{IfOk}
 use Rattle.lrs_machine.specs.declared.image.Image.{Image}
 use Rattle.lrs_machine.specs.declared.table.Table.{Table}
 use Rattle.lrs_machine.specs.Image.{nothing}
-use Rattle.lrs_image_plain.specs.PlainKeeper.{PlainView}
+use Rattle.lrs_desk.specs.PlainKeeper.{PlainView}
 use Rattle.lrs_cli_tasks.proofs.desk.open_in_memory.Goals as goal
 
 pub returns-in-Ok-clause-fresh : goal.returns-in-Ok-clause-fresh

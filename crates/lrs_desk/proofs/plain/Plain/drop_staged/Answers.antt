@@ -1,6 +1,6 @@
 use Rattle.std.proofs.Common.{refl}
-use Rattle.lrs_image_plain.proofs.Staged.{truncated}
-use Rattle.lrs_image_plain.proofs.plain.Plain.drop_staged.Goals as goal
+use Rattle.lrs_desk.proofs.Staged.{truncated}
+use Rattle.lrs_desk.proofs.plain.Plain.drop_staged.Goals as goal
 
 pub returns-clause-sound : goal.returns-clause-sound
 returns-clause-sound c =

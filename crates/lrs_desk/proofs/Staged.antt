@@ -6,11 +6,11 @@ use Rattle.lrs_machine.specs.declared.image.Image.{Image}
 use Rattle.lrs_machine.specs.declared.table.Table.{Table}
 use Rattle.lrs_machine.specs.Sound.{IsSound}
 use Rattle.lrs_image.specs.declared.change.Change.{Change}
-use Rattle.lrs_image_plain.specs.declared.plain.Content.{Content}
-use Rattle.lrs_image_plain.specs.declared.plain.Content.TheVariants.{Sound, Unsound}
+use Rattle.lrs_desk.specs.declared.plain.Content.{Content}
+use Rattle.lrs_desk.specs.declared.plain.Content.TheVariants.{Sound, Unsound}
 use Rattle.lrs_image.specs.KeeperCalls.{is_image, HoldsSound}
 use Rattle.lrs_image.specs.OpenLists.{image_of}
-use Rattle.lrs_image_plain.specs.PlainKeeper.{content_after, IsContent, IsPlain, PlainView}
+use Rattle.lrs_desk.specs.PlainKeeper.{content_after, IsContent, IsPlain, PlainView}
 use Rattle.lrs_image.specs.ChangeLists.{apply_all, CanMakeAll, IsChangedBy}
 use Rattle.lrs_image.proofs.Together.{apply_append, can_append, sound_after}
 

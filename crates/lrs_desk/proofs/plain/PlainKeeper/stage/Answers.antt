@@ -1,9 +1,9 @@
 use Rattle.std.proofs.Common.{arith, ap, refl, sym, ◌∙◌}
 use Rattle.std.proofs.lemmas.Grind.{common_steps}
 use Rattle.lrs_image.specs.KeeperCalls.{is_image}
-use Rattle.lrs_image_plain.specs.PlainKeeper.{PlainView}
-use Rattle.lrs_image_plain.proofs.Staged.{same_content}
-use Rattle.lrs_image_plain.proofs.plain.PlainKeeper.stage.Goals as goal
+use Rattle.lrs_desk.specs.PlainKeeper.{PlainView}
+use Rattle.lrs_desk.proofs.Staged.{same_content}
+use Rattle.lrs_desk.proofs.plain.PlainKeeper.stage.Goals as goal
 
 pub returns-clause-ok : goal.returns-clause-ok
 returns-clause-ok c = grind (arith, common_steps)

@@ -4,7 +4,7 @@ ghost use Rattle.std.specs.Prelude.{◌≡◌, IfOk, Ok, []};
 ghost use Rattle.lrs_machine.specs.Image.{nothing};
 ghost use Rattle.lrs_machine.specs.Sound.{IsSound};
 ghost use Rattle.lrs_image.specs.OpenLists.{image_of};
-ghost use Rattle.lrs_image_plain.specs.PlainKeeper.{IsBase};
+ghost use Rattle.lrs_desk.specs.PlainKeeper.{IsBase};
 ghost use Rattle.lrs_image.specs.ChangeLists.{apply_all};
 ghost use Rattle.lrs_image.specs.KeeperCalls.{content_of};
 
@@ -33,7 +33,7 @@ pub struct Plain {
 }
 
 impl Model for Plain {
-    ghost use Rattle.lrs_image_plain.specs.PlainKeeper.{content_after, PlainView, IsPlain};
+    ghost use Rattle.lrs_desk.specs.PlainKeeper.{content_after, PlainView, IsPlain};
     ghost use Rattle.std.specs.Prelude.{take, drop};
 
     ghost Value = { PlainView };
@@ -115,7 +115,7 @@ impl Holder for Plain {
 }
 
 impl Keeper for Plain {
-    ghost use Rattle.lrs_image_plain.specs.PlainKeeper.{finds_kept};
+    ghost use Rattle.lrs_desk.specs.PlainKeeper.{finds_kept};
 
     ghost staged = { λ plain. plain.staged };
 
