@@ -28,7 +28,8 @@ use Rattle.lrs_report_answers.specs.Stretches.{OnStretch, end_of}
 use Rattle.lrs_report_answers.specs.declared.stretch.End.TheVariants.{From, To}
 use Rattle.lrs_report_lists.specs.Absence.{missing_row}
 use Rattle.lrs_report_answers.specs.AssetStretches.{all_rows_of}
-use Rattle.lrs_report_answers.specs.ToldAnswers.{IsTold, Tells, UnlessRefused}
+use Rattle.lrs_report_answers.specs.RouteSegments.{UnlessRefused}
+use Rattle.lrs_report_answers.specs.ToldAnswers.{IsTold, Tells}
 use Rattle.lrs_report_answers.specs.Totals.{totals_of}
 use Rattle.lrs_report_answers.specs.declared.fault.AskFault.{AskFault}
 use Rattle.lrs_report_answers.specs.declared.fault.AskFault.TheVariants.{Memory}

@@ -11,5 +11,6 @@ pub mod DrawnRows
 pub mod Stretches
 pub mod Listings
 pub mod Overlay
+pub mod Combinations
 pub mod Tally
 pub mod Place

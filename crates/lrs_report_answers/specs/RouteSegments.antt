@@ -1,5 +1,5 @@
 -- The segments of a route, as they are answered.
-use Rattle.std.specs.Prelude.{◌≡◌, List, map, Result, Err, MatchOption}
+use Rattle.std.specs.Prelude.{◌≡◌, List, map, Option, Some, None, Result, Err, MatchOption}
 use Rattle.lrs_measure.specs.Texts.{Name}
 use Rattle.lrs_events.specs.declared.class.Class.{Class}
 use Rattle.lrs_events.specs.declared.side.Side.{Side}
@@ -20,6 +20,11 @@ use Rattle.lrs_report_answers.specs.Answers.{UnlessMemory, OnRoute}
 -- the classes as segments read them
 abbrev pub class_list : State → List Class
 class_list s = map (λ c. record { name = c.0; kind = c.1 }) (entries s.classes)
+
+-- the classes refuse the segments; else this passes
+abbrev pub UnlessRefused : {A : Type 0} → Option SegFault → (Result A AskFault → Type 0) → Result A AskFault → Type 0
+UnlessRefused None Passes result = Passes result
+UnlessRefused (Some fault) Passes result = result ≡ Err (Seg fault)
 
 -- The answer is the segments of the route of the name on this side, or the first fault.
 abbrev pub IsSegmented : State → Name → List Name → Side → Result (List Segment) AskFault → Type 0

@@ -16,7 +16,6 @@ use Rattle.lrs_machine.specs.declared.question.OverlayAsked.{OverlayAsked}
 use Rattle.lrs_machine.specs.declared.question.Question.{Question}
 use Rattle.lrs_machine.specs.declared.question.Question.TheVariants as question
 use Rattle.lrs_machine.specs.declared.question.RowsAsked.{RowsAsked}
-use Rattle.lrs_machine.specs.declared.segment.SegFault.{SegFault}
 use Rattle.lrs_machine.specs.declared.total.Total.{Total}
 use Rattle.lrs_machine.specs.Image.{state_of}
 use Rattle.lrs_machine.specs.Register.{get}
@@ -25,17 +24,17 @@ use Rattle.lrs_machine.specs.State.{State}
 use Rattle.lrs_image.specs.Change.{is_named}
 use Rattle.lrs_report_lists.specs.Absence.{missing_row}
 use Rattle.lrs_report_answers.specs.declared.fault.AskFault.{AskFault}
-use Rattle.lrs_report_answers.specs.declared.fault.AskFault.TheVariants.{Seg}
 use Rattle.lrs_report_answers.specs.declared.told.Told.{Told}
 use Rattle.lrs_report_answers.specs.declared.told.Told.TheVariants as told
 use Rattle.lrs_report_answers.specs.Answers.{AsksRoute, IsAt, UnlessMemory, UnlessMissing, route_missing}
+use Rattle.lrs_report_answers.specs.Combinations.{AreCombinationsOf}
 use Rattle.lrs_report_answers.specs.DrawnRows.{IsDrawn}
 use Rattle.lrs_report_answers.specs.AssetStretches.{IsFound}
 use Rattle.lrs_report_answers.specs.Listings.{AreLengthsOf, IsInventory, IsListing, missing_route, wanted_of}
 use Rattle.lrs_report_answers.specs.Overlay.{overlay_wanted}
 use Rattle.lrs_report_answers.specs.Stretches.{OnStretch}
 use Rattle.lrs_report_answers.specs.Place.Answers.{IsWhereabouts}
-use Rattle.lrs_report_answers.specs.RouteSegments.{IsSegmented, class_list}
+use Rattle.lrs_report_answers.specs.RouteSegments.{IsSegmented, UnlessRefused, class_list}
 use Rattle.lrs_report_answers.specs.Totals.{totals_of}
 
 -- a position on the route of a name, by another method
@@ -69,11 +68,6 @@ AreRows i asked =
     UnlessMissing (missing_row i (wanted_of asked None None))
     (OnStretch i asked.route asked.from asked.to (λ first last. Tells (IsInventory i) (told.Rows (wanted_of asked first last))))
 
--- the classes refuse the segments; else this passes
-abbrev pub UnlessRefused : {A : Type 0} → Option SegFault → (Result A AskFault → Type 0) → Result A AskFault → Type 0
-UnlessRefused None Passes result = Passes result
-UnlessRefused (Some fault) Passes result = result ≡ Err (Seg fault)
-
 -- The answer is the segments of the inventory between the ends that are asked for; or the route is missing, or the first fault of the classes, or that of an end.
 abbrev pub IsOverlay : Image → OverlayAsked → Result Told AskFault → Type 0
 IsOverlay i asked =
@@ -93,6 +87,7 @@ IsTold i question.Totals = Tells (AreTotals (state_of i)) told.Totals
 IsTold i (question.Find asset) = Tells (IsFound (state_of i) asset) told.Found
 IsTold i (question.Where spot) = Tells (IsWhereabouts i spot) told.Where
 IsTold i (question.Lengths route) = Tells (AreLengthsOf i route) told.Lengths
+IsTold i (question.Combinations route classes) = Tells (AreCombinationsOf i route classes) (told.Combinations classes)
 IsTold i (question.Rows asked) = AreRows i asked
 IsTold i (question.Overlay asked) = IsOverlay i asked
 IsTold i (question.List l) = Tells (IsListing i l) (told.Listing l)

@@ -6,6 +6,8 @@ mod asset_rows;
 mod bands;
 mod cause;
 mod class_faults;
+mod combination_lines;
+mod combinations;
 mod entered_parts;
 mod fault;
 mod ground_routes;
@@ -27,6 +29,8 @@ mod tallies;
 mod told;
 
 pub use cause::{AskCause, cause_of};
+pub use combination_lines::write_combinations;
+pub use combinations::{Combination, combinations};
 pub use fault::AskFault;
 pub use hits::{AtAnswer, at};
 pub use list_totals::totals_of_image;

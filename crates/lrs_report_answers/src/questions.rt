@@ -10,20 +10,21 @@ ghost use Rattle.lrs_report_answers.specs.Stretches.{OnStretch};
 ghost use Rattle.lrs_report_answers.specs.declared.told.Told.TheVariants as told;
 ghost use Rattle.lrs_report_answers.specs.Answers.{IsAt};
 ghost use Rattle.lrs_report_answers.specs.AssetStretches.{IsFound};
+ghost use Rattle.lrs_report_answers.specs.Combinations.{AreCombinationsOf};
 ghost use Rattle.lrs_report_answers.specs.DrawnRows.{IsDrawn};
 ghost use Rattle.lrs_report_answers.specs.Listings.{AreLengthsOf, IsInventory, IsListing, has_key};
 ghost use Rattle.lrs_report_answers.specs.Listings as spec;
 ghost use Rattle.lrs_report_answers.specs.Overlay.{overlay_wanted};
 ghost use Rattle.lrs_report_answers.specs.Place.Answers.{IsWhereabouts};
-ghost use Rattle.lrs_report_answers.specs.RouteSegments.{IsSegmented, class_list};
+ghost use Rattle.lrs_report_answers.specs.RouteSegments.{IsSegmented, UnlessRefused, class_list};
 ghost use Rattle.lrs_report_answers.specs.Tally.RunningCounts.{IsCounted};
-ghost use Rattle.lrs_report_answers.specs.ToldAnswers.{AreRows, AreTotals, IsNamedRoute, IsOnLink, IsOverlay, IsTold, IsTranslated, Tells, UnlessRefused, length_on};
+ghost use Rattle.lrs_report_answers.specs.ToldAnswers.{AreRows, AreTotals, IsNamedRoute, IsOnLink, IsOverlay, IsTold, IsTranslated, Tells, length_on};
 
 use crate::class_faults::class_fault;
 use crate::tallies::Counts;
 use crate::{
-    AskFault, End, Told, at, diagram, end_of, find, length_of, named_route, segments, to_link,
-    translate, whereabouts,
+    AskFault, End, Told, at, combinations, diagram, end_of, find, length_of, named_route, segments,
+    to_link, translate, whereabouts,
 };
 use lrs_events::{ClassName, Side};
 use lrs_image::ImageLists;
@@ -222,6 +223,23 @@ fn tell_lengths<'a>(
 {
     let rows = lengths_on(alloc, inventory, route)?;
     Ok(Told::Lengths(rows))
+}
+
+fn tell_combinations<'a>(
+    alloc: Global,
+    inventory: &'a Inventory,
+    route: Option<RouteName>,
+    classes: Rows<ClassName>,
+) -> Result<Told<'a>, AskFault>
+    ensures answer { Tells (AreCombinationsOf inventory.now route classes)
+        (told.Combinations classes) result }
+    ensures never { result ≡ Err AskFault.MustReopen → ⊥ }
+{
+    let combinations = combinations(alloc, inventory, route, classes.as_slice())?;
+    Ok(Told::Combinations {
+        classes,
+        combinations,
+    })
 }
 
 fn has_key(inventory: &Inventory, key: &Key) -> bool
@@ -437,6 +455,9 @@ pub fn tell<'a>(
         Question::Find { asset } => tell_found(alloc, inventory, asset),
         Question::Where(spot) => tell_where(alloc, inventory, spot),
         Question::Lengths(route) => tell_lengths(alloc, inventory, route),
+        Question::Combinations { route, classes } => {
+            tell_combinations(alloc, inventory, route, classes)
+        }
         Question::Rows(asked) => tell_rows(inventory, &asked),
         Question::Overlay(asked) => tell_overlay(inventory, asked),
         Question::List(listing) => tell_listing(inventory, listing),

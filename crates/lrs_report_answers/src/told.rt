@@ -1,6 +1,6 @@
 //! What is told to a question: its answer, with the words of the question that its text repeats.
 
-use crate::{AtAnswer, FoundRow, RouteSegments, Whereabouts};
+use crate::{AtAnswer, Combination, FoundRow, RouteSegments, Whereabouts};
 use lrs_events::{ClassName, Side};
 use lrs_inventory::Inventory;
 use lrs_machine::{Listing, OverlayWanted, RowsWanted, Total};
@@ -49,6 +49,11 @@ pub enum Told<'a> {
     Where(Whereabouts),
     /// How long each value of each class is.
     Lengths(Rows<ValueLength>),
+    /// How long each combination of the values of these classes is.
+    Combinations {
+        classes: Rows<ClassName>,
+        combinations: Rows<Combination>,
+    },
     /// The rows of this inventory that are wanted, which has all that they name. Each row is made where it is written.
     Rows {
         wanted: RowsWanted,

@@ -157,6 +157,7 @@ read-back (question.Where (OnLink link mm)) known = refl
 read-back (question.Rows asked) known = rows-back asked (rows-known asked.asset asked.form known)
 read-back (question.Overlay asked) known = overlay-back asked (overlay-known asked.from asked.to known)
 read-back (question.Lengths route) known = ap (λ (o : Option Text). Some (question.Lengths o)) (word-back route)
+read-back (question.Combinations route classes) known = absurd (nameless known)
 read-back (question.List listing) known = list-back listing known
 read-back (question.Route route) known = absurd (nameless known)
 read-back (question.Diagram route classes from to) known = absurd (nameless known)

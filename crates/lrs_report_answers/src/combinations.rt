@@ -1,0 +1,49 @@
+//! How much of the routes has each combination of the values of exclusive classes.
+
+ghost use Rattle.std.specs.Prelude.{◌≡◌, Err};
+ghost use Rattle.lrs_report_answers.specs.Combinations.{AreCombinationsOf};
+
+use crate::AskFault;
+use crate::class_faults::class_fault;
+use lrs_events::{ClassName, Value};
+use lrs_inventory::Inventory;
+use lrs_machine::Missing;
+use lrs_measure::Rows;
+use lrs_position::RouteName;
+use lrs_report_lists::lacks_route;
+use std::alloc::Global;
+
+/// How much of the routes has these values of the classes that are asked for, a value or none of each, in millimetres: on the
+/// left side, on the right side, and on either side, each millimetre of a route once. Sides are seen along the route.
+#[derive(Drop)]
+pub struct Combination {
+    pub values: Rows<Option<Value>>,
+    pub left: u64,
+    pub right: u64,
+    pub length: u64,
+}
+
+/// The combinations of the values of exclusive classes that some millimetre has on some side, on one route or on all, with their
+/// lengths. They are in the order of the values of the first class, then of the second and so on: none, and then by bytes.
+///
+/// # Errors
+/// `Missing(Route)`, then `Seg` of the first class that is not there (`NoClass`), else of the first that is not exclusive
+/// (`NotExclusive`), each by its place in `classes`, and `Memory`.
+pub fn combinations(
+    alloc: Global,
+    inventory: &Inventory,
+    route: Option<RouteName>,
+    classes: &[ClassName],
+) -> Result<Rows<Combination>, AskFault>
+    ensures answer { AreCombinationsOf inventory.now route classes.now result }
+    ensures never { result ≡ Err AskFault.MustReopen → ⊥ }
+{
+    inventory.prove_sound();
+    if lacks_route(inventory.kept(), route) {
+        return Err(AskFault::Missing(Missing::Route));
+    }
+    if let Some(fault) = class_fault(inventory, classes) {
+        return Err(AskFault::Seg(fault));
+    }
+    Err(AskFault::Memory)
+}
