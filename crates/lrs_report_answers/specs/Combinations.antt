@@ -70,6 +70,10 @@ pub record AreCombinationsOn (s : State) (classes : List Name) (routes : List Ro
 abbrev pub AreCombinations : Image → Option Name → List Name → List Combination → Type 0
 AreCombinations i route classes = AreCombinationsOn (state_of i) classes (filter (is_of_route route) i.routes)
 
+-- no two lists are the combinations of the same classes on the same routes
+abbrev pub CombinationsAreUnique : Type 0
+CombinationsAreUnique = (i : Image) (route : Option Name) (classes : List Name) (xs ys : List Combination) → AreCombinations i route classes xs → AreCombinations i route classes ys → xs ≡ ys
+
 -- The answer is the combinations; or the route is missing, or the first fault of the classes.
 abbrev pub AreCombinationsOf : Image → Option Name → List Name → Result (List Combination) AskFault → Type 0
 AreCombinationsOf i route classes =
