@@ -46,6 +46,7 @@ fn all_combinations(
     requires exclusive { segment_fault (class_list (state_of inventory.now)) classes.now L ≡ None }
     ensures { IfOk result (AreCombinations inventory.now route classes.now) }
 {
+    inventory.prove_sound();
     let mut entries = wanted_entries(alloc, inventory, route, classes)?;
     sort(&mut entries);
     table_of(alloc, &entries)

@@ -83,7 +83,7 @@ total_none part values (c ∷ cs) h =
     ∙ ap₂ (λ b n. cond b (part_of part c) 0 + n) (not-true (has_values values c) both.0) (total_none part values cs both.1)
 
 -- one that comes later has other values
-later_differs : (row c : Combination) → is_ahead row c ≡ true → has_values row.values c ≡ false
+pub later_differs : (row c : Combination) → is_ahead row c ≡ true → has_values row.values c ≡ false
 later_differs row c h = false_from_ne_true (has_values row.values c) (λ s.
     both_ways (is_ahead row c) (alike_level row c ((values_decide row.values c.values).1 (sym (values_equal c.values row.values s)))) h)
 
