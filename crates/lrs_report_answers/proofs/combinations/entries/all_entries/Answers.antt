@@ -1,19 +1,21 @@
-use Rattle.std.proofs.Common.{List, [], sym, subst}
+use Rattle.std.proofs.Common.{◌≡◌, List, [], sym, subst, rules}
 use Rattle.lrs_machine.specs.declared.image.RouteRow.{RouteRow}
 use Rattle.lrs_machine.specs.Image.{state_of}
 use Rattle.lrs_report_answers.specs.declared.combinations.Combination.{Combination}
 use Rattle.lrs_report_answers.specs.CombinationParts.{CountRoutes}
 use Rattle.lrs_report_answers.proofs.Combined.Routes.{routes_first, routes_next}
-use Rattle.lrs_report_answers.proofs.SideBySide.{among_next}
+use Rattle.lrs_report_answers.proofs.SideBySide.{AreAmong, among_next}
 use Rattle.lrs_report_answers.proofs.combinations.entries.all_entries.Goals as goal
 
 pub loop-route_row-init : goal.loop-route_row-init
 loop-route_row-init c =
     let s = state_of c.args.inventory.now in
     let routes = c.args.inventory.now.routes in
+    let same : routes ≡ c.into_iter-route_row-iterator.result = search rules in
     record {
-      among = λ x m. m;
-      counted = subst (λ (es : List Combination). CountRoutes s c.args.classes.now es routes routes) (sym c.new-entries.ensures.items) (routes_first s c.args.classes.now routes);
+      among = subst (λ (left : List RouteRow). AreAmong left routes) same (λ x m. m);
+      counted = subst (λ (left : List RouteRow). CountRoutes s c.args.classes.now c.new-entries.result.items left routes) same
+          (subst (λ (es : List Combination). CountRoutes s c.args.classes.now es routes routes) (sym c.new-entries.ensures.items) (routes_first s c.args.classes.now routes));
     }
 
 pub push_route-requires : goal.push_route-requires

@@ -20,7 +20,7 @@ returns-in_ok-push_route-in-Some c =
     let e = c.in-Some.route_row.now in
     let alone = ap (λ (o : Option RouteRow). option_map_or (λ (f : RouteRow). f ∷ []) o []) c.in-Some.ensures.row ∙ sym (route_alone c.args.name.now i c.prove_sound.ensures) in
     subst (λ (routes : List RouteRow). CountRoutes (state_of i) c.args.classes.now c.push_route.new.entries.items [] routes) alone
-    (route_done (state_of i) c.args.classes.now e c.new-entries.result.items c.push_route.new.entries.items c.new-entries.ensures.items c.in_ok-push_route.ensures)
+    (route_done (state_of i) c.args.classes.now e c.new-entries.result.items c.push_route.new.entries.items c.new-entries.ensures.items c.in_ok-push_route-in-Some.ensures)
 
 pub returns-in-None : goal.returns-in-None
 returns-in-None c =
