@@ -55,6 +55,9 @@ fn all_combinations(
 /// The combinations of the values of exclusive classes that some millimetre has on some side, on one route or on all, with their
 /// lengths. They are in the order of the values of the first class, then of the second and so on: none, and then by bytes.
 ///
+/// It goes once along both sides of each route, copies the values of each stretch over which neither side changes, and sorts
+/// them: time and memory grow with these stretches, not with the millimetres.
+///
 /// # Errors
 /// `Missing(Route)`, then `Seg` of the first class that is not there (`NoClass`), else of the first that is not exclusive
 /// (`NotExclusive`), each by its place in `classes`, and `Memory`.
