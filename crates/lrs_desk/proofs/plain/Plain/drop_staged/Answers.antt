@@ -1,5 +1,5 @@
 use Rattle.std.proofs.Common.{refl}
-use Rattle.lrs_desk.proofs.Staged.{truncated}
+use Rattle.lrs_desk.proofs.PlainContents.{truncated}
 use Rattle.lrs_desk.proofs.plain.Plain.drop_staged.Goals as goal
 
 pub returns-clause-sound : goal.returns-clause-sound

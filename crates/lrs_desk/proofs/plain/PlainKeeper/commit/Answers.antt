@@ -1,6 +1,6 @@
 use Rattle.std.proofs.Common.{List, length, ap, arith}
 use Rattle.lrs_image.specs.declared.change.Change.{Change}
-use Rattle.lrs_desk.proofs.Staged.{all_kept, all_made, holds_sound, still_loaded}
+use Rattle.lrs_desk.proofs.PlainContents.{all_kept, all_made, holds_sound, still_loaded}
 use Rattle.lrs_desk.proofs.plain.PlainKeeper.commit.Goals as goal
 
 pub invariant_of-self : goal.invariant_of-self

@@ -1,6 +1,6 @@
 use Rattle.std.proofs.Common.{arith, refl}
 use Rattle.std.proofs.lemmas.Grind.{common_steps}
-use Rattle.lrs_desk.proofs.Staged.{truncated}
+use Rattle.lrs_desk.proofs.PlainContents.{truncated}
 use Rattle.lrs_desk.proofs.plain.PlainKeeper.load.Goals as goal
 
 pub returns-in_err-made-clause-loads : goal.returns-in_err-made-clause-loads

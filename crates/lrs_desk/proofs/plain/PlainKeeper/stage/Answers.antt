@@ -2,7 +2,7 @@ use Rattle.std.proofs.Common.{arith, ap, refl, sym, ◌∙◌}
 use Rattle.std.proofs.lemmas.Grind.{common_steps}
 use Rattle.lrs_image.specs.KeeperCalls.{is_image}
 use Rattle.lrs_desk.specs.PlainKeeper.{PlainView}
-use Rattle.lrs_desk.proofs.Staged.{same_content}
+use Rattle.lrs_desk.proofs.PlainContents.{same_content}
 use Rattle.lrs_desk.proofs.plain.PlainKeeper.stage.Goals as goal
 
 pub returns-clause-ok : goal.returns-clause-ok
