@@ -29,8 +29,8 @@ const LENGTHS_SAID: &str =
 metres; length is what is held on either side, each millimetre once. Assets is
 how many assets hold some of it, so that signs are counted.
 
-With --by: each CLASS, which is empty where it has no value, then left, right
-and length, for each combination of values that is found on some side.
+With --by: each class, empty where it has no value, and left, right, length; one
+line for each combination of values that a millimetre has on some side.
 
 Examples: roadlrs lengths roads.db --route A1
           roadlrs lengths roads.db --by SPEED,SURFACE";
@@ -99,7 +99,7 @@ const AS_SURVEY: &str = "The sheet is a survey";
 
 const OF_SIDE: &str = "On this side, seen along the route: L or R; else on both";
 
-const BY: &str = "For each combination of the values of these exclusive classes";
+const BY: &str = "By combinations of values of these exclusive classes, a comma between two";
 
 const GAPS: &str = "Only where a class has no value";
 
@@ -289,7 +289,7 @@ static LENGTHS: JobLine = JobLine {
     parts: &[
         LinePart::Required("DB", DB),
         LinePart::Valued("route", "ROUTE", OF_ROUTE),
-        LinePart::Valued("by", "CLASS,CLASS", BY),
+        LinePart::Valued("by", "CLASSES", BY),
         LinePart::Switch("text", AS_TEXT),
         LinePart::Valued("columns", "NAMES", COLUMNS),
     ],
