@@ -11,6 +11,7 @@ use lrs_events::{ClassName, LinkSide};
 use lrs_machine::{
     AskedPlace, GoneWanted, Key, Listing, OverlayAsked, Question, RowForm, RowsAsked,
 };
+use lrs_measure::Rows;
 use lrs_measure::limits::{GREATEST_LINK, LONGEST_LINK, MOST_EDITS};
 use lrs_position::RouteName;
 use lrs_sheet_records::cut_at;
@@ -281,7 +282,10 @@ fn named_classes(alloc: Global, text: &[u8]) -> Result<Rows<ClassName>, Question
     'names: loop {
         let (name, behind) = cut_at(rest, b',');
         match class_in(name) {
-            Ok(class) => classes.push(class)?,
+            Ok(class) => match classes.push(class) {
+                Ok(()) => {}
+                Err(_) => return Err(QuestionFault::Memory),
+            },
             Err(fault) => return Err(fault),
         }
         match behind {
