@@ -135,10 +135,12 @@ module _ (columns leading later given : List Text) (name : Text) (whole : column
       ap (λ (cs : List Text). place_of cs name) whole ∙ place_behind leading later name (ap (λ (cs : List Text). place_of cs name) (sym same) ∙ none)
       ∙ ap (λ (cs : List Text). behind_by (length cs) (place_of later name)) (sym same)
 
-  pub later_found : (place sum : ℕ) → place_of given name ≡ None → place_of later name ≡ Some place → sum ≡ length given + place → place_of columns name ≡ Some sum
-  later_found place sum none found is = place_after none ∙ ap (behind_by (length given)) found ∙ ap Some (sym is)
+  pub later_found : (place : ℕ) (r : Result ℕ QuestionFault) → place_of given name ≡ None → place_of later name ≡ Some place → IfOk r (λ sum. sum ≡ length given + place)
+      → IfOk r (λ sum. place_of columns name ≡ Some sum)
+  later_found place (Ok sum) none found is = place_after none ∙ ap (behind_by (length given)) found ∙ ap Some (sym is)
+  later_found place (Err e) none found is = tt
 
-  pub later_none : place_of given name ≡ None → place_of later name ≡ None → place_of columns name ≡ None
+  later_none : place_of given name ≡ None → place_of later name ≡ None → place_of columns name ≡ None
   later_none none unread = place_after none ∙ ap (behind_by (length given)) unread
 
   pub later_unread : (e : QuestionFault) → place_of given name ≡ None → ((e ≡ Unreadable word.Columns) × (place_of later name ≡ None)) ⊎ (e ≡ Memory)

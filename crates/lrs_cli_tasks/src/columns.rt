@@ -47,7 +47,7 @@ fn listing_columns(listing: &Listing) -> &'static str
 /// them, and combinations of values before them; none where the answer is no list.
 pub fn first_columns(question: &Question) -> Option<&'static str>
     ensures some { IfSome result (λ names. columns_of question.now
-        ≡ leading_classes question.now ++ parts_of 44 names.now ++ class_columns question.now) }
+        ≡ leading_classes question.now ++ (parts_of 44 names.now ++ class_columns question.now)) }
     ensures none { IfNone result (columns_of question.now ≡ []) }
 {
     match question {
