@@ -43,7 +43,7 @@ declare -gA _roadlrs_options=(
     [diagram]="--from= --to="
     [check]="--survey"
     [tidy]="--survey"
-    [lengths]="--route= --text --columns="
+    [lengths]="--route= --by= --text --columns="
     [list]="--route= --exact --text --columns="
     [rows]="--route= --from= --to= --class= --asset= --exact --on-links --text --columns="
     [overlay]="--route= --side= --from= --to= --gaps --text --columns="

@@ -57,6 +57,7 @@ BAD = [
     (["log", "DB", "--key", "a b"], 'hint: "a b" is no key;'),
     (["log", "DB", "3", "--key", "k1"], 'hint: "3" is a second question beside --key;'),
     (["lengths", "DB", "--route", "a"], 'hint: "a" is no route name;'),
+    (["lengths", "DB", "--by", "SPEED,speed,x"], 'hint: "speed" is no class name;'),
     (["where", "DB", "A1", "1,5"], 'hint: "1,5" is no place;'),
     (["where", "DB", "A1", "1", "5"], 'hint: "A1" is not link;'),
     (["where", "DB", "link", "x", "5"], 'hint: "x" is no link number;'),

@@ -16,6 +16,7 @@ from stores import edit, make_full
 LISTS = [
     ["lengths"],
     ["lengths", "--route", "1-2"],
+    ["lengths", "--by", "1E5"],
     *(["list", what] for what in ("routes", "links", "classes", "refs", "marks", "pieces")),
     ["list", "refs", "--exact"],
     ["rows"],

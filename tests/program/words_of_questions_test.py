@@ -164,4 +164,4 @@ def test_help_names_each_command():
 def test_the_version_names_the_kit_that_proved_it():
     kit = re.search(r"Proved with the kit `([^`]+)`", (TOP / "README.md").read_text()).group(1)
     for word in ["--version", "-V"]:
-        ends(run(word), f"roadlrs 0.8.18, proved by {kit}\n".encode(), 0)
+        ends(run(word), f"roadlrs 0.8.19, proved by {kit}\n".encode(), 0)

@@ -47,8 +47,19 @@ fn unreadable_class<'a>(classes: &[&'a str]) -> Option<&'a str> {
     None
 }
 
+// The first of the names between commas that is no name of a class.
+fn unreadable_part(names: &str) -> Option<&str> {
+    for name in names.split(',') {
+        if ClassName::new(name.as_bytes()).is_none() {
+            return Some(name);
+        }
+    }
+    None
+}
+
 fn class_in<'a>(job: &Job<'a>) -> Option<&'a str> {
     match job {
+        Job::Lengths { by, .. } => unreadable_part((*by)?),
         Job::Strip { classes, .. } | Job::Diagram { classes, .. } | Job::Overlay { classes, .. } =>
             unreadable_class(classes.as_slice()),
         Job::Rows { class, .. } | Job::Gone { class, .. } => *class,

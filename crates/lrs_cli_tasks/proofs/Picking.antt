@@ -110,21 +110,43 @@ place_before [] ys name place found = absurd (true≢false (ap is_some (sym foun
 place_before (x ∷ xs) ys name place found = before_step (bytes_eq x name) x xs ys name place refl found (place_before xs ys name)
 
 -- the same where the place behind the first list is given, or none is
-module _ (columns first classes given : List Text) (name : Text) (count : ℕ) (whole : columns ≡ first ++ classes) (none : place_of first name ≡ None) (counted : count ≡ length first) (same : given ≡ classes) where
-  columns_behind : place_of columns name ≡ behind_by count (place_of given name)
-  columns_behind =
-      ap (λ (cs : List Text). place_of cs name) whole ∙ place_behind first classes name none ∙ ap (λ (n : ℕ). behind_by n (place_of classes name)) (sym counted)
-      ∙ ap (λ (cs : List Text). behind_by count (place_of cs name)) (sym same)
+module _ (first classes : List Text) (name : Text) (count : ℕ) (none : place_of first name ≡ None) (counted : count ≡ length first) where
+  place_counted : place_of (first ++ classes) name ≡ behind_by count (place_of classes name)
+  place_counted = place_behind first classes name none ∙ ap (λ (n : ℕ). behind_by n (place_of classes name)) (sym counted)
 
-  pub behind_found : (r : Result ℕ QuestionFault) → IfOk r (λ place. behind_by count (place_of given name) ≡ Some place) → IfOk r (λ place. place_of columns name ≡ Some place)
-  behind_found (Ok place) found = columns_behind ∙ found
+  pub behind_found : (r : Result ℕ QuestionFault) → IfOk r (λ place. behind_by count (place_of classes name) ≡ Some place) → IfOk r (λ place. place_of (first ++ classes) name ≡ Some place)
+  behind_found (Ok place) found = place_counted ∙ found
   behind_found (Err e) found = tt
 
-  pub behind_unread : (r : Result ℕ QuestionFault) → IfErr r (λ e. ((e ≡ Unreadable word.Columns) × (place_of given name ≡ None)) ⊎ (e ≡ Memory))
-      → IfErr r (λ e. ((e ≡ Unreadable word.Columns) × (place_of columns name ≡ None)) ⊎ (e ≡ Memory))
+  pub behind_unread : (r : Result ℕ QuestionFault) → IfErr r (λ e. ((e ≡ Unreadable word.Columns) × (place_of classes name ≡ None)) ⊎ (e ≡ Memory))
+      → IfErr r (λ e. ((e ≡ Unreadable word.Columns) × (place_of (first ++ classes) name ≡ None)) ⊎ (e ≡ Memory))
   behind_unread (Ok place) unread = tt
-  behind_unread (Err e) (inl h) = inl (h.0, columns_behind ∙ ap (behind_by count) h.1)
+  behind_unread (Err e) (inl h) = inl (h.0, place_counted ∙ ap (behind_by count) h.1)
   behind_unread (Err e) (inr h) = inr h
+
+-- classes that lead, and the columns behind them
+module _ (columns leading later given : List Text) (name : Text) (whole : columns ≡ leading ++ later) (same : given ≡ leading) where
+  pub leading_found : (place : ℕ) → place_of given name ≡ Some place → place_of columns name ≡ Some place
+  leading_found place found =
+      ap (λ (cs : List Text). place_of cs name) whole ∙ place_before leading later name place (ap (λ (cs : List Text). place_of cs name) (sym same) ∙ found)
+
+  place_after : place_of given name ≡ None → place_of columns name ≡ behind_by (length given) (place_of later name)
+  place_after none =
+      ap (λ (cs : List Text). place_of cs name) whole ∙ place_behind leading later name (ap (λ (cs : List Text). place_of cs name) (sym same) ∙ none)
+      ∙ ap (λ (cs : List Text). behind_by (length cs) (place_of later name)) (sym same)
+
+  pub later_found : (place : ℕ) (r : Result ℕ QuestionFault) → place_of given name ≡ None → place_of later name ≡ Some place → IfOk r (λ sum. sum ≡ length given + place)
+      → IfOk r (λ sum. place_of columns name ≡ Some sum)
+  later_found place (Ok sum) none found is = place_after none ∙ ap (behind_by (length given)) found ∙ ap Some (sym is)
+  later_found place (Err e) none found is = tt
+
+  later_none : place_of given name ≡ None → place_of later name ≡ None → place_of columns name ≡ None
+  later_none none unread = place_after none ∙ ap (behind_by (length given)) unread
+
+  pub later_unread : (e : QuestionFault) → place_of given name ≡ None → ((e ≡ Unreadable word.Columns) × (place_of later name ≡ None)) ⊎ (e ≡ Memory)
+      → ((e ≡ Unreadable word.Columns) × (place_of columns name ≡ None)) ⊎ (e ≡ Memory)
+  later_unread e none (inl h) = inl (h.0, later_none none h.1)
+  later_unread e none (inr h) = inr h
 
 -- ---- places that are apart
 

@@ -8,6 +8,7 @@ use Rattle.lrs_machine.specs.declared.question.Question.{Question}
 use Rattle.lrs_machine.specs.declared.question.Question.TheVariants as question
 use Rattle.lrs_machine.specs.Image.{nothing}
 use Rattle.lrs_machine.specs.Lines.{Text, fields}
+use Rattle.lrs_report_answers.specs.Combinations.{combinations_header}
 use Rattle.lrs_report_answers.specs.Overlay.{overlay_header}
 use Rattle.lrs_report_lists.specs.Length.Lines.{lengths_text}
 use Rattle.lrs_report_lists.specs.Lists.{rows_header}
@@ -21,6 +22,11 @@ use Rattle.lrs_cli_tasks.specs.Lines.{listing_text}
 abbrev pub names_in : Text → List Text
 names_in text = parts_of 44 (slice_index_or (parts_of 10 text) 0 [])
 
+-- the classes that combinations of values have for columns, before those that each such list has
+abbrev pub leading_classes : Question → List Name
+leading_classes (question.Combinations route classes) = classes
+leading_classes q = []
+
 -- the classes that an overlay has for columns, behind those that each overlay has
 abbrev pub class_columns : Question → List Name
 class_columns (question.Overlay asked) = asked.classes
@@ -30,6 +36,7 @@ class_columns q = []
 abbrev pub columns_of : Question → List Text
 columns_of (question.Rows asked) = names_in (rows_header asked.form)
 columns_of (question.Lengths route) = names_in (lengths_text [])
+columns_of (question.Combinations route classes) = classes ++ names_in (combinations_header [])
 columns_of (question.Overlay asked) = names_in (overlay_header []) ++ asked.classes
 columns_of (question.List l) = names_in (listing_text nothing l)
 columns_of q = []

@@ -23,6 +23,7 @@ use Rattle.lrs_sheet_records.specs.Words.{parts_of}
 use Rattle.lrs_report.specs.Drawings.Strips.{strip_text}
 use Rattle.lrs_report.specs.Drawings.Pictures.{diagram_text}
 use Rattle.lrs_report_answers.specs.Answers.{direction_text}
+use Rattle.lrs_report_answers.specs.Combinations.{combinations_text}
 use Rattle.lrs_report_answers.specs.Overlay.{overlay_text}
 use Rattle.lrs_report_answers.specs.declared.rows.FoundRow.{FoundRow}
 use Rattle.lrs_report_answers.specs.declared.hits.AtAnswer.{AtAnswer}
@@ -104,6 +105,7 @@ told_text (told.Totals totals) = totals_text totals
 told_text (told.Found rows) = found_text rows
 told_text (told.Where w) = whereabouts_text w
 told_text (told.Lengths lengths) = lengths_text lengths
+told_text (told.Combinations classes combinations) = combinations_text classes combinations
 told_text (told.Rows wanted inventory) = rows_text wanted inventory.now
 told_text (told.Overlay wanted inventory) = overlay_text wanted inventory.now
 told_text (told.Listing l inventory) = listing_text inventory.now l

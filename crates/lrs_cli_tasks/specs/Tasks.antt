@@ -26,7 +26,7 @@ inventory_of (job.Translate db route method position to) = Some db.now
 inventory_of (job.Strip db route side classes) = Some db.now
 inventory_of (job.Diagram db route classes from to) = Some db.now
 inventory_of (job.Totals db) = Some db.now
-inventory_of (job.Lengths db route text columns) = Some db.now
+inventory_of (job.Lengths db route by text columns) = Some db.now
 inventory_of (job.Find db asset) = Some db.now
 inventory_of (job.Route db route) = Some db.now
 inventory_of (job.Ask db questions) = Some db.now
@@ -48,7 +48,7 @@ kind_of false = Edits
 
 -- each cell of what the job lists is written as text
 abbrev pub has_text_cells : Job → Bool
-has_text_cells (job.Lengths db route text columns) = text
+has_text_cells (job.Lengths db route by text columns) = text
 has_text_cells (job.List db what route exact text columns) = text
 has_text_cells (job.Rows db route from to class asset exact on_links text columns) = text
 has_text_cells (job.Overlay db classes route side from to gaps text columns) = text
@@ -59,7 +59,7 @@ has_text_cells _ = false
 
 -- the text that names the columns of what the job lists
 abbrev pub columns_given : Job → Option Text
-columns_given (job.Lengths db route text columns) = option_map (λ w. w.now) columns
+columns_given (job.Lengths db route by text columns) = option_map (λ w. w.now) columns
 columns_given (job.List db what route exact text columns) = option_map (λ w. w.now) columns
 columns_given (job.Rows db route from to class asset exact on_links text columns) = option_map (λ w. w.now) columns
 columns_given (job.Overlay db classes route side from to gaps text columns) = option_map (λ w. w.now) columns

@@ -6,7 +6,7 @@ ghost use Rattle.lrs_report_lists.specs.Lists.{rows_header};
 ghost use Rattle.lrs_sheet_records.specs.Words.{parts_of};
 ghost use Rattle.lrs_cli_words.specs.declared.question.BadWord.TheVariants as word;
 ghost use Rattle.lrs_cli_words.specs.declared.question.QuestionFault.TheVariants.{Unreadable, Memory};
-ghost use Rattle.lrs_cli_tasks.specs.Columns.{ArePicked, ArePlaces, CannotPick, CannotPlace, class_columns, columns_of, is_among, names_in, place_of};
+ghost use Rattle.lrs_cli_tasks.specs.Columns.{ArePicked, ArePlaces, CannotPick, CannotPlace, class_columns, columns_of, is_among, leading_classes, names_in, place_of};
 ghost use Rattle.lrs_cli_tasks.specs.Lines.{listing_text};
 
 use lrs_cli_words::{BadWord, QuestionFault};
@@ -44,15 +44,16 @@ fn listing_columns(listing: &Listing) -> &'static str
 }
 
 /// The columns of the list that answers a question, with a comma between two, but for the classes that an overlay has behind
-/// them; none where the answer is no list.
+/// them, and combinations of values before them; none where the answer is no list.
 pub fn first_columns(question: &Question) -> Option<&'static str>
     ensures some { IfSome result (λ names. columns_of question.now
-        ≡ parts_of 44 names.now ++ class_columns question.now) }
+        ≡ leading_classes question.now ++ (parts_of 44 names.now ++ class_columns question.now)) }
     ensures none { IfNone result (columns_of question.now ≡ []) }
 {
     match question {
         Question::Rows(asked) => Some(row_columns(asked.form)),
         Question::Lengths(_) => Some("class,value,left,right,length,assets"),
+        Question::Combinations { .. } => Some("left,right,length"),
         Question::Overlay(_) => Some("route,from,to,from_measure,to_measure,side"),
         Question::List(listing) => Some(listing_columns(listing)),
         Question::At { .. }
@@ -88,6 +89,16 @@ fn place_among(names: &[u8], name: &[u8]) -> Result<usize, usize>
     }
 }
 
+/// The classes that combinations of values have for columns.
+fn leading_classes(question: &Question) -> &[ClassName]
+    ensures { result.now ≡ leading_classes question.now }
+{
+    match question {
+        Question::Combinations { classes, .. } => classes.as_slice(),
+        _ => &[],
+    }
+}
+
 /// The classes that an overlay has for columns.
 fn class_columns(question: &Question) -> &[ClassName]
     ensures { result.now ≡ class_columns question.now }
@@ -109,6 +120,15 @@ fn class_place(classes: &[ClassName], name: &[u8]) -> Option<usize>
     None
 }
 
+/// A place behind so many columns.
+fn place_after(count: usize, place: usize) -> Result<usize, QuestionFault>
+    ensures found { IfOk result (λ sum. sum ≡ count + place) }
+    ensures memory { IfErr result (λ e. e ≡ Memory) }
+{
+    // no memory has room for more columns
+    count.checked_add(place).ok_or(QuestionFault::Memory)
+}
+
 /// The place of a class behind so many columns.
 fn place_behind(count: usize, classes: &[ClassName], name: &[u8]) -> Result<usize, QuestionFault>
     ensures found { IfOk result (λ place. option_map (λ k. count + k) (place_of classes.now name.now)
@@ -117,9 +137,21 @@ fn place_behind(count: usize, classes: &[ClassName], name: &[u8]) -> Result<usiz
         × (place_of classes.now name.now ≡ None)) ⊎ (e ≡ Memory)) }
 {
     match class_place(classes, name) {
-        // no memory has room for more classes
-        Some(place) => count.checked_add(place).ok_or(QuestionFault::Memory),
+        Some(place) => place_after(count, place),
         None => Err(QuestionFault::Unreadable(BadWord::Columns)),
+    }
+}
+
+/// The place of a column among names with a comma between two, and the classes behind them.
+fn later_place(names: &[u8], classes: &[ClassName], name: &[u8]) -> Result<usize, QuestionFault>
+    ensures found { IfOk result (λ place. place_of (parts_of 44 names.now ++ classes.now) name.now
+        ≡ Some place) }
+    ensures unread { IfErr result (λ e. ((e ≡ Unreadable word.Columns)
+        × (place_of (parts_of 44 names.now ++ classes.now) name.now ≡ None)) ⊎ (e ≡ Memory)) }
+{
+    match place_among(names, name) {
+        Ok(place) => Ok(place),
+        Err(count) => place_behind(count, classes, name),
     }
 }
 
@@ -133,9 +165,13 @@ fn column_place(question: &Question, name: &[u8]) -> Result<usize, QuestionFault
     let Some(first) = first_columns(question) else {
         return Err(QuestionFault::Unreadable(BadWord::Columns));
     };
-    match place_among(first.as_bytes(), name) {
-        Ok(place) => Ok(place),
-        Err(count) => place_behind(count, class_columns(question), name),
+    let leading = leading_classes(question);
+    match class_place(leading, name) {
+        Some(place) => Ok(place),
+        None => match later_place(first.as_bytes(), class_columns(question), name) {
+            Ok(place) => place_after(leading.len(), place),
+            Err(fault) => Err(fault),
+        },
     }
 }
 

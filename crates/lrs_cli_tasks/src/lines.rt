@@ -13,7 +13,9 @@ use lrs_machine::{Hit, Listing, OverlayWanted, RowsWanted, Total};
 use lrs_measure::Frac;
 use lrs_position::{Expr, RouteName};
 use lrs_report::{strip_of, write_diagram};
-use lrs_report_answers::{AtAnswer, FoundRow, Told, Whereabouts, write_overlay};
+use lrs_report_answers::{
+    AtAnswer, FoundRow, Told, Whereabouts, write_combinations, write_overlay,
+};
 use lrs_report_lists::{
     write_classes, write_gone, write_history, write_lengths, write_links, write_marks,
     write_pieces, write_refs, write_routes, write_rows,
@@ -261,6 +263,10 @@ pub(crate) fn write_told<W: Write>(alloc: Global, writer: &mut W, told: Told<'_>
         Told::Found(rows) => write_found(writer, rows.as_slice()),
         Told::Where(found) => write_whereabouts(writer, &found),
         Told::Lengths(rows) => write_lengths(writer, rows.as_slice()),
+        Told::Combinations {
+            classes,
+            combinations,
+        } => write_combinations(writer, classes.as_slice(), combinations.as_slice()),
         Told::Rows { wanted, inventory } => write_wanted(alloc, writer, inventory, &wanted),
         Told::Overlay { wanted, inventory } => write_segments(alloc, writer, inventory, &wanted),
         Told::Listing { listing, inventory } => write_listing(writer, inventory, &listing),

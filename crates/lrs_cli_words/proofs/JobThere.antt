@@ -128,6 +128,9 @@ side_fills = option_fills (codes "side") refl
 columns_fills : Fills (option_at (codes "columns"))
 columns_fills = option_fills (codes "columns") refl
 
+by_fills : Fills (option_at (codes "by"))
+by_fills = option_fills (codes "by") refl
+
 gaps_fills : Fills (flag_at (codes "gaps"))
 gaps_fills = flag_fills (codes "gaps")
 
@@ -174,7 +177,7 @@ overlay_options =
     option_at (codes "route") ∷ option_at (codes "side") ∷ option_at (codes "from") ∷ option_at (codes "to") ∷ flag_at (codes "gaps") ∷ flag_at (codes "text") ∷ option_at (codes "columns") ∷ []
 
 abbrev length_options : List Rule
-length_options = option_at (codes "route") ∷ flag_at (codes "text") ∷ option_at (codes "columns") ∷ []
+length_options = option_at (codes "route") ∷ option_at (codes "by") ∷ flag_at (codes "text") ∷ option_at (codes "columns") ∷ []
 
 abbrev history_options : List Rule
 history_options = flag_at (codes "text") ∷ option_at (codes "columns") ∷ []
@@ -218,7 +221,7 @@ has_flags job.Diagram = record {
 }
 has_flags job.Totals = record { long = without_options job.Totals help_fills; short = short_help (rules_at job.Totals) help_fills }
 has_flags job.Lengths = record {
-  long = long_among (rules_at job.Lengths) length_options (route_fills, route_fills, (text_fills, text_fills, (columns_fills, columns_fills, tt))) help_fills;
+  long = long_among (rules_at job.Lengths) length_options (route_fills, route_fills, (by_fills, by_fills, (text_fills, text_fills, (columns_fills, columns_fills, tt)))) help_fills;
   short = short_help (rules_at job.Lengths) help_fills;
 }
 has_flags job.Find = record { long = without_options job.Find help_fills; short = short_help (rules_at job.Find) help_fills }

@@ -1,3 +1,4 @@
+pub mod ClassesNamed
 pub mod ClassesRead
 pub mod CommandLine
 pub mod Folded

@@ -17,6 +17,7 @@ use Rattle.lrs_cli_words.specs.declared.job.Job.TheVariants as job
 use Rattle.lrs_cli_words.specs.declared.question.BadWord.{BadWord}
 use Rattle.lrs_cli_words.specs.declared.question.BadWord.TheVariants as word
 use Rattle.lrs_machine.specs.Keys.{is_key}
+use Rattle.lrs_sheet_records.specs.Words.{AreSaid, parts_of}
 use Rattle.lrs_machine.specs.declared.question.Destination.{Destination}
 use Rattle.lrs_machine.specs.declared.question.Destination.TheVariants as destination
 use Rattle.lrs_machine.specs.declared.question.Listing.{Listing}
@@ -63,6 +64,10 @@ SaysLinkSide text Right = text ≡ codes "R"
 
 abbrev pub SaysClass : Text → Name → Type 0
 SaysClass text class = (class ≡ text) × IsTrue (is_class_name text)
+
+-- the classes that a text names, with a comma between two: a text has one part at least
+abbrev pub SaysClasses : Text → List Name → Type 0
+SaysClasses text classes = AreSaid SaysClass (parts_of 44 text) classes
 
 -- digits of a number between these bounds
 pub record SaysNumber (least greatest : ℕ) (text : Text) (number : ℕ) : Type 0 where
@@ -233,6 +238,12 @@ AsksLog from until None (listing.Log n last) = SaysFirst from n × SaysIfGiven S
 AsksLog None None (Some key) (listing.LogOfKey k) = SaysKey key k
 AsksLog from until key l = ⊥
 
+-- how long each value of each class is; or, where classes are named, each combination of their values
+abbrev pub AsksLengths : Option Text → Option Text → Question → Type 0
+AsksLengths route None (question.Lengths name) = SaysIfGiven SaysRoute route name
+AsksLengths route (Some by) (question.Combinations name classes) = SaysIfGiven SaysRoute route name × SaysClasses by classes
+AsksLengths route by q = ⊥
+
 -- the question is what the job's words say
 abbrev pub Asks : Job → Question → Type 0
 Asks (job.At db route method position) q = AsksAt route.now method.now position.now q
@@ -243,7 +254,7 @@ Asks (job.Totals db) question.Totals = ⊤
 Asks (job.Find db asset) (question.Find n) = SaysAsset asset.now n
 Asks (job.Route db route) (question.Route name) = SaysRoute route.now name
 Asks (job.Where db route place mm) (question.Where spot) = IsPlace route.now place.now (option_map (λ w. w.now) mm) spot
-Asks (job.Lengths db route text columns) (question.Lengths name) = SaysIfGiven SaysRoute (option_map (λ w. w.now) route) name
+Asks (job.Lengths db route by text columns) q = AsksLengths (option_map (λ w. w.now) route) (option_map (λ w. w.now) by) q
 Asks (job.List db what route exact text columns) (question.List l) = SaysList what.now (option_map (λ w. w.now) route) exact l
 Asks (job.Rows db route from to class asset exact on_links text columns) (question.Rows asked) =
     AreAsked (option_map (λ w. w.now) route) (option_map (λ w. w.now) from) (option_map (λ w. w.now) to) (option_map (λ w. w.now) class) (option_map (λ w. w.now) asset) asked
@@ -321,6 +332,14 @@ abbrev pub CannotWhere : Text → Text → Option Text → QuestionFault → Typ
 CannotWhere route place None fault = CannotPlace route place fault
 CannotWhere route place (Some mm) fault = ((fault ≡ Unreadable word.NotLink) × (route ≡ codes "link" → ⊥)) ⊎ CannotLink place mm fault
 
+-- one of the classes that a text names, or lack of memory for them
+abbrev pub CannotClasses : Text → QuestionFault → Type 0
+CannotClasses text fault = (fault ≡ Memory) ⊎ CannotClass (parts_of 44 text) fault
+
+-- the route of lengths, or the classes by which they are told
+abbrev pub CannotLengths : Option Text → Option Text → QuestionFault → Type 0
+CannotLengths route by fault = CannotIfGiven word.Route SaysRoute route fault ⊎ IsSomeAnd by (λ t. CannotClasses t fault)
+
 -- a route is named that a list cannot be narrowed to
 abbrev pub IsMisplacedRoute : Option Text → QuestionFault → Type 0
 IsMisplacedRoute route fault = (fault ≡ Unreadable word.RouteOfList) × (is_some route ≡ true)
@@ -381,7 +400,7 @@ IsFaultOf (job.Diagram db route classes from to) fault = CannotDiagram route.now
 IsFaultOf (job.Find db asset) fault = Cannot word.Asset (SaysAsset asset.now) fault
 IsFaultOf (job.Route db route) fault = Cannot word.Route (SaysRoute route.now) fault
 IsFaultOf (job.Where db route place mm) fault = CannotWhere route.now place.now (option_map (λ w. w.now) mm) fault
-IsFaultOf (job.Lengths db route text columns) fault = CannotIfGiven word.Route SaysRoute (option_map (λ w. w.now) route) fault
+IsFaultOf (job.Lengths db route by text columns) fault = CannotLengths (option_map (λ w. w.now) route) (option_map (λ w. w.now) by) fault
 IsFaultOf (job.List db what route exact text columns) fault = CannotList what.now (option_map (λ w. w.now) route) exact fault
 IsFaultOf (job.Rows db route from to class asset exact on_links text columns) fault =
     CannotForm exact on_links fault

@@ -88,7 +88,7 @@ rules_of job.Audit = required (codes "DB") ∷ []
 rules_of job.Serve = required (codes "DB") ∷ required (codes "PORT") ∷ required (codes "MAX") ∷ []
 rules_of job.Page = required (codes "DIR") ∷ []
 
--- what may be left out: those jobs that may make a file have `--sums`, those that do a sheet also `--resume`, `--all` and `--whole`, a service also `--log`, `--end-on-fault`, `--most-reply` and `--page`, a check and a tidying say of which kind their sheet is, a place on a link has its millimetre, a diagram has its classes and its ends, a list may be narrowed, told in another form, and has `--text` and `--columns`, an overlay may be of gaps alone, and a log has its end and its sum
+-- what may be left out: those jobs that may make a file have `--sums`, those that do a sheet also `--resume`, `--all` and `--whole`, a service also `--log`, `--end-on-fault`, `--most-reply` and `--page`, a check and a tidying say of which kind their sheet is, a place on a link has its millimetre, a diagram has its classes and its ends, a list may be narrowed, told in another form, and has `--text` and `--columns`, lengths have classes by which they are told, an overlay may be of gaps alone, and a log has its end and its sum
 abbrev pub options_of : JobName → List Rule
 options_of job.Edit = flag (codes "sums") ∷ flag (codes "resume") ∷ flag (codes "all") ∷ flag (codes "whole") ∷ []
 options_of job.Survey = flag (codes "sums") ∷ flag (codes "resume") ∷ flag (codes "all") ∷ flag (codes "whole") ∷ []
@@ -96,7 +96,7 @@ options_of job.Check = flag (codes "survey") ∷ []
 options_of job.Tidy = flag (codes "survey") ∷ []
 options_of job.Serve = flag (codes "sums") ∷ flag (codes "log") ∷ flag (codes "end-on-fault") ∷ option (codes "most-reply") ∷ flag (codes "page") ∷ []
 options_of job.Where = optional (codes "MM") ∷ []
-options_of job.Lengths = option (codes "route") ∷ flag (codes "text") ∷ option (codes "columns") ∷ []
+options_of job.Lengths = option (codes "route") ∷ option (codes "by") ∷ flag (codes "text") ∷ option (codes "columns") ∷ []
 options_of job.List = option (codes "route") ∷ flag (codes "exact") ∷ flag (codes "text") ∷ option (codes "columns") ∷ []
 options_of job.Diagram = any (codes "CLASS") ∷ option (codes "from") ∷ option (codes "to") ∷ []
 options_of job.Rows =
@@ -147,7 +147,7 @@ job_name (Translate db route method position to) = job.Translate
 job_name (Strip db route side classes) = job.Strip
 job_name (Diagram db route classes from to) = job.Diagram
 job_name (Totals db) = job.Totals
-job_name (Lengths db route text columns) = job.Lengths
+job_name (Lengths db route by text columns) = job.Lengths
 job_name (Find db asset) = job.Find
 job_name (Route db route) = job.Route
 job_name (Ask db questions) = job.Ask
@@ -174,7 +174,7 @@ words_of (Translate db route method position to) =
 words_of (Strip db route side classes) = (codes "DB", db.now) ∷ (codes "ROUTE", route.now) ∷ (codes "SIDE", side.now) ∷ []
 words_of (Diagram db route classes from to) = (codes "DB", db.now) ∷ (codes "ROUTE", route.now) ∷ []
 words_of (Totals db) = (codes "DB", db.now) ∷ []
-words_of (Lengths db route text columns) = (codes "DB", db.now) ∷ []
+words_of (Lengths db route by text columns) = (codes "DB", db.now) ∷ []
 words_of (Find db asset) = (codes "DB", db.now) ∷ (codes "ASSET", asset.now) ∷ []
 words_of (Route db route) = (codes "DB", db.now) ∷ (codes "ROUTE", route.now) ∷ []
 words_of (Ask db questions) = (codes "DB", db.now) ∷ (codes "QUESTIONS", questions.now) ∷ []
@@ -199,7 +199,7 @@ HasClasses _ rows = ⊤
 abbrev pub IsValue : Text → List Row → Option Text → Type 0
 IsValue id rows word = first_of id rows ≡ word
 
--- the ends of a diagram, the millimetre of a link, what narrows a list, its columns, and the length of replies, are the values that were given
+-- the ends of a diagram, the millimetre of a link, what narrows a list, the classes of lengths, columns, and the length of replies, are the values that were given
 abbrev pub HasValues : Job → List Row → Type 0
 HasValues (Diagram db route classes from to) rows =
     IsValue (codes "from") rows (option_map (λ w. w.now) from) × IsValue (codes "to") rows (option_map (λ w. w.now) to)
@@ -212,7 +212,9 @@ HasValues (Overlay db classes route side from to gaps text columns) rows =
     × IsValue (codes "from") rows (option_map (λ w. w.now) from) × IsValue (codes "to") rows (option_map (λ w. w.now) to)
     × IsValue (codes "columns") rows (option_map (λ w. w.now) columns)
 HasValues (Where db route place mm) rows = IsValue (codes "MM") rows (option_map (λ w. w.now) mm)
-HasValues (Lengths db route text columns) rows = IsValue (codes "route") rows (option_map (λ w. w.now) route) × IsValue (codes "columns") rows (option_map (λ w. w.now) columns)
+HasValues (Lengths db route by text columns) rows =
+    IsValue (codes "route") rows (option_map (λ w. w.now) route) × IsValue (codes "by") rows (option_map (λ w. w.now) by)
+    × IsValue (codes "columns") rows (option_map (λ w. w.now) columns)
 HasValues (Listing db what route exact text columns) rows = IsValue (codes "route") rows (option_map (λ w. w.now) route) × IsValue (codes "columns") rows (option_map (λ w. w.now) columns)
 HasValues (Gone db edit class since until text columns) rows =
     IsValue (codes "edit") rows (option_map (λ w. w.now) edit) × IsValue (codes "class") rows (option_map (λ w. w.now) class)
@@ -256,7 +258,7 @@ HasWhole _ rows = ⊤
 
 -- each cell of a list is written as text exactly where `--text` was given
 abbrev pub HasText : Job → List Row → Type 0
-HasText (Lengths db route text columns) rows = IsTrue text ↔ IsSet (codes "text") rows
+HasText (Lengths db route by text columns) rows = IsTrue text ↔ IsSet (codes "text") rows
 HasText (Listing db what route exact text columns) rows = IsTrue text ↔ IsSet (codes "text") rows
 HasText (Rows db route from to class asset exact on_links text columns) rows = IsTrue text ↔ IsSet (codes "text") rows
 HasText (Overlay db classes route side from to gaps text columns) rows = IsTrue text ↔ IsSet (codes "text") rows

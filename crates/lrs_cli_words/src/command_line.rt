@@ -12,7 +12,7 @@ use clap::Command;
 use std::alloc::{AllocError, Global};
 
 /// The version of the program, and the kit that proved it.
-static VERSION: &str = "0.8.18, proved by rattle-kit-13f logic dac8208d650f15bf";
+static VERSION: &str = "0.8.19, proved by rattle-kit-13f logic dac8208d650f15bf";
 
 // What help says of the words.
 const DB: &str = "The inventory's file, or :memory: for a fresh one in memory";
@@ -29,7 +29,11 @@ const LENGTHS_SAID: &str =
 metres; length is what is held on either side, each millimetre once. Assets is
 how many assets hold some of it, so that signs are counted.
 
-Example: roadlrs lengths roads.db --route A1";
+With --by: each class, empty where it has no value, and left, right, length; one
+line for each combination of values that a millimetre has on some side.
+
+Examples: roadlrs lengths roads.db --route A1
+          roadlrs lengths roads.db --by SPEED,SURFACE";
 
 const ROWS_SAID: &str = "Rows come in the order of the road: by route, from, side, class and asset.
 
@@ -94,6 +98,8 @@ const COLUMNS: &str = "Only these columns, in this order: names of the header, a
 const AS_SURVEY: &str = "The sheet is a survey";
 
 const OF_SIDE: &str = "On this side, seen along the route: L or R; else on both";
+
+const BY: &str = "By combinations of values of these exclusive classes, a comma between two";
 
 const GAPS: &str = "Only where a class has no value";
 
@@ -283,6 +289,7 @@ static LENGTHS: JobLine = JobLine {
     parts: &[
         LinePart::Required("DB", DB),
         LinePart::Valued("route", "ROUTE", OF_ROUTE),
+        LinePart::Valued("by", "CLASSES", BY),
         LinePart::Switch("text", AS_TEXT),
         LinePart::Valued("columns", "NAMES", COLUMNS),
     ],

@@ -109,10 +109,12 @@ pub enum Job<'a> {
     Totals {
         db: &'a str,
     },
-    /// Says how long each value of each class is, on a route where it is given.
+    /// Says how long each value of each class is, on a route where it is given; or with `by` each combination of the
+    /// values of the classes that it names.
     Lengths {
         db: &'a str,
         route: Option<&'a str>,
+        by: Option<&'a str>,
         text: bool,
         columns: Option<&'a str>,
     },

@@ -1,15 +1,20 @@
 //! Places, and listings, as words say them.
 
 ghost use Rattle.std.specs.Prelude.{◌≡◌, ◌⊎◌, IfOk, IfErr, None, false, map, option_map};
-ghost use Rattle.lrs_cli_words.specs.Questions.{AreAsked, AreGoneAsked, AsksLog, Cannot, CannotForm, CannotGone, CannotIfGiven, CannotLink, CannotList, CannotLog, CannotOverlay, CannotPlace, CannotRows, CannotSum, CannotWhere, IsForm, IsMisplacedExact, IsMisplacedRoute, IsOnLink, IsOnRoute, IsOverlayAsked, IsPlace, SaysAsset, SaysClass, SaysEdit, SaysFirst, SaysIfGiven, SaysKey, SaysLink, SaysLinkSide, SaysList, SaysRoute, SaysSummed};
+ghost use Rattle.lrs_cli_words.specs.Questions.{AreAsked, AreGoneAsked, AsksLengths, AsksLog, Cannot, CannotClasses, CannotForm, CannotGone, CannotIfGiven, CannotLengths, CannotLink, CannotList, CannotLog, CannotOverlay, CannotPlace, CannotRows, CannotSum, CannotWhere, IsForm, IsMisplacedExact, IsMisplacedRoute, IsOnLink, IsOnRoute, IsOverlayAsked, IsPlace, SaysAsset, SaysClass, SaysClasses, SaysEdit, SaysFirst, SaysIfGiven, SaysKey, SaysLink, SaysLinkSide, SaysList, SaysRoute, SaysSummed};
 
 use crate::question::{
-    BadWord, QuestionFault, asset_of, class_of, classes_of, end_of, number_of, place_in, route_of,
+    BadWord, QuestionFault, asset_of, class_in, class_of, classes_of, end_of, number_of, place_in,
+    route_of,
 };
 use lrs_events::{ClassName, LinkSide};
-use lrs_machine::{AskedPlace, GoneWanted, Key, Listing, OverlayAsked, RowForm, RowsAsked};
+use lrs_machine::{
+    AskedPlace, GoneWanted, Key, Listing, OverlayAsked, Question, RowForm, RowsAsked,
+};
+use lrs_measure::Rows;
 use lrs_measure::limits::{GREATEST_LINK, LONGEST_LINK, MOST_EDITS};
 use lrs_position::RouteName;
+use lrs_sheet_records::cut_at;
 use std::alloc::Global;
 
 /// No measures are listed here that could be exact.
@@ -265,6 +270,50 @@ pub(crate) fn overlay_of(
         to,
         gaps,
     })
+}
+
+/// The classes that a text names, with a comma between two.
+fn named_classes(alloc: Global, text: &[u8]) -> Result<Rows<ClassName>, QuestionFault>
+    ensures read { IfOk result (SaysClasses text.now) }
+    ensures unread { IfErr result (CannotClasses text.now) }
+{
+    let mut classes = Vec::new(alloc);
+    let mut rest = text;
+    'names: loop {
+        let (name, behind) = cut_at(rest, b',');
+        match class_in(name) {
+            Ok(class) => match classes.push(class) {
+                Ok(()) => {}
+                Err(_) => return Err(QuestionFault::Memory),
+            },
+            Err(fault) => return Err(fault),
+        }
+        match behind {
+            Some(more) => rest = more,
+            None => return Ok(Rows::from_vec(classes)),
+        }
+    }
+}
+
+/// The question for the lengths of values; or for those of the combinations of values, where a text names the classes.
+pub(crate) fn lengths_of(
+    alloc: Global,
+    route: Option<&str>,
+    by: Option<&str>,
+) -> Result<Question, QuestionFault>
+    ensures read { IfOk result (AsksLengths (option_map (λ t. t.now) route.entry)
+        (option_map (λ t. t.now) by.entry)) }
+    ensures unread { IfErr result (CannotLengths (option_map (λ t. t.now) route.entry)
+        (option_map (λ t. t.now) by.entry)) }
+{
+    let route = route_if_given(route)?;
+    match by {
+        Some(by) => {
+            let classes = named_classes(alloc, by.as_bytes())?;
+            Ok(Question::Combinations { route, classes })
+        }
+        None => Ok(Question::Lengths(route)),
+    }
 }
 
 pub(crate) fn gone_of(

@@ -6,9 +6,7 @@ ghost use Rattle.lrs_machine.specs.PlaceTexts.{SaysPlace};
 ghost use Rattle.lrs_cli_words.specs.Questions.{Asks, AsksAt, AsksDiagram, AsksNothing, AsksStrip, AsksTranslate, Cannot, CannotAt, CannotClass, CannotDiagram, CannotEnd, CannotPosition, CannotIfGiven, CannotServe, CannotStrip, CannotTranslate, IsFaultOf, SaysAsset, SaysClass, SaysDestination, SaysEnd, SaysMethod, SaysMost, SaysMostReply, SaysNumber, SaysReplyLength, SaysPort, SaysPosition, SaysRoute, SaysService, SaysSide};
 
 use crate::job::Job;
-use crate::lists::{
-    form_of, gone_of, list_of, log_of, overlay_of, place_of, route_if_given, rows_of,
-};
+use crate::lists::{form_of, gone_of, lengths_of, list_of, log_of, overlay_of, place_of, rows_of};
 use lrs_events::{ClassName, Side, read_side};
 use lrs_machine::{Destination, Listing, Place, Question, read_place};
 use lrs_measure::limits::GREATEST_ASSET;
@@ -211,14 +209,21 @@ fn side_of(text: &str) -> Result<Side, QuestionFault>
     }
 }
 
+pub(crate) fn class_in(text: &[u8]) -> Result<ClassName, QuestionFault>
+    ensures read { IfOk result (SaysClass text.now) }
+    ensures unread { IfErr result (Cannot BadWord.Class (SaysClass text.now)) }
+{
+    match ClassName::new(text) {
+        Some(class) => Ok(class),
+        None => Err(QuestionFault::Unreadable(BadWord::Class)),
+    }
+}
+
 pub(crate) fn class_of(text: &str) -> Result<ClassName, QuestionFault>
     ensures read { IfOk result (SaysClass text.now) }
     ensures unread { IfErr result (Cannot BadWord.Class (SaysClass text.now)) }
 {
-    match ClassName::new(text.as_bytes()) {
-        Some(class) => Ok(class),
-        None => Err(QuestionFault::Unreadable(BadWord::Class)),
-    }
+    class_in(text.as_bytes())
 }
 
 pub(crate) fn classes_of(alloc: Global, texts: &[&str]) -> Result<Rows<ClassName>, QuestionFault>
@@ -467,7 +472,7 @@ pub fn question_of(alloc: Global, job: &Job<'_>) -> Result<Option<Question>, Que
             ..
         } => diagram_of(alloc, route, classes.as_slice(), *from, *to)?,
         Job::Totals { .. } => Question::Totals,
-        Job::Lengths { route, .. } => Question::Lengths(route_if_given(*route)?),
+        Job::Lengths { route, by, .. } => lengths_of(alloc, *route, *by)?,
         Job::Find { asset, .. } => Question::Find {
             asset: asset_of(asset)?,
         },

@@ -290,11 +290,13 @@ fn lengths_job<'a>(given: &ArgMatches<'a>) -> Job<'a>
 {
     let db = given_word(given, "DB");
     let route = word_in(given, "route");
+    let by = word_in(given, "by");
     let text = is_set(given, "text");
     let columns = word_in(given, "columns");
     Job::Lengths {
         db,
         route,
+        by,
         text,
         columns,
     }
