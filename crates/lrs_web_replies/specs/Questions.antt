@@ -1,6 +1,6 @@
 -- What the parameters of a query ask of an inventory.
-use Rattle.std.specs.Prelude.{◌≡◌, ⊤, ◌⊎◌, ℕ, ◌≤◌, IsTrue, Bool, true, false, if◌then◌else◌, List, [], ◌∷◌, bytes_eq, codes, map, Option, None, Some}
-use Rattle.std.specs.List.{list_all, list_any}
+use Rattle.std.specs.Prelude.{◌≡◌, ⊤, ◌⊎◌, ℕ, ◌≤◌, IsTrue, Bool, true, false, if◌then◌else◌, List, [], ◌∷◌, codes, map, Option, None, Some}
+use Rattle.std.specs.List.{list_all}
 use Rattle.std.specs.Option.{option_map_or}
 use Rattle.std.specs.Str.Parse.{IsNumeral, digits_value}
 use Rattle.lrs_measure.specs.Limits.{greatest_asset, greatest_link, longest_link, most_edits}
@@ -22,7 +22,7 @@ use Rattle.lrs_machine.specs.declared.question.RowsAsked.{RowsAsked}
 use Rattle.lrs_machine.specs.declared.question.AskedPlace.{AskedPlace}
 use Rattle.lrs_machine.specs.declared.question.AskedPlace.TheVariants as spot
 use Rattle.lrs_report_lists.specs.Lines.{link_side_text}
-use Rattle.lrs_web_requests.specs.Query.{parameter, parameters, switched, unknown_name}
+use Rattle.lrs_web_requests.specs.Query.{parameter, parameters, switched}
 use Rattle.lrs_web_requests.specs.declared.paths.Resource.{Resource}
 use Rattle.lrs_web_requests.specs.declared.paths.Resource.TheVariants as path
 use Rattle.lrs_machine.specs.declared.question.Destination.{Destination}
@@ -347,13 +347,10 @@ CannotAsk resource argument Memory = ⊤
 
 -- ---- what is not known
 
--- the names of the parameters that a path knows; of a place, those of either way
+-- the names of the parameters by which a path is asked; of a place, those of either way
 abbrev pub known_names : Resource → List Text
 known_names path.Where = map parameter_text (Route ∷ Chainage ∷ OnLink ∷ Millimetre ∷ [])
 known_names resource = map parameter_text (parameters_of resource [])
-
-abbrev pub is_known : Resource → Text → Bool
-is_known resource name = list_any (λ known. bytes_eq name known) (known_names resource)
 
 -- whether a path passes over parameters that it does not know
 abbrev pub passes_over : Resource → Bool
@@ -367,7 +364,3 @@ passes_over path.Edits = true
 passes_over path.Surveys = true
 passes_over path.Questions = true
 passes_over _ = false
-
--- the first parameter of a query that its path does not know, where it does not pass over it
-abbrev pub unknown_in : Resource → Text → Option Text
-unknown_in resource argument = if passes_over resource then None else unknown_name (is_known resource) argument
