@@ -1,6 +1,6 @@
 -- The text of a list of which a page is told, as its items are added.
 use Rattle.std.proofs.Common.{◌≡◌, ℕ, zero, suc, ◌+◌, ◌<◌, Bool, true, false, cond, Option, Some, None, List, [], ◌∷◌, ◌++◌, length, map, filter, take, get_or, append_assoc, append-nil, refl, sym, ap, subst, ◌∙◌, arith}
-use Rattle.std.specs.Prelude.{OnOk, Result, Ok, Err, IfOk, Vec, Global, slice_get, drop}
+use Rattle.std.specs.Prelude.{not, ◌&&◌, OnOk, Result, Ok, Err, IfOk, Vec, Global, slice_get, drop}
 use Rattle.std.specs.List.{flat_map}
 use Rattle.std.specs.Option.{option_map_or}
 use Rattle.serde_json.specs.Data.{Data}
@@ -9,7 +9,7 @@ use Rattle.lrs_machine.specs.Lines.{Text}
 use Rattle.lrs_web_replies.specs.JsonParts.{list}
 use Rattle.lrs_web_replies.specs.Listings.{named_list}
 use Rattle.lrs_web_replies.specs.Parts.{front_text, item_text}
-use Rattle.lrs_web_replies.specs.PagedText.{PageText, add_all, add_one, begun, is_told, with_entry}
+use Rattle.lrs_web_replies.specs.PagedText.{PageText, add_all, add_one, begun, is_none_left, is_told, with_entry}
 use Rattle.lrs_web_replies.specs.Pages.{at_most, is_admitted, paged}
 use Rattle.lrs_web_replies.specs.declared.pages.KeyField.{KeyField}
 use Rattle.lrs_web_replies.specs.declared.pages.Page.{Page}
@@ -30,6 +30,14 @@ added_last (Err x) a b c xs ys h k = tt
 pub as_items : {A E : Type 0} (r : Result A E) (a b : PageText) (xs ys : List Data) → OnOk r (b ≡ add_all a xs) → xs ≡ ys → OnOk r (b ≡ add_all a ys)
 as_items (Ok x) a b xs ys h e = h ∙ ap (add_all a) e
 as_items (Err x) a b xs ys h e = tt
+
+-- nothing is added where the page has as many as it may have
+pub full_one : (t : PageText) (x : Data) → is_none_left t.page.limit ≡ true → t ≡ add_one t x
+full_one t x full = sym (ap (λ b. cond (not b && is_admitted t.page.after x) (with_entry t x) t) full)
+
+pub full_stays : (t : PageText) (xs : List Data) → is_none_left t.page.limit ≡ true → t ≡ add_all t xs
+full_stays t [] full = refl
+full_stays t (x ∷ xs) full = full_stays t xs full ∙ ap (λ u. add_all u xs) (full_one t x full)
 
 -- ---- a loop over a slice
 

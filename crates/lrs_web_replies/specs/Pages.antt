@@ -163,12 +163,12 @@ abbrev pub GivesPage : Option (List KeyMember) → Text → Page → Type 0
 GivesPage None query page = page ≡ whole
 GivesPage (Some key) query page = GivesLimit query page.limit × GivesAfter key query page.after
 
--- why it gives none: the limit cannot be read, or the key
+-- why it gives none: the limit cannot be read, or it can and the key cannot
 abbrev pub CannotPage : Option (List KeyMember) → Text → PageFault → Type 0
 CannotPage key query fault.Memory = ⊤
-CannotPage None query fault = ⊥
 CannotPage (Some key) query fault.Limit = (limit : Option ℕ) → GivesLimit query limit → ⊥
-CannotPage (Some key) query fault.After = (after : Option (List KeyField)) → GivesAfter key query after → ⊥
+CannotPage (Some key) query fault.After = ((limit : Option ℕ) × GivesLimit query limit) × ((after : Option (List KeyField)) → GivesAfter key query after → ⊥)
+CannotPage _ query _ = ⊥
 
 abbrev pub page_fault_text : PageFault → Text
 page_fault_text fault.Limit = codes "limit"

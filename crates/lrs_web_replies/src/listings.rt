@@ -38,7 +38,8 @@ fn routes_json(
     page: Page,
     kept: &ImageLists,
 ) -> Result<Vec<u8>, AllocError>
-    ensures { IfOk result (λ bytes. bytes.items ≡ compact_text (routes_data page (image_of kept.now))) }
+    ensures { IfOk result (λ bytes. bytes.items ≡ compact_text (routes_data page (image_of
+        kept.now))) }
 {
     let mut text = PagedText::begin(alloc, most, page, "routes")?;
     add_each(alloc, &mut text, &kept.routes)?;
@@ -51,7 +52,8 @@ fn links_json(
     page: Page,
     kept: &ImageLists,
 ) -> Result<Vec<u8>, AllocError>
-    ensures { IfOk result (λ bytes. bytes.items ≡ compact_text (links_data page (image_of kept.now))) }
+    ensures { IfOk result (λ bytes. bytes.items ≡ compact_text (links_data page (image_of
+        kept.now))) }
 {
     let mut text = PagedText::begin(alloc, most, page, "links")?;
     add_each(alloc, &mut text, &kept.links)?;
@@ -64,7 +66,8 @@ fn classes_json(
     page: Page,
     kept: &ImageLists,
 ) -> Result<Vec<u8>, AllocError>
-    ensures { IfOk result (λ bytes. bytes.items ≡ compact_text (classes_data page (image_of kept.now))) }
+    ensures { IfOk result (λ bytes. bytes.items ≡ compact_text (classes_data page (image_of
+        kept.now))) }
 {
     let mut text = PagedText::begin(alloc, most, page, "classes")?;
     add_each(alloc, &mut text, &kept.classes)?;
@@ -73,6 +76,7 @@ fn classes_json(
 
 // ---- what routes have
 
+#[tactic(auto, using(crate::proofs::Paging::full_one))]
 fn add_on<T: OnRoute>(
     alloc: Global,
     text: &mut PagedText,
@@ -81,6 +85,9 @@ fn add_on<T: OnRoute>(
 ) -> Result<(), AllocError>
     ensures { OnOk result (text.new ≡ add_one text.old (T.shown route.now one.now)) }
 {
+    if text.is_full() {
+        return Ok(());
+    }
     let value = one.value_on(alloc, route)?;
     text.add(alloc, value)
 }
@@ -101,6 +108,7 @@ fn add_list_on<T: OnRoute>(
 }
 
 /// Adds a piece that lies between two chainages of a route.
+#[tactic(auto, using(crate::proofs::Paging::full_one))]
 fn add_piece(
     alloc: Global,
     text: &mut PagedText,
@@ -112,6 +120,9 @@ fn add_piece(
     requires end { to ≡ from + piece_len piece.now }
     ensures { OnOk result (text.new ≡ add_one text.old (piece_data route.now (from, piece.now))) }
 {
+    if text.is_full() {
+        return Ok(());
+    }
     let value = piece_value(alloc, route, from, to, piece)?;
     text.add(alloc, value)
 }
@@ -125,7 +136,8 @@ fn add_pieces_in(
 ) -> Result<(), AllocError>
     requires few { length pieces.now ≤ 1_000 }
     requires filled { AllByRecursion IsFilled pieces.now }
-    ensures { OnOk result (text.new ≡ add_all text.old (map (piece_data route.now) (placed_from 0 pieces.now))) }
+    ensures { OnOk result (text.new ≡ add_all text.old (map (piece_data route.now) (placed_from 0
+        pieces.now))) }
 {
     let mut from = 0;
     for piece in pieces {
@@ -194,7 +206,8 @@ fn add_all<T: Listed>(
     text: &mut PagedText,
     routes: &Chunked<RouteRow>,
 ) -> Result<(), AllocError>
-    ensures { OnOk result (text.new ≡ add_all text.old (flat_map (λ e. T.items e.route) routes.now.rows)) }
+    ensures { OnOk result (text.new ≡ add_all text.old (flat_map (λ e. T.items e.route)
+        routes.now.rows)) }
 {
     for route_row in routes.iter() {
         T::add(alloc, text, &route_row.route)?;
@@ -207,7 +220,8 @@ fn add_some<T: Listed>(
     text: &mut PagedText,
     route_row: Option<&RouteRow>,
 ) -> Result<(), AllocError>
-    ensures { OnOk result (text.new ≡ add_all text.old (option_map_or (λ e. T.items e.route) (option_map (λ e. e.now) route_row.entry) [])) }
+    ensures { OnOk result (text.new ≡ add_all text.old (option_map_or (λ e. T.items e.route)
+        (option_map (λ e. e.now) route_row.entry) [])) }
 {
     match route_row {
         Some(route_row) => T::add(alloc, text, &route_row.route),
@@ -223,7 +237,8 @@ fn add_named<T: Listed>(
     routes: &Chunked<RouteRow>,
 ) -> Result<(), AllocError>
     requires order { each_two route_before routes.now.rows ≡ true }
-    ensures { OnOk result (text.new ≡ add_all text.old (flat_map (λ e. T.items e.route) (filter (is_of_route route) routes.now.rows))) }
+    ensures { OnOk result (text.new ≡ add_all text.old (flat_map (λ e. T.items e.route) (filter
+        (is_of_route route) routes.now.rows))) }
 {
     match route {
         Some(name) => add_some::<T>(alloc, text, routes.find(&name)),

@@ -113,13 +113,15 @@ fn add_segment(
     side: LinkSide,
     segment: &Segment,
 ) -> Result<(), AllocError>
-    ensures { OnOk result (text.new ≡ add_one text.old (overlay_item route.now side (run_of segment.now))) }
+    ensures { OnOk result (text.new ≡ add_one text.old (overlay_item route.now side (run_of
+        segment.now))) }
 {
     let value = segment_value(alloc, route, side, segment)?;
     text.add(alloc, value)
 }
 
 /// Adds a segment where it is asked for.
+#[tactic(auto, using(crate::proofs::Paging::full_stays))]
 fn add_wanted_segment(
     alloc: Global,
     text: &mut PagedText,
@@ -128,8 +130,12 @@ fn add_wanted_segment(
     side: LinkSide,
     segment: &Segment,
 ) -> Result<(), AllocError>
-    ensures { OnOk result (text.new ≡ add_all text.old (segment_items wanted.now route.now side segment.now)) }
+    ensures { OnOk result (text.new ≡ add_all text.old (segment_items wanted.now route.now side
+        segment.now)) }
 {
+    if text.is_full() {
+        return Ok(());
+    }
     if is_segment_wanted(wanted, segment) {
         return add_segment(alloc, text, route, side, segment);
     }
@@ -145,7 +151,8 @@ fn add_wanted_segments(
     side: LinkSide,
     mut segments: RouteSegments<'_>,
 ) -> Result<(), AllocError>
-    ensures { OnOk result (text.new ≡ add_all text.old (flat_map (segment_items wanted.now route.now side) segments.entry)) }
+    ensures { OnOk result (text.new ≡ add_all text.old (flat_map (segment_items wanted.now
+        route.now side) segments.entry)) }
 {
     while let Some(segment) = segments.first() {
         add_wanted_segment(alloc, text, wanted, route, side, segment)?;
@@ -155,6 +162,7 @@ fn add_wanted_segments(
 }
 
 // The classes are known and exclusive where an overlay is told, so memory alone is wanting where there are no segments.
+#[tactic(auto, using(crate::proofs::Paging::full_stays))]
 fn add_on_side(
     alloc: Global,
     text: &mut PagedText,
@@ -164,8 +172,12 @@ fn add_on_side(
     side: LinkSide,
 ) -> Result<(), AllocError>
     requires known { In route_row.now inventory.now.routes }
-    ensures { OnOk result (text.new ≡ add_all text.old (side_items inventory.now wanted.now route_row.now side)) }
+    ensures { OnOk result (text.new ≡ add_all text.old (side_items inventory.now wanted.now
+        route_row.now side)) }
 {
+    if text.is_full() {
+        return Ok(());
+    }
     let classes = wanted.classes.as_slice();
     match overlay_segments(alloc, inventory, route_row, classes, side) {
         Ok(segments) => {
@@ -185,7 +197,9 @@ fn add_both_sides(
     route_row: &RouteRow,
 ) -> Result<(), AllocError>
     requires known { In route_row.now inventory.now.routes }
-    ensures { OnOk result (text.new ≡ add_all text.old ((side_items inventory.now wanted.now route_row.now LinkSide.Left ++ side_items inventory.now wanted.now route_row.now LinkSide.Right))) }
+    ensures { OnOk result (text.new ≡ add_all text.old (side_items inventory.now wanted.now
+        route_row.now LinkSide.Left ++ side_items inventory.now wanted.now route_row.now
+        LinkSide.Right)) }
 {
     let (left, right) = (LinkSide::Left, LinkSide::Right);
     add_on_side(alloc, text, inventory, wanted, route_row, left)?;
@@ -201,7 +215,8 @@ fn add_sides(
     route_row: &RouteRow,
 ) -> Result<(), AllocError>
     requires known { In route_row.now inventory.now.routes }
-    ensures { OnOk result (text.new ≡ add_all text.old (overlay_items inventory.now wanted.now route_row.now)) }
+    ensures { OnOk result (text.new ≡ add_all text.old (overlay_items inventory.now wanted.now
+        route_row.now)) }
 {
     match wanted.side {
         Some(side) => add_on_side(alloc, text, inventory, wanted, route_row, side),
@@ -215,7 +230,8 @@ fn add_each_route(
     inventory: &Inventory,
     wanted: &OverlayWanted,
 ) -> Result<(), AllocError>
-    ensures { OnOk result (text.new ≡ add_all text.old (flat_map (overlay_items inventory.now wanted.now) inventory.now.routes)) }
+    ensures { OnOk result (text.new ≡ add_all text.old (flat_map (overlay_items inventory.now
+        wanted.now) inventory.now.routes)) }
 {
     for route_row in inventory.kept().routes.iter() {
         add_sides(alloc, text, inventory, wanted, route_row)?;
@@ -231,7 +247,8 @@ fn add_named_route(
     wanted: &OverlayWanted,
     name: &RouteName,
 ) -> Result<(), AllocError>
-    ensures { OnOk result (text.new ≡ add_all text.old (flat_map (overlay_items inventory.now wanted.now) (routes_named (Some name.now) inventory.now))) }
+    ensures { OnOk result (text.new ≡ add_all text.old (flat_map (overlay_items inventory.now
+        wanted.now) (routes_named (Some name.now) inventory.now))) }
 {
     // For the prover alone: no two routes have one name.
     inventory.prove_sound();
@@ -248,7 +265,8 @@ fn add_asked_routes(
     inventory: &Inventory,
     wanted: &OverlayWanted,
 ) -> Result<(), AllocError>
-    ensures { OnOk result (text.new ≡ add_all text.old (flat_map (overlay_items inventory.now wanted.now) (routes_named wanted.now.route inventory.now))) }
+    ensures { OnOk result (text.new ≡ add_all text.old (flat_map (overlay_items inventory.now
+        wanted.now) (routes_named wanted.now.route inventory.now))) }
 {
     match &wanted.route {
         Some(name) => add_named_route(alloc, text, inventory, wanted, name),

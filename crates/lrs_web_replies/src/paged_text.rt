@@ -82,6 +82,13 @@ impl PagedText {
         })
     }
 
+    /// Whether the page has as many items as it may have, so that no more need be made.
+    pub(crate) fn is_full(&self) -> bool
+        ensures { result ≡ is_none_left self.now.page.limit }
+    {
+        is_none_left(self.page.limit)
+    }
+
     /// Adds an item with a comma before it, where the page has it.
     pub(crate) fn add(&mut self, alloc: Global, item: Value) -> Result<(), AllocError>
         requires { has_float (view item) ≡ false }
@@ -104,10 +111,14 @@ impl PagedText {
     }
 }
 
+#[tactic(auto, using(crate::proofs::Paging::full_one))]
 fn add_one<T: Shown>(alloc: Global, text: &mut PagedText, one: &T) -> Result<(), AllocError>
     requires whole { has_float (T.shown one.now) ≡ false }
     ensures { OnOk result (text.new ≡ add_one text.old (T.shown one.now)) }
 {
+    if text.is_full() {
+        return Ok(());
+    }
     let value = one.value(alloc)?;
     text.add(alloc, value)
 }

@@ -38,7 +38,8 @@ fn add_on_route(
     route: &Route,
     row: &Span,
 ) -> Result<(), AllocError>
-    ensures { OnOk result (text.new ≡ add_one text.old (row_data_with (option_map (λ a. a.now) asset.entry) route.now row.now)) }
+    ensures { OnOk result (text.new ≡ add_one text.old (row_data_with (option_map (λ a. a.now)
+        asset.entry) route.now row.now)) }
 {
     let value = row_value(alloc, asset, route, row)?;
     text.add(alloc, value)
@@ -53,7 +54,8 @@ fn add_stretch(
     row: &Span,
     stretch: LinkStretch,
 ) -> Result<(), AllocError>
-    ensures { OnOk result (text.new ≡ add_one text.old (link_row_data (option_map (λ a. a.now) asset.entry) route.now row.now stretch)) }
+    ensures { OnOk result (text.new ≡ add_one text.old (link_row_data (option_map (λ a. a.now)
+        asset.entry) route.now row.now stretch)) }
 {
     let value = link_row_value(alloc, asset, route, row, stretch)?;
     text.add(alloc, value)
@@ -70,7 +72,8 @@ fn add_on_piece(
     piece: Piece,
 ) -> Result<(), AllocError>
     requires { IsFilled piece }
-    ensures { OnOk result (text.new ≡ add_all text.old (link_row_items (option_map (λ a. a.now) asset.entry) route.now row.now (start, piece))) }
+    ensures { OnOk result (text.new ≡ add_all text.old (link_row_items (option_map (λ a. a.now)
+        asset.entry) route.now row.now (start, piece))) }
 {
     match on_piece(row, start, piece) {
         Some(stretch) => add_stretch(alloc, text, asset, route, row, stretch),
@@ -89,7 +92,8 @@ fn add_on_pieces(
 ) -> Result<(), AllocError>
     requires filled { AllByRecursion IsFilled pieces.now }
     requires few { length pieces.now ≤ 1_000 }
-    ensures { OnOk result (text.new ≡ add_all text.old (flat_map (link_row_items (option_map (λ a. a.now) asset.entry) route.now row.now) (placed_from 0 pieces.now))) }
+    ensures { OnOk result (text.new ≡ add_all text.old (flat_map (link_row_items (option_map (λ a.
+        a.now) asset.entry) route.now row.now) (placed_from 0 pieces.now))) }
 {
     let mut start = 0;
     for piece in pieces {
@@ -107,7 +111,8 @@ fn add_on_links(
     route: &Route,
     row: &Span,
 ) -> Result<(), AllocError>
-    ensures { OnOk result (text.new ≡ add_all text.old (flat_map (link_row_items (option_map (λ a. a.now) asset.entry) route.now row.now) (placed_pieces route.now.course))) }
+    ensures { OnOk result (text.new ≡ add_all text.old (flat_map (link_row_items (option_map (λ a.
+        a.now) asset.entry) route.now row.now) (placed_pieces route.now.course))) }
 {
     add_on_pieces(alloc, text, asset, route, row, route.course.pieces())
 }
@@ -121,7 +126,8 @@ fn add_row_with(
     route: &Route,
     row: &Span,
 ) -> Result<(), AllocError>
-    ensures { OnOk result (text.new ≡ add_all text.old (row_items_with form (option_map (λ a. a.now) asset.entry) route.now row.now)) }
+    ensures { OnOk result (text.new ≡ add_all text.old (row_items_with form (option_map (λ a.
+        a.now) asset.entry) route.now row.now)) }
 {
     match form {
         RowForm::Decimal | RowForm::Exact => add_on_route(alloc, text, asset, route, row),
@@ -129,6 +135,7 @@ fn add_row_with(
     }
 }
 
+#[tactic(auto, using(crate::proofs::Paging::full_stays))]
 fn add_row(
     alloc: Global,
     text: &mut PagedText,
@@ -138,8 +145,12 @@ fn add_row(
     row: &Span,
 ) -> Result<(), AllocError>
     requires order { each_two asset_before assets.now.rows ≡ true }
-    ensures { OnOk result (text.new ≡ add_all text.old (row_items form assets.now.rows route.now row.now)) }
+    ensures { OnOk result (text.new ≡ add_all text.old (row_items form assets.now.rows route.now
+        row.now)) }
 {
+    if text.is_full() {
+        return Ok(());
+    }
     let asset = asset_numbered(assets, row.asset);
     add_row_with(alloc, text, form, asset, route, row)
 }
@@ -153,7 +164,8 @@ fn add_rows_on(
     rows: &[Span],
 ) -> Result<(), AllocError>
     requires order { each_two asset_before assets.now.rows ≡ true }
-    ensures { OnOk result (text.new ≡ add_all text.old (flat_map (row_items form assets.now.rows route.now) rows.now)) }
+    ensures { OnOk result (text.new ≡ add_all text.old (flat_map (row_items form assets.now.rows
+        route.now) rows.now)) }
 {
     for row in rows {
         add_row(alloc, text, form, assets, route, row)?;
@@ -162,6 +174,7 @@ fn add_rows_on(
 }
 
 /// Adds the rows of a route that are asked for, in the order of the road.
+#[tactic(auto, using(crate::proofs::Paging::full_stays))]
 fn add_rows_of(
     alloc: Global,
     text: &mut PagedText,
@@ -170,8 +183,12 @@ fn add_rows_of(
     route_row: &RouteRow,
 ) -> Result<(), AllocError>
     requires order { each_two asset_before assets.now.rows ≡ true }
-    ensures { OnOk result (text.new ≡ add_all text.old (rows_of wanted.now assets.now.rows route_row.now)) }
+    ensures { OnOk result (text.new ≡ add_all text.old (rows_of wanted.now assets.now.rows
+        route_row.now)) }
 {
+    if text.is_full() {
+        return Ok(());
+    }
     let route = &route_row.route;
     let rows = rows_in_road_order(alloc, wanted, route_row.spans.rows())?;
     add_rows_on(alloc, text, wanted.form, assets, route, &rows)
@@ -185,7 +202,8 @@ fn add_each_row(
     routes: &Chunked<RouteRow>,
 ) -> Result<(), AllocError>
     requires order { each_two asset_before assets.now.rows ≡ true }
-    ensures { OnOk result (text.new ≡ add_all text.old (flat_map (rows_of wanted.now assets.now.rows) routes.now.rows)) }
+    ensures { OnOk result (text.new ≡ add_all text.old (flat_map (rows_of wanted.now
+        assets.now.rows) routes.now.rows)) }
 {
     for route_row in routes.iter() {
         add_rows_of(alloc, text, wanted, assets, route_row)?;
@@ -202,7 +220,8 @@ fn add_rows_of_some(
     route_row: Option<&RouteRow>,
 ) -> Result<(), AllocError>
     requires order { each_two asset_before assets.now.rows ≡ true }
-    ensures { OnOk result (text.new ≡ add_all text.old (option_map_or (rows_of wanted.now assets.now.rows) (option_map (λ e. e.now) route_row.entry) [])) }
+    ensures { OnOk result (text.new ≡ add_all text.old (option_map_or (rows_of wanted.now
+        assets.now.rows) (option_map (λ e. e.now) route_row.entry) [])) }
 {
     match route_row {
         Some(route_row) => add_rows_of(alloc, text, wanted, assets, route_row),
@@ -220,7 +239,8 @@ fn add_asked_rows(
 ) -> Result<(), AllocError>
     requires assets_order { each_two asset_before assets.now.rows ≡ true }
     requires routes_order { each_two route_before routes.now.rows ≡ true }
-    ensures { OnOk result (text.new ≡ add_all text.old (flat_map (rows_of wanted.now assets.now.rows) (filter (is_of_route wanted.now.route) routes.now.rows))) }
+    ensures { OnOk result (text.new ≡ add_all text.old (flat_map (rows_of wanted.now
+        assets.now.rows) (filter (is_of_route wanted.now.route) routes.now.rows))) }
 {
     match &wanted.route {
         Some(name) => add_rows_of_some(alloc, text, wanted, assets, routes.find(name)),
