@@ -30,8 +30,12 @@ def got(port, asked, body=None):
     return head.split()[1].decode(), kind and kind[1].decode(), body
 
 
-# what is asked for in either way: a place, which has to be one of them, and rows
-WAYS = {"/v1/where": [("route", "chainage"), ("link", "mm")]} | dict.fromkeys(["/v1/rows", "/v1/rows.csv"], [("exact",), ("on_links",)])
+# what is asked for in either way: a place, which has to be one of them, and rows, which on links are told in no pages
+WAYS = {
+    "/v1/where": [("route", "chainage"), ("link", "mm")],
+    "/v1/rows": [("limit", "after", "exact"), ("on_links",)],
+    "/v1/rows.csv": [("exact",), ("on_links",)],
+}
 
 
 def of_another_way(path, name):
