@@ -66,9 +66,9 @@ module _ (key : List KeyMember) (text : Text) (fields : List KeyField) where
     no_field never [] h = h
     no_field never (g ∷ gs) h = never g.value h.0.1
 
-    next_said : (v : KeyValue) → SaysValue m (first_field t) v → Reads key text ms (fields_behind t) (fields ++ record { member = m; value = v } ∷ [])
-    next_said v says = record {
-      said = λ fs h. subst (λ z. SaysKey key text z) (sym (append_assoc fields (record { member = m; value = v } ∷ []) fs)) (before.said (record { member = m; value = v } ∷ fs) ((refl, says), h));
+    next_said : (f : KeyField) → SaysField m (first_field t) f → Reads key text ms (fields_behind t) (fields ++ f ∷ [])
+    next_said f says = record {
+      said = λ fs h. subst (λ z. SaysKey key text z) (sym (append_assoc fields (f ∷ []) fs)) (before.said (f ∷ fs) (says, h));
       only = λ fs h. let (tail, s) = before.only fs h in fields_left tail s;
     }
 
@@ -88,8 +88,8 @@ module _ (key : List KeyMember) (text : Text) (fields : List KeyField) where
     at_next : Reads key text (m ∷ drop (i + 1) key) rest fields
     at_next = subst (λ z. Reads key text z rest fields) (next_of i key m low is) before
 
-    pub reads_next : (t : Text) (v : KeyValue) → rest ≡ Some t → SaysValue m (first_field t) v → Reads key text (drop (i + 1) key) (fields_behind t) (fields ++ record { member = m; value = v } ∷ [])
-    reads_next t v some says = next_said m (drop (i + 1) key) t (subst (λ z. Reads key text (m ∷ drop (i + 1) key) z fields) some at_next) v says
+    pub reads_next : (t : Text) (f : KeyField) → rest ≡ Some t → SaysField m (first_field t) f → Reads key text (drop (i + 1) key) (fields_behind t) (fields ++ f ∷ [])
+    reads_next t f some says = next_said m (drop (i + 1) key) t (subst (λ z. Reads key text (m ∷ drop (i + 1) key) z fields) some at_next) f says
 
     pub reads_none : (t : Text) → rest ≡ Some t → ((v : KeyValue) → SaysValue m (first_field t) v → ⊥) → (fs : List KeyField) → SaysKey key text fs → ⊥
     reads_none t some never = none_said m (drop (i + 1) key) t (subst (λ z. Reads key text (m ∷ drop (i + 1) key) z fields) some at_next) never

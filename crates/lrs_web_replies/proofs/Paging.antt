@@ -1,6 +1,7 @@
 -- The text of a list of which a page is told, as its items are added.
-use Rattle.std.proofs.Common.{◌≡◌, ℕ, zero, suc, ◌+◌, ◌<◌, Bool, true, false, cond, Option, Some, None, List, [], ◌∷◌, ◌++◌, length, map, filter, take, get_or, append_assoc, append-nil, refl, sym, ap, subst, ◌∙◌, arith}
-use Rattle.std.specs.Prelude.{not, ◌&&◌, OnOk, Result, Ok, Err, IfOk, Vec, Global, slice_get, drop}
+use Rattle.std.proofs.Common.{◌≡◌, ℕ, zero, suc, ◌+◌, ◌<◌, Bool, true, false, cond, Option, Some, None, List, [], ◌∷◌, ◌++◌, length, map, filter, take, get_or, append_assoc, append-nil, refl, sym, ap, subst, ◌∙◌, arith, Vec, Global}
+use Rattle.std.specs.Prelude.{not, ◌&&◌, ◌-◌, nat_eq, OnOk, Result, Ok, Err, IfOk, slice_get, drop}
+use Rattle.std.proofs.Math.Dec.{eqb-suc-zero}
 use Rattle.std.specs.List.{flat_map}
 use Rattle.std.specs.Option.{option_map_or}
 use Rattle.serde_json.specs.Data.{Data}
@@ -122,11 +123,20 @@ module _ (after : Option (List KeyField)) (start : ℕ) where
   none_told bytes [] = refl
   none_told bytes (entry ∷ entries) = none_told bytes entries
 
-  -- of any other
+  -- of a limit that is not, one entry
+  one_of : (n : ℕ) (bytes : Text) (entry : Data)
+      → add_one (text_with (Some (suc n)) after start bytes) entry ≡ cond (is_admitted after entry) (text_with (Some n) after start (bytes ++ item_text entry)) (text_with (Some (suc n)) after start bytes)
+  one_of n bytes entry =
+      let more : nat_eq (suc n) 0 ≡ false = eqb-suc-zero n in
+      let less : suc n - 1 ≡ n = omega arith in
+      λ k. cond (not (more k) && is_admitted after entry) (text_with (Some (less k)) after start (bytes ++ item_text entry)) (text_with (Some (suc n)) after start bytes)
+
+  -- of any limit
   some_told : (limit : ℕ) (bytes : Text) (entries : List Data) → (add_all (text_with (Some limit) after start bytes) entries).bytes ≡ bytes ++ told_text (Some limit) after entries
   some_told zero bytes entries = none_told bytes entries ∙ sym (append-nil bytes)
   some_told (suc n) bytes [] = sym (append-nil bytes)
-  some_told (suc n) bytes (entry ∷ entries) = by (is_admitted after entry) (some_told n (bytes ++ item_text entry) entries) (some_told (suc n) bytes entries)
+  some_told (suc n) bytes (entry ∷ entries) =
+      ap (λ (t : PageText). (add_all t entries).bytes) (one_of n bytes entry) ∙ by (is_admitted after entry) (some_told n (bytes ++ item_text entry) entries) (some_told (suc n) bytes entries)
     where
       by : (b : Bool) → (add_all (text_with (Some n) after start (bytes ++ item_text entry)) entries).bytes ≡ (bytes ++ item_text entry) ++ told_text (Some n) after entries
           → (add_all (text_with (Some (suc n)) after start bytes) entries).bytes ≡ bytes ++ told_text (Some (suc n)) after entries
