@@ -23,6 +23,11 @@ next_of i xs x low is =
     let n : suc i ≡ i + 1 = omega arith in
     drop-cons xs i x low ∙ (λ k. sym is k ∷ drop (n k) xs)
 
+pub next_at : {A : Type 0} (i : ℕ) (xs : List A) (d : A) → i < length xs → drop i xs ≡ get_or xs i d ∷ drop (i + 1) xs
+next_at i xs d low =
+    let n : suc i ≡ i + 1 = omega arith in
+    drop-cons xs i d low ∙ ap (λ k. get_or xs i d ∷ drop k xs) n
+
 -- ---- the order of entries
 
 module _ (entry : Data) (i : ℕ) (key : List KeyField) where
@@ -84,9 +89,9 @@ module _ (key : List KeyMember) (text : Text) (fields : List KeyField) where
   too_many t (g ∷ gs) h = h
 
   -- the next member of the key
-  module _ (i : ℕ) (m : KeyMember) (rest : Option Text) (low : i < length key) (is : m ≡ get_or key i m) (before : Reads key text (drop i key) rest fields) where
+  module _ (i : ℕ) (m : KeyMember) (rest : Option Text) (is : drop i key ≡ m ∷ drop (i + 1) key) (before : Reads key text (drop i key) rest fields) where
     at_next : Reads key text (m ∷ drop (i + 1) key) rest fields
-    at_next = subst (λ z. Reads key text z rest fields) (next_of i key m low is) before
+    at_next = subst (λ z. Reads key text z rest fields) is before
 
     pub reads_next : (t : Text) (f : KeyField) → rest ≡ Some t → SaysField m (first_field t) f → Reads key text (drop (i + 1) key) (fields_behind t) (fields ++ f ∷ [])
     reads_next t f some says = next_said m (drop (i + 1) key) t (subst (λ z. Reads key text (m ∷ drop (i + 1) key) z fields) some at_next) f says

@@ -4,7 +4,7 @@ ghost use Rattle.std.specs.Prelude.{◌≡◌, ◌⊎◌, ℕ, List, Option, Som
 ghost use Rattle.serde_json.specs.View.{view};
 ghost use Rattle.lrs_web_requests.specs.declared.paths.Format.TheVariants.{Json};
 ghost use Rattle.lrs_web_requests.specs.declared.paths.Resource.TheVariants as path;
-ghost use Rattle.lrs_web_replies.specs.Pages.{CannotPage, GivesAfter, GivesLimit, GivesPage, SaysClassValue, SaysField, SaysKey, SaysNumberValue, SaysRouteValue, SaysSideValue, SaysValue, comma_place, field_order, fields_behind, first_field, is_admitted, is_behind, is_on_links, key_of, member_text, page_fault_text, side_place, side_text_place, value_order, whole};
+ghost use Rattle.lrs_web_replies.specs.Pages.{CannotPage, GivesAfter, GivesLimit, GivesPage, SaysClassValue, SaysKey, SaysNumberValue, SaysRouteValue, SaysSideValue, SaysValue, comma_place, field_order, fields_behind, first_field, is_admitted, is_behind, is_on_links, key_of, member_text, page_fault_text, side_place, side_text_place, value_order, whole};
 ghost use Rattle.lrs_web_replies.specs.declared.pages.KeyField.{KeyField as Field};
 ghost use Rattle.lrs_web_replies.specs.declared.pages.KeyValue.{KeyValue as Shown};
 
@@ -276,9 +276,9 @@ fn side_value(text: &[u8]) -> Option<KeyValue>
 }
 
 /// What a field says that a member shows.
-fn read_value(member: KeyMember, text: &[u8]) -> Option<KeyValue>
-    ensures read { IfSome result (SaysValue member text.now) }
-    ensures unread { IfNone result ((value : Shown) → SaysValue member text.now value → ⊥) }
+fn read_value(member: &KeyMember, text: &[u8]) -> Option<KeyValue>
+    ensures read { IfSome result (SaysValue member.now text.now) }
+    ensures unread { IfNone result ((value : Shown) → SaysValue member.now text.now value → ⊥) }
 {
     match member {
         KeyMember::Route => route_value(text),
@@ -292,15 +292,13 @@ fn read_value(member: KeyMember, text: &[u8]) -> Option<KeyValue>
     }
 }
 
-/// The field of a key that a text says for a member.
-fn read_field(member: &KeyMember, text: &[u8]) -> Option<KeyField>
-    ensures read { IfSome result (SaysField member.now text.now) }
-    ensures unread { IfNone result ((value : Shown) → SaysValue member.now text.now value → ⊥) }
+fn field_of(member: &KeyMember, value: KeyValue) -> KeyField
+    ensures member { result.member ≡ member.now }
+    ensures value { result.value ≡ value }
 {
-    let member = *member;
-    match read_value(member, text) {
-        Some(value) => Some(KeyField { member, value }),
-        None => None,
+    KeyField {
+        member: *member,
+        value,
     }
 }
 
@@ -338,8 +336,8 @@ fn read_key(
         match rest {
             Some(left) => {
                 let (first, behind) = first_field(left);
-                match read_field(member, first) {
-                    Some(field) => fields.push(field)?,
+                match read_value(member, first) {
+                    Some(value) => fields.push(field_of(member, value))?,
                     None => return Ok(None),
                 }
                 rest = behind;

@@ -226,7 +226,7 @@ pub(crate) fn classes_or_all_in(alloc: Global, query: &[u8]) -> Result<Rows<Clas
 }
 
 /// The number of at least `least` and at most `greatest` that a text says.
-fn read_number(text: &str, least: u64, greatest: u64) -> Option<u64>
+pub(crate) fn read_number(text: &str, least: u64, greatest: u64) -> Option<u64>
     ensures read { IfSome result (SaysNumber least greatest text.now) }
     ensures unread { IfNone result ((number : ℕ) → SaysNumber least greatest text.now number → ⊥) }
 {
