@@ -24,7 +24,7 @@ use Rattle.lrs_report.specs.declared.diagrams.diagram.Diagram.{Diagram}
 use Rattle.lrs_machine.specs.declared.question.Listing.TheVariants as listing
 use Rattle.lrs_report_answers.specs.Answers.{IsAt, StandsAt, UnlessMemory, route_missing}
 use Rattle.lrs_report_lists.specs.Lists.{routes_named}
-use Rattle.lrs_report_answers.specs.Listings.{AreLengthsOf, missing_of, missing_route}
+use Rattle.lrs_report_answers.specs.Listings.{AreLengthsOf, missing_route}
 use Rattle.lrs_report_answers.specs.Overlay.{is_segment_wanted, overlay_header, overlay_line, overlay_wanted, sides_of}
 use Rattle.lrs_report_answers.specs.DrawnRows.{IsDrawn, IsDrawnOn}
 use Rattle.lrs_report_answers.specs.AssetStretches.{all_rows_of}
@@ -61,9 +61,8 @@ use Rattle.lrs_web_replies.specs.Answers.{health_data, totals_data}
 use Rattle.lrs_web_replies.specs.Questions.{AsksOf, CannotAsk, GivesAsset, GivesExact, GivesFirstEdit, GivesGone, GivesOverlay, GivesRouteOrAll, GivesRows, GivesUntil, IsGiven, SaysDestination, SaysEdit, SaysRoute, SaysSide, parameters_of}
 use Rattle.lrs_web_replies.specs.Pages.{key_of, paged, unknown_in}
 use Rattle.lrs_web_replies.specs.Replies.{csv_answer, json_answer, unknown_answer, unpaged}
-use Rattle.lrs_web_replies.specs.Listings.{in_format, listing_answer, named_list, rows_answer}
+use Rattle.lrs_web_replies.specs.Listings.{in_format, listing_answer, named_list}
 use Rattle.lrs_web_replies.specs.Overlay.{overlay_item}
-use Rattle.lrs_machine.specs.declared.absence.Missing.{Missing}
 use Rattle.lrs_web_replies.specs.declared.question.QueryFault.TheVariants.{NoRoute}
 use Rattle.lrs_web.specs.QueryAnswers.{AnswersAsked, AnswersKnown, AnswersPage}
 use Rattle.lrs_promises.specs.Determinism.{IsOfState}

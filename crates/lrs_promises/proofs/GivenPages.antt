@@ -1,5 +1,5 @@
 -- The page that a query gives is one page.
-use Rattle.std.proofs.Common.{◌≡◌, ℕ, List, [], ◌∷◌, Option, Some, None, refl, sym, ap, ◌∙◌}
+use Rattle.std.proofs.Common.{◌≡◌, List, [], ◌∷◌, Option, Some, None, refl, sym, ap, ◌∙◌}
 use Rattle.lrs_machine.specs.Lines.{Text}
 use Rattle.lrs_web_requests.specs.Text.{Answer}
 use Rattle.lrs_web_replies.specs.Pages.{CannotPage, GivesPage, SaysClassValue, SaysFields, SaysKey, SaysNumberValue, SaysRouteValue, SaysSideValue, SaysValue, fields_behind, first_field}

@@ -1,5 +1,5 @@
 -- The text of a list of which a page is told, as its items are added.
-use Rattle.std.proofs.Common.{◌≡◌, ℕ, zero, suc, ◌+◌, ◌<◌, Bool, true, false, cond, Option, Some, None, List, [], ◌∷◌, ◌++◌, length, map, filter, take, get_or, append_assoc, append-nil, refl, sym, ap, subst, ◌∙◌, arith, Vec, Global}
+use Rattle.std.proofs.Common.{◌≡◌, ℕ, zero, suc, ◌+◌, ◌<◌, Bool, true, false, cond, Option, Some, None, List, [], ◌∷◌, ◌++◌, length, map, filter, take, get_or, append_assoc, append-nil, refl, sym, ap, ◌∙◌, arith, Vec, Global}
 use Rattle.std.specs.Prelude.{not, ◌&&◌, ◌-◌, nat_eq, OnOk, Result, Ok, Err, IfOk, slice_get, drop}
 use Rattle.std.proofs.Math.Dec.{eqb-suc-zero}
 use Rattle.std.specs.List.{flat_map}

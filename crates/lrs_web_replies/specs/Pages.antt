@@ -12,7 +12,7 @@ use Rattle.lrs_events.specs.declared.side.Side.{Side}
 use Rattle.lrs_events.specs.declared.side.Side.TheVariants.{L, R, B}
 use Rattle.lrs_web_requests.specs.Query.{parameter, switched, unknown_name}
 use Rattle.lrs_web_requests.specs.declared.paths.Format.{Format}
-use Rattle.lrs_web_requests.specs.declared.paths.Format.TheVariants.{Csv, Json}
+use Rattle.lrs_web_requests.specs.declared.paths.Format.TheVariants.{Json}
 use Rattle.lrs_web_requests.specs.declared.paths.Resource.{Resource}
 use Rattle.lrs_web_requests.specs.declared.paths.Resource.TheVariants as path
 use Rattle.lrs_web_replies.specs.Questions.{Text, known_names, passes_over, SaidIfGiven, SaysClass, SaysNumber, SaysRoute, SaysSide}

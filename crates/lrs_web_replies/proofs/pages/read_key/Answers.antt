@@ -1,4 +1,4 @@
-use Rattle.std.proofs.Common.{◌≡◌, ℕ, List, Some, Bor, Option, get_or, refl, sym, ap, subst, ◌∙◌}
+use Rattle.std.proofs.Common.{ℕ, List, Bor, Option, get_or, sym, ap, subst}
 use Rattle.std.specs.Prelude.{option_map}
 use Rattle.lrs_web_replies.specs.Pages.{SaysKey, SaysValue, first_field}
 use Rattle.lrs_web_replies.specs.Questions.{Text}

@@ -6,7 +6,7 @@ use Rattle.lrs_measure.specs.Texts.{Name}
 use Rattle.lrs_machine.specs.declared.image.RouteRow.{RouteRow}
 use Rattle.lrs_report_lists.specs.WantedRows.{is_of_route}
 use Rattle.lrs_report_lists.proofs.Chosen.{all_chosen, named_alone}
-use Rattle.lrs_web_replies.proofs.Paging.{as_items}
+use Rattle.lrs_web_replies.proofs.Paging.{as_items, told_alone_of}
 use Rattle.lrs_web_replies.specs.Listings.{rows_of}
 use Rattle.lrs_web_replies.proofs.row_lists.add_asked_rows.Goals as goal
 
