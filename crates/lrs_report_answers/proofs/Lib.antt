@@ -15,3 +15,4 @@ pub mod Banded
 pub mod Tally
 pub mod Place
 pub mod SideBySide
+pub mod Combined

@@ -12,5 +12,6 @@ pub mod Stretches
 pub mod Listings
 pub mod Overlay
 pub mod Combinations
+pub mod CombinationParts
 pub mod Tally
 pub mod Place

@@ -24,8 +24,8 @@ use crate::class_faults::class_fault;
 use crate::combinations::combinations;
 use crate::tallies::Counts;
 use crate::{
-    AskFault, End, Told, at, diagram, end_of, find, length_of, named_route, segments, to_link,
-    translate, whereabouts,
+    AskFault, Combination, End, Told, at, diagram, end_of, find, length_of, named_route, segments,
+    to_link, translate, whereabouts,
 };
 use lrs_events::{ClassName, Side};
 use lrs_image::ImageLists;
@@ -226,6 +226,19 @@ fn tell_lengths<'a>(
     Ok(Told::Lengths(rows))
 }
 
+/// The combinations by the classes of a question.
+fn combinations_by(
+    alloc: Global,
+    inventory: &Inventory,
+    route: Option<RouteName>,
+    classes: &Rows<ClassName>,
+) -> Result<Rows<Combination>, AskFault>
+    ensures answer { AreCombinationsOf inventory.now route classes.now result }
+    ensures never { result ≡ Err AskFault.MustReopen → ⊥ }
+{
+    combinations(alloc, inventory, route, classes.as_slice())
+}
+
 fn tell_combinations<'a>(
     alloc: Global,
     inventory: &'a Inventory,
@@ -236,7 +249,7 @@ fn tell_combinations<'a>(
         (told.Combinations classes) result }
     ensures never { result ≡ Err AskFault.MustReopen → ⊥ }
 {
-    let found = combinations(alloc, inventory, route, classes.as_slice())?;
+    let found = combinations_by(alloc, inventory, route, &classes)?;
     Ok(Told::Combinations {
         classes,
         combinations: found,
