@@ -7,4 +7,5 @@ pub mod Replies
 pub mod Listings
 pub mod Parts
 pub mod Overlay
+pub mod Combinations
 pub mod QuestionAnswers

@@ -14,6 +14,7 @@ use crate::answers::{
     totals_json, translated_json, whereabouts_json,
 };
 use crate::bounded::BoundedBytes;
+use crate::combinations::combinations_reply;
 use crate::lines::lengths_lines;
 use crate::listings::listing_reply;
 use crate::overlay::overlay_reply;
@@ -132,6 +133,13 @@ fn told_reply(
         Told::Found(rows) => Ok(found_reply(found_json(alloc, rows.as_slice())?)),
         Told::Where(found) => Ok(found_reply(whereabouts_json(alloc, &found)?)),
         Told::Lengths(rows) => lengths_reply(alloc, most, format, rows.as_slice()),
+        Told::Combinations {
+            classes,
+            combinations,
+        } => {
+            let (classes, rows) = (classes.as_slice(), combinations.as_slice());
+            combinations_reply(alloc, most, format, classes, rows)
+        }
         Told::Rows { wanted, inventory } => rows_reply(alloc, most, format, inventory, &wanted),
         Told::Overlay { wanted, inventory } => {
             overlay_reply(alloc, most, format, inventory, &wanted)
