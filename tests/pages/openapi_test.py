@@ -30,9 +30,11 @@ def got(port, asked, body=None):
     return head.split()[1].decode(), kind and kind[1].decode(), body
 
 
-# what is asked for in either way: a place, which has to be one of them, rows, and lengths
-WAYS = {"/v1/where": [("route", "chainage"), ("link", "mm")]}
-WAYS |= dict.fromkeys(["/v1/rows", "/v1/rows.csv"], [("exact",), ("on_links",)]) | dict.fromkeys(["/v1/lengths", "/v1/lengths.csv"], [(), ("by",)])
+# what is asked for in either way: a place, which has to be one of them, and rows
+WAYS = {"/v1/where": [("route", "chainage"), ("link", "mm")]} | dict.fromkeys(["/v1/rows", "/v1/rows.csv"], [("exact",), ("on_links",)])
+
+# lengths of each value, and of combinations of values
+WAYS |= dict.fromkeys(["/v1/lengths", "/v1/lengths.csv"], [(), ("by",)])
 
 
 def of_another_way(path, name):

@@ -132,7 +132,6 @@ fn told_reply(
         Told::Totals(totals) => Ok(found_reply(totals_json(alloc, totals.as_slice())?)),
         Told::Found(rows) => Ok(found_reply(found_json(alloc, rows.as_slice())?)),
         Told::Where(found) => Ok(found_reply(whereabouts_json(alloc, &found)?)),
-        Told::Lengths(rows) => lengths_reply(alloc, most, format, rows.as_slice()),
         Told::Combinations {
             classes,
             combinations,
@@ -140,6 +139,7 @@ fn told_reply(
             let (classes, rows) = (classes.as_slice(), combinations.as_slice());
             combinations_reply(alloc, most, format, classes, rows)
         }
+        Told::Lengths(rows) => lengths_reply(alloc, most, format, rows.as_slice()),
         Told::Rows { wanted, inventory } => rows_reply(alloc, most, format, inventory, &wanted),
         Told::Overlay { wanted, inventory } => {
             overlay_reply(alloc, most, format, inventory, &wanted)
