@@ -9,4 +9,5 @@ pub mod Listings
 pub mod Parts
 pub mod PagedText
 pub mod Overlay
+pub mod Combinations
 pub mod QuestionAnswers

@@ -6,12 +6,14 @@ use Rattle.lrs_machine.specs.declared.question.Question.{Question}
 use Rattle.lrs_report_answers.specs.declared.fault.AskFault.{AskFault}
 use Rattle.lrs_report_answers.specs.declared.told.Told.{Told}
 use Rattle.lrs_report_answers.specs.declared.told.Told.TheVariants as told
+use Rattle.lrs_report_answers.specs.Combinations.{combinations_text}
 use Rattle.lrs_report_answers.specs.ToldAnswers.{IsTold}
 use Rattle.lrs_report.specs.Drawings.Pictures.{diagram_text}
 use Rattle.lrs_report_lists.specs.Length.Lines.{lengths_text}
 use Rattle.lrs_web_requests.specs.Text.{Answer}
 use Rattle.lrs_web_requests.specs.declared.paths.Format.{Format}
 use Rattle.lrs_web_replies.specs.Answers.{at_data, ShowsRoute, segments_data, translated_data, on_link_data, totals_data, found_data, whereabouts_data, lengths_data, health_data}
+use Rattle.lrs_web_replies.specs.Combinations.{combinations_data}
 use Rattle.lrs_web_replies.specs.Listings.{in_format, listing_answer, rows_answer}
 use Rattle.lrs_web_replies.specs.Overlay.{overlay_answer}
 use Rattle.lrs_web_replies.specs.declared.pages.Page.{Page}
@@ -29,6 +31,7 @@ ShowsTold format page (told.Totals totals) answer = answer ≡ json_answer 200 (
 ShowsTold format page (told.Found rows) answer = answer ≡ json_answer 200 (found_data rows)
 ShowsTold format page (told.Where w) answer = answer ≡ json_answer 200 (whereabouts_data w)
 ShowsTold format page (told.Lengths lengths) answer = answer ≡ in_format format (lengths_data lengths) (lengths_text lengths)
+ShowsTold format page (told.Combinations classes cs) answer = answer ≡ in_format format (combinations_data classes cs) (combinations_text classes cs)
 ShowsTold format page (told.Rows w inventory) answer = answer ≡ rows_answer format page inventory.now w
 ShowsTold format page (told.Overlay w inventory) answer = answer ≡ overlay_answer format page inventory.now w
 ShowsTold format page (told.Listing l inventory) answer = answer ≡ listing_answer format page inventory.now l

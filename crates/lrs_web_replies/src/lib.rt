@@ -3,7 +3,9 @@
 
 mod answers;
 mod bounded;
+mod combinations;
 mod entries;
+mod held;
 mod ledgers;
 mod lines;
 mod list;

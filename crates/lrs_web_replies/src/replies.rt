@@ -14,6 +14,7 @@ use crate::answers::{
     totals_json, translated_json, whereabouts_json,
 };
 use crate::bounded::BoundedBytes;
+use crate::combinations::combinations_reply;
 use crate::lines::lengths_lines;
 use crate::listings::listing_reply;
 use crate::overlay::overlay_reply;
@@ -133,6 +134,13 @@ fn told_reply(
         Told::Totals(totals) => Ok(found_reply(totals_json(alloc, totals.as_slice())?)),
         Told::Found(rows) => Ok(found_reply(found_json(alloc, rows.as_slice())?)),
         Told::Where(found) => Ok(found_reply(whereabouts_json(alloc, &found)?)),
+        Told::Combinations {
+            classes,
+            combinations,
+        } => {
+            let (classes, rows) = (classes.as_slice(), combinations.as_slice());
+            combinations_reply(alloc, most, format, classes, rows)
+        }
         Told::Lengths(rows) => lengths_reply(alloc, most, format, rows.as_slice()),
         Told::Rows { wanted, inventory } => rows_reply(
             alloc, most, format, page, inventory, &wanted,

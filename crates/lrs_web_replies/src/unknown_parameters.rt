@@ -37,9 +37,8 @@ fn unknown_apart<'q>(
             unknown_name(alloc, argument, &known)
         }
         Resource::Refs => unknown_name(alloc, argument, &["route", "exact"]),
-        Resource::Marks | Resource::Pieces | Resource::Lengths => {
-            unknown_name(alloc, argument, &["route"])
-        }
+        Resource::Marks | Resource::Pieces => unknown_name(alloc, argument, &["route"]),
+        Resource::Lengths => unknown_name(alloc, argument, &["route", "by"]),
         Resource::Gone => unknown_name(alloc, argument, &["edit", "since", "until", "class"]),
         Resource::Log => unknown_name(alloc, argument, &["from", "until"]),
         Resource::Routes | Resource::Links | Resource::Classes => {
