@@ -16,6 +16,8 @@ ASKED = {
     "rows": request("GET /v1/rows"),
     "rows as CSV": request("GET /v1/rows.csv"),
     "lengths as CSV": request("GET /v1/lengths.csv"),
+    "combinations": request("GET /v1/lengths?by=SPEED"),
+    "combinations as CSV": request("GET /v1/lengths.csv?by=SPEED"),
     "links": request("GET /v1/links"),
     "marks": request("GET /v1/marks"),
     "find": request("GET /v1/find?asset=10"),

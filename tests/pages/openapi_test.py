@@ -30,8 +30,15 @@ def got(port, asked, body=None):
     return head.split()[1].decode(), kind and kind[1].decode(), body
 
 
-# what is asked for in either way: a place, which has to be one of them, and rows
-WAYS = {"/v1/where": [("route", "chainage"), ("link", "mm")]} | dict.fromkeys(["/v1/rows", "/v1/rows.csv"], [("exact",), ("on_links",)])
+# what is asked for in either way: a place, which has to be one of them, and rows, which on links are told in no pages
+WAYS = {
+    "/v1/where": [("route", "chainage"), ("link", "mm")],
+    "/v1/rows": [("limit", "after", "exact"), ("on_links",)],
+    "/v1/rows.csv": [("exact",), ("on_links",)],
+}
+
+# lengths of each value, and of combinations of values
+WAYS |= dict.fromkeys(["/v1/lengths", "/v1/lengths.csv"], [(), ("by",)])
 
 
 def of_another_way(path, name):
@@ -105,6 +112,13 @@ def test_an_answer_is_as_the_file_says(port, path, said):
     assert body != b"" and b":[]" not in body.replace(b'"hits":[]', b""), (path, body)
 
 
+def test_lengths_by_classes_are_the_example_of_their_schema(port):
+    parameters = API["paths"]["/v1/lengths"]["get"]["parameters"]
+    schema = API["components"]["schemas"]["Combinations"]
+    status, kind, body = got(port, "GET " + target("/v1/lengths", parameters, "by"))
+    assert (status, kind, json.loads(body)) == ("200", "application/json", schema["example"]) and fits(schema["example"], schema)
+
+
 @pytest.mark.parametrize("path, said", QUESTIONS, ids=lambda x: x if isinstance(x, str) else "")
 def test_what_is_missing_is_named(port, path, said):
     for parameter in said["parameters"]:
@@ -147,7 +161,7 @@ def test_a_parameter_that_is_not_there_is_named_or_passed_over_as_the_file_says(
 
 
 # what the inventory does not have, and the status that says so
-ABSENT = {"route": ("Z9", "404"), "name": ("Z9", "404"), "class": ("NONE", "422"), "asset": (99, "422"), "edit": (999_999, "422"), "chainage": (8_001, "422")}
+ABSENT = {"route": ("Z9", "404"), "name": ("Z9", "404"), "class": ("NONE", "422"), "by": ("NONE", "422"), "asset": (99, "422"), "edit": (999_999, "422"), "chainage": (8_001, "422")}
 
 
 @pytest.mark.parametrize("path, said", QUESTIONS, ids=lambda x: x if isinstance(x, str) else "")

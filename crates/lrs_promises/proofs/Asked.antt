@@ -48,6 +48,7 @@ use Rattle.lrs_web_requests.specs.declared.paths.Format.{Format}
 use Rattle.lrs_web_requests.specs.declared.paths.Resource.{Resource}
 use Rattle.lrs_web_requests.specs.declared.paths.Resource.TheVariants as path
 use Rattle.lrs_web_replies.specs.QuestionAnswers.{AnswersQuestion, IsReplyTo, ShowsTold}
+use Rattle.lrs_web_replies.specs.declared.pages.Page.{Page}
 use Rattle.lrs_web_replies.specs.Answers.{found_data, health_data, totals_data}
 use Rattle.lrs_web_replies.specs.Listings.{listing_answer, rows_answer}
 use Rattle.lrs_web_replies.specs.Overlay.{overlay_answer}
@@ -58,7 +59,7 @@ use Rattle.lrs_web_replies.specs.declared.question.Parameter.{Parameter}
 use Rattle.lrs_web_replies.specs.declared.question.Parameter.TheVariants as wanted
 use Rattle.lrs_web_replies.specs.declared.question.QueryFault.{QueryFault}
 use Rattle.lrs_web_replies.specs.declared.question.QueryFault.TheVariants.{Malformed, NoRoute, Memory as Lacking}
-use Rattle.lrs_web.specs.QueryAnswers.{AnswersKnown}
+use Rattle.lrs_web.specs.QueryAnswers.{AnswersPage}
 use Rattle.lrs_promises.proofs.Once.{ok_is_not_err, same_err}
 use Rattle.lrs_promises.proofs.Translated.{TellsTranslated}
 
@@ -109,8 +110,8 @@ list_reply None shown = shown
 list_reply (Some what) shown = refusal (asked.Missing what)
 
 -- a list of the inventory; or what it names, and is not there
-abbrev pub named_reply : Format → Image → Listing → Answer
-named_reply format i l = list_reply (missing_of i l) (listing_answer format i l)
+abbrev pub named_reply : Format → Page → Image → Listing → Answer
+named_reply format page i l = list_reply (missing_of i l) (listing_answer format page i l)
 
 -- what is shown between two ends; or the first fault of an end
 abbrev pub between_reply : (Option ℕ → Option ℕ → Answer) → Result (Option ℕ) AskFault → Result (Option ℕ) AskFault → Answer
@@ -119,9 +120,9 @@ between_reply shown (Ok first) (Err fault) = refusal fault
 between_reply shown (Err fault) to = refusal fault
 
 -- the rows that are asked for; or what they name, and is not there
-abbrev pub rows_reply : Format → Image → RowsAsked → Answer
-rows_reply format i a =
-    list_reply (missing_row i (wanted_of a None None)) (between_reply (λ first last. rows_answer format i (wanted_of a first last)) (end_of i a.route From a.from) (end_of i a.route To a.to))
+abbrev pub rows_reply : Format → Page → Image → RowsAsked → Answer
+rows_reply format page i a =
+    list_reply (missing_row i (wanted_of a None None)) (between_reply (λ first last. rows_answer format page i (wanted_of a first last)) (end_of i a.route From a.from) (end_of i a.route To a.to))
 
 -- what is shown, unless the classes refuse it
 abbrev pub classes_reply : Option SegFault → Answer → Answer
@@ -129,34 +130,34 @@ classes_reply None shown = shown
 classes_reply (Some fault) shown = refusal (asked.Seg fault)
 
 -- the overlay that is asked for; or the route is not there, or the classes refuse it
-abbrev pub overlay_reply : Format → Image → OverlayAsked → Answer
-overlay_reply format i a =
+abbrev pub overlay_reply : Format → Page → Image → OverlayAsked → Answer
+overlay_reply format page i a =
     list_reply (missing_route i a.route)
     (classes_reply (segment_fault (class_list (state_of i)) a.classes L)
-    (between_reply (λ first last. overlay_answer format i (overlay_wanted a first last)) (end_of i a.route From a.from) (end_of i a.route To a.to)))
+    (between_reply (λ first last. overlay_answer format page i (overlay_wanted a first last)) (end_of i a.route From a.from) (end_of i a.route To a.to)))
 
 -- a position was asked for, and told
-pub record AtTold (format : Format) (query : Text) (i : Image) (answer : Answer) : Type 0 where
+pub record AtTold (format : Format) (page : Page) (query : Text) (i : Image) (answer : Answer) : Type 0 where
   pub route : Name
   pub position : Expr
   pub gives_route : GivesRoute query route
   pub gives_position : GivesPosition query position
-  pub tells : AnswersQuestion format i (question.At route position) answer
+  pub tells : AnswersQuestion format page i (question.At route position) answer
   pub served : answer.status ≡ 503 → ⊥
 
 -- segments were asked for, and told
-pub record SegmentsTold (format : Format) (query : Text) (i : Image) (answer : Answer) : Type 0 where
+pub record SegmentsTold (format : Format) (page : Page) (query : Text) (i : Image) (answer : Answer) : Type 0 where
   pub route : Name
   pub side : Side
   pub classes : List Name
   pub gives_route : GivesRoute query route
   pub gives_side : GivesSide query side
   pub gives_classes : GivesClasses query classes
-  pub tells : AnswersQuestion format i (question.Segments route side classes) answer
+  pub tells : AnswersQuestion format page i (question.Segments route side classes) answer
   pub served : answer.status ≡ 503 → ⊥
 
 -- a position by another method, or on its link, was asked for, and told
-pub record TranslateTold (format : Format) (query : Text) (i : Image) (answer : Answer) : Type 0 where
+pub record TranslateTold (format : Format) (page : Page) (query : Text) (i : Image) (answer : Answer) : Type 0 where
   pub route : Name
   pub position : Expr
   pub to : Destination
@@ -165,7 +166,7 @@ pub record TranslateTold (format : Format) (query : Text) (i : Image) (answer : 
   pub gives_to : GivesDestination query to
   pub said : Result Told AskFault
   pub tells : TellsTranslated (state_of i) route position to said
-  pub shows : IsReplyTo format said answer
+  pub shows : IsReplyTo format page said answer
   pub served : answer.status ≡ 503 → ⊥
 
 tells_translated : (i : Image) (route : Name) (e : Expr) (to : Destination) (said : Result Told AskFault) → IsTold i (question.Translate route e to) said → TellsTranslated (state_of i) route e to said
@@ -173,21 +174,21 @@ tells_translated i route e (destination.Method t) said h = h
 tells_translated i route e destination.Link said h = h
 
 -- a place was asked for, and told
-pub record WhereTold (format : Format) (query : Text) (i : Image) (answer : Answer) : Type 0 where
+pub record WhereTold (format : Format) (page : Page) (query : Text) (i : Image) (answer : Answer) : Type 0 where
   pub spot : AskedPlace
   pub gives_spot : GivesSpot query spot
-  pub tells : AnswersQuestion format i (question.Where spot) answer
+  pub tells : AnswersQuestion format page i (question.Where spot) answer
   pub served : answer.status ≡ 503 → ⊥
 
 -- lengths were asked for, and told
-pub record LengthsTold (format : Format) (query : Text) (i : Image) (answer : Answer) : Type 0 where
+pub record LengthsTold (format : Format) (page : Page) (query : Text) (i : Image) (answer : Answer) : Type 0 where
   pub route : Option Name
   pub gives_route : GivesRouteOrAll query route
-  pub tells : AnswersQuestion format i (question.Lengths route) answer
+  pub tells : AnswersQuestion format page i (question.Lengths route) answer
   pub served : answer.status ≡ 503 → ⊥
 
 -- a diagram was asked for, and told
-pub record DiagramTold (format : Format) (query : Text) (i : Image) (answer : Answer) : Type 0 where
+pub record DiagramTold (format : Format) (page : Page) (query : Text) (i : Image) (answer : Answer) : Type 0 where
   pub route : Name
   pub classes : List Name
   pub from : Option Place
@@ -196,14 +197,14 @@ pub record DiagramTold (format : Format) (query : Text) (i : Image) (answer : An
   pub gives_classes : GivesClassesOrAll query classes
   pub gives_from : GivesFrom query from
   pub gives_to : GivesUpTo query to
-  pub tells : AnswersQuestion format i (question.Diagram route classes from to) answer
+  pub tells : AnswersQuestion format page i (question.Diagram route classes from to) answer
   pub served : answer.status ≡ 503 → ⊥
 
 -- the route of a name was asked for, and told; or the name is none
-abbrev pub RouteTold : Format → Text → Image → Answer → Type 0
-RouteTold format name i answer = ((route : Name) × SaysRoute name route × AnswersQuestion format i (question.Route route) answer) ⊎ ((IsTrue (is_route_name name) → ⊥) × (answer ≡ unasked NoRoute))
+abbrev pub RouteTold : Format → Page → Text → Image → Answer → Type 0
+RouteTold format page name i answer = ((route : Name) × SaysRoute name route × AnswersQuestion format page i (question.Route route) answer) ⊎ ((IsTrue (is_route_name name) → ⊥) × (answer ≡ unasked NoRoute))
 
-module _ (format : Format) (i : Image) (query : Text) (answer : Answer) (served : answer.status ≡ 503 → ⊥) where
+module _ (format : Format) (page : Page) (i : Image) (query : Text) (answer : Answer) (served : answer.status ≡ 503 → ⊥) where
   not_asked : (resource : Resource) (Shows : Answer → Type 0) (fault : QueryFault) → (CannotAsk resource query NoRoute → ⊥) → CannotAsk resource query fault → answer ≡ unasked fault
       → Splits query (parameters_of resource query) Shows answer
   not_asked resource Shows (Malformed p) named cannot is = inr (p, cannot, is)
@@ -211,127 +212,127 @@ module _ (format : Format) (i : Image) (query : Text) (answer : Answer) (served 
   not_asked resource Shows Lacking named cannot is = absurd (served (ap (λ (a : Answer). a.status) is))
 
   pub splits : (resource : Resource) (Shows : Answer → Type 0) → (CannotAsk resource query NoRoute → ⊥)
-      → ((q : Question) → AsksOf resource query q → AnswersQuestion format i q answer → Shows answer) → AnswersKnown i format resource query answer → Splits query (parameters_of resource query) Shows answer
+      → ((q : Question) → AsksOf resource query q → AnswersQuestion format page i q answer → Shows answer) → AnswersPage i format page resource query answer → Splits query (parameters_of resource query) Shows answer
   splits resource Shows named by_question (inl (q, asks, told)) = inl (by_question q asks told)
   splits resource Shows named by_question (inr (fault, cannot, is)) = not_asked resource Shows fault named cannot is
 
   -- ---- questions
 
   -- what is answered to a question is answered to the one that it is
-  asked_of : (q other : Question) → q ≡ other → AnswersQuestion format i q answer → AnswersQuestion format i other answer
-  asked_of q other is = subst (λ (r : Question). AnswersQuestion format i r answer) is
+  asked_of : (q other : Question) → q ≡ other → AnswersQuestion format page i q answer → AnswersQuestion format page i other answer
+  asked_of q other is = subst (λ (r : Question). AnswersQuestion format page i r answer) is
 
   lacks_memory : (fault : AskFault) → fault ≡ Memory → answer ≡ refusal fault → ⊥
   lacks_memory fault memory is = served (ap (λ (a : Answer). a.status) (is ∙ ap refusal memory))
 
-  totals_said : (said : Result Told AskFault) → Tells (UnlessMemory (λ totals. totals ≡ totals_of (state_of i))) told.Totals said → IsReplyTo format said answer
+  totals_said : (said : Result Told AskFault) → Tells (UnlessMemory (λ totals. totals ≡ totals_of (state_of i))) told.Totals said → IsReplyTo format page said answer
       → answer ≡ json_answer 200 (totals_data (totals_of (state_of i)))
-  totals_said (Ok t) (totals, are, is) shows = subst (λ u. ShowsTold format u answer) is shows ∙ ap (λ ts. json_answer 200 (totals_data ts)) are
+  totals_said (Ok t) (totals, are, is) shows = subst (λ u. ShowsTold format page u answer) is shows ∙ ap (λ ts. json_answer 200 (totals_data ts)) are
   totals_said (Err fault) memory is = absurd (lacks_memory fault memory is)
 
   found_said : {A : Type 0} (said : Result Told AskFault) (o : Option A) (rows : List FoundRow)
-      → Tells (λ result. MatchOption o (result ≡ Err asset_missing) (λ a. UnlessMemory (λ found. found ≡ rows) result)) told.Found said → IsReplyTo format said answer → answer ≡ find_reply o rows
+      → Tells (λ result. MatchOption o (result ≡ Err asset_missing) (λ a. UnlessMemory (λ found. found ≡ rows) result)) told.Found said → IsReplyTo format page said answer → answer ≡ find_reply o rows
   found_said (Ok t) None rows (found, never, is) shows = absurd (ok_is_not_err found asset_missing never)
-  found_said (Ok t) (Some a) rows (found, are, is) shows = subst (λ u. ShowsTold format u answer) is shows ∙ ap (λ rs. json_answer 200 (found_data rs)) are
+  found_said (Ok t) (Some a) rows (found, are, is) shows = subst (λ u. ShowsTold format page u answer) is shows ∙ ap (λ rs. json_answer 200 (found_data rs)) are
   found_said (Err fault) None rows is shows = shows ∙ ap refusal (same_err fault asset_missing is)
   found_said (Err fault) (Some a) rows memory shows = absurd (lacks_memory fault memory shows)
 
-  listed_said : (said : Result Told AskFault) (l : Listing) (o : Option Missing) → Tells (UnlessMissing o (λ result. MatchResult result (λ inventory. inventory.now ≡ i) (λ fault. ⊥))) (told.Listing l) said → IsReplyTo format said answer
-      → answer ≡ list_reply o (listing_answer format i l)
-  listed_said (Ok t) l None (inventory, same, is) shows = subst (λ u. ShowsTold format u answer) is shows ∙ ap (λ (j : Image). listing_answer format j l) same
+  listed_said : (said : Result Told AskFault) (l : Listing) (o : Option Missing) → Tells (UnlessMissing o (λ result. MatchResult result (λ inventory. inventory.now ≡ i) (λ fault. ⊥))) (told.Listing l) said → IsReplyTo format page said answer
+      → answer ≡ list_reply o (listing_answer format page i l)
+  listed_said (Ok t) l None (inventory, same, is) shows = subst (λ u. ShowsTold format page u answer) is shows ∙ ap (λ (j : Image). listing_answer format page j l) same
   listed_said (Ok t) l (Some what) (inventory, never, is) shows = absurd (ok_is_not_err inventory (asked.Missing what) never)
   listed_said (Err fault) l None never shows = absurd never
   listed_said (Err fault) l (Some what) is shows = shows ∙ ap refusal (same_err fault (asked.Missing what) is)
 
-  pub listed : (l : Listing) (q : Question) → q ≡ question.List l → AnswersQuestion format i q answer → answer ≡ list_reply (missing_of i l) (listing_answer format i l)
+  pub listed : (l : Listing) (q : Question) → q ≡ question.List l → AnswersQuestion format page i q answer → answer ≡ list_reply (missing_of i l) (listing_answer format page i l)
   listed l q is h = let (said, tells, shows) = asked_of q (question.List l) is h in listed_said said l (missing_of i l) tells shows
 
   -- a list without a parameter
-  pub list_told : (l : Listing) → missing_of i l ≡ None → (q : Question) → q ≡ question.List l → AnswersQuestion format i q answer → answer ≡ listing_answer format i l
-  list_told l none q is h = listed l q is h ∙ ap (λ o. list_reply o (listing_answer format i l)) none
+  pub list_told : (l : Listing) → missing_of i l ≡ None → (q : Question) → q ≡ question.List l → AnswersQuestion format page i q answer → answer ≡ listing_answer format page i l
+  list_told l none q is h = listed l q is h ∙ ap (λ o. list_reply o (listing_answer format page i l)) none
 
-  health_said : (said : Result Told AskFault) → said ≡ Ok (told.Health (length i.edits)) → IsReplyTo format said answer → answer ≡ json_answer 200 (health_data (length i.edits))
-  health_said said is shows = subst (λ r. IsReplyTo format r answer) is shows
+  health_said : (said : Result Told AskFault) → said ≡ Ok (told.Health (length i.edits)) → IsReplyTo format page said answer → answer ≡ json_answer 200 (health_data (length i.edits))
+  health_said said is shows = subst (λ r. IsReplyTo format page r answer) is shows
 
-  pub health_told : (q : Question) → q ≡ question.Health → AnswersQuestion format i q answer → answer ≡ json_answer 200 (health_data (length i.edits))
+  pub health_told : (q : Question) → q ≡ question.Health → AnswersQuestion format page i q answer → answer ≡ json_answer 200 (health_data (length i.edits))
   health_told q is h = let (said, tells, shows) = asked_of q question.Health is h in health_said said tells shows
 
-  pub totals_told : (q : Question) → q ≡ question.Totals → AnswersQuestion format i q answer → answer ≡ json_answer 200 (totals_data (totals_of (state_of i)))
+  pub totals_told : (q : Question) → q ≡ question.Totals → AnswersQuestion format page i q answer → answer ≡ json_answer 200 (totals_data (totals_of (state_of i)))
   totals_told q is h = let (said, tells, shows) = asked_of q question.Totals is h in totals_said said tells shows
 
   -- what is told of the inventory between two ends
   between_said : (told_of : Option ℕ → Option ℕ → Bor Image → Told) (shown : Option ℕ → Option ℕ → Answer)
-      → ((first last : Option ℕ) (inventory : Bor Image) → inventory.now ≡ i → ShowsTold format (told_of first last inventory) answer → answer ≡ shown first last) → (said : Result Told AskFault)
+      → ((first last : Option ℕ) (inventory : Bor Image) → inventory.now ≡ i → ShowsTold format page (told_of first last inventory) answer → answer ≡ shown first last) → (said : Result Told AskFault)
       (from to : Result (Option ℕ) AskFault) → MatchResult from (λ first. MatchResult to (λ last. Tells (IsInventory i) (told_of first last) said) (λ fault. said ≡ Err fault)) (λ fault. said ≡ Err fault)
-      → IsReplyTo format said answer → answer ≡ between_reply shown from to
-  between_said told_of shown one said (Err fault) to h shows = subst (λ r. IsReplyTo format r answer) h shows
-  between_said told_of shown one said (Ok first) (Err fault) h shows = subst (λ r. IsReplyTo format r answer) h shows
-  between_said told_of shown one (Ok t) (Ok first) (Ok last) (inventory, same, is) shows = one first last inventory same (subst (λ u. ShowsTold format u answer) is shows)
+      → IsReplyTo format page said answer → answer ≡ between_reply shown from to
+  between_said told_of shown one said (Err fault) to h shows = subst (λ r. IsReplyTo format page r answer) h shows
+  between_said told_of shown one said (Ok first) (Err fault) h shows = subst (λ r. IsReplyTo format page r answer) h shows
+  between_said told_of shown one (Ok t) (Ok first) (Ok last) (inventory, same, is) shows = one first last inventory same (subst (λ u. ShowsTold format page u answer) is shows)
   between_said told_of shown one (Err fault) (Ok first) (Ok last) never shows = absurd never
 
   rows_said : (said : Result Told AskFault) (a : RowsAsked) (o : Option Missing)
-      → UnlessMissing o (OnStretch i a.route a.from a.to (λ first last. Tells (IsInventory i) (told.Rows (wanted_of a first last)))) said → IsReplyTo format said answer
-      → answer ≡ list_reply o (between_reply (λ first last. rows_answer format i (wanted_of a first last)) (end_of i a.route From a.from) (end_of i a.route To a.to))
+      → UnlessMissing o (OnStretch i a.route a.from a.to (λ first last. Tells (IsInventory i) (told.Rows (wanted_of a first last)))) said → IsReplyTo format page said answer
+      → answer ≡ list_reply o (between_reply (λ first last. rows_answer format page i (wanted_of a first last)) (end_of i a.route From a.from) (end_of i a.route To a.to))
   rows_said said a None tells shows =
-      between_said (λ first last. told.Rows (wanted_of a first last)) (λ first last. rows_answer format i (wanted_of a first last))
-      (λ first last inventory same is. is ∙ ap (λ (j : Image). rows_answer format j (wanted_of a first last)) same) said (end_of i a.route From a.from) (end_of i a.route To a.to) tells shows
-  rows_said said a (Some what) tells shows = subst (λ r. IsReplyTo format r answer) tells shows
+      between_said (λ first last. told.Rows (wanted_of a first last)) (λ first last. rows_answer format page i (wanted_of a first last))
+      (λ first last inventory same is. is ∙ ap (λ (j : Image). rows_answer format page j (wanted_of a first last)) same) said (end_of i a.route From a.from) (end_of i a.route To a.to) tells shows
+  rows_said said a (Some what) tells shows = subst (λ r. IsReplyTo format page r answer) tells shows
 
-  pub rows_told : (q : Question) → AsksOf path.Rows query q → AnswersQuestion format i q answer → (a : RowsAsked) × GivesRows query a × (answer ≡ rows_reply format i a)
+  pub rows_told : (q : Question) → AsksOf path.Rows query q → AnswersQuestion format page i q answer → (a : RowsAsked) × GivesRows query a × (answer ≡ rows_reply format page i a)
   rows_told q (a, gives, is) h =
       let (said, tells, shows) = asked_of q (question.Rows a) is h in
       (a, gives, rows_said said a (missing_row i (wanted_of a None None)) tells shows)
 
   overlay_said : (said : Result Told AskFault) (a : OverlayAsked) (o : Option Missing) (refuses : Option SegFault)
-      → UnlessMissing o (UnlessRefused refuses (OnStretch i a.route a.from a.to (λ first last. Tells (IsInventory i) (told.Overlay (overlay_wanted a first last))))) said → IsReplyTo format said answer
-      → answer ≡ list_reply o (classes_reply refuses (between_reply (λ first last. overlay_answer format i (overlay_wanted a first last)) (end_of i a.route From a.from) (end_of i a.route To a.to)))
+      → UnlessMissing o (UnlessRefused refuses (OnStretch i a.route a.from a.to (λ first last. Tells (IsInventory i) (told.Overlay (overlay_wanted a first last))))) said → IsReplyTo format page said answer
+      → answer ≡ list_reply o (classes_reply refuses (between_reply (λ first last. overlay_answer format page i (overlay_wanted a first last)) (end_of i a.route From a.from) (end_of i a.route To a.to)))
   overlay_said said a None None tells shows =
-      between_said (λ first last. told.Overlay (overlay_wanted a first last)) (λ first last. overlay_answer format i (overlay_wanted a first last))
-      (λ first last inventory same is. is ∙ ap (λ (j : Image). overlay_answer format j (overlay_wanted a first last)) same) said (end_of i a.route From a.from) (end_of i a.route To a.to) tells shows
-  overlay_said said a None (Some fault) tells shows = subst (λ r. IsReplyTo format r answer) tells shows
-  overlay_said said a (Some what) refuses tells shows = subst (λ r. IsReplyTo format r answer) tells shows
+      between_said (λ first last. told.Overlay (overlay_wanted a first last)) (λ first last. overlay_answer format page i (overlay_wanted a first last))
+      (λ first last inventory same is. is ∙ ap (λ (j : Image). overlay_answer format page j (overlay_wanted a first last)) same) said (end_of i a.route From a.from) (end_of i a.route To a.to) tells shows
+  overlay_said said a None (Some fault) tells shows = subst (λ r. IsReplyTo format page r answer) tells shows
+  overlay_said said a (Some what) refuses tells shows = subst (λ r. IsReplyTo format page r answer) tells shows
 
-  pub overlay_told : (q : Question) → AsksOf path.Overlay query q → AnswersQuestion format i q answer → (a : OverlayAsked) × GivesOverlay query a × (answer ≡ overlay_reply format i a)
+  pub overlay_told : (q : Question) → AsksOf path.Overlay query q → AnswersQuestion format page i q answer → (a : OverlayAsked) × GivesOverlay query a × (answer ≡ overlay_reply format page i a)
   overlay_told q (a, gives, is) h =
       let (said, tells, shows) = asked_of q (question.Overlay a) is h in
       (a, gives, overlay_said said a (missing_route i a.route) (segment_fault (class_list (state_of i)) a.classes L) tells shows)
 
-  pub refs_told : (q : Question) → AsksOf path.Refs query q → AnswersQuestion format i q answer
-      → (route : Option Name) × (exact : Bool) × GivesRouteOrAll query route × GivesExact query exact × (answer ≡ named_reply format i (listing.Refs route exact))
+  pub refs_told : (q : Question) → AsksOf path.Refs query q → AnswersQuestion format page i q answer
+      → (route : Option Name) × (exact : Bool) × GivesRouteOrAll query route × GivesExact query exact × (answer ≡ named_reply format page i (listing.Refs route exact))
   refs_told q (route, exact, gives, told, is) h = (route, exact, gives, told, listed (listing.Refs route exact) q is h)
 
-  pub marks_told : (q : Question) → AsksOf path.Marks query q → AnswersQuestion format i q answer → (route : Option Name) × GivesRouteOrAll query route × (answer ≡ named_reply format i (listing.Marks route))
+  pub marks_told : (q : Question) → AsksOf path.Marks query q → AnswersQuestion format page i q answer → (route : Option Name) × GivesRouteOrAll query route × (answer ≡ named_reply format page i (listing.Marks route))
   marks_told q (route, gives, is) h = (route, gives, listed (listing.Marks route) q is h)
 
-  pub pieces_told : (q : Question) → AsksOf path.Pieces query q → AnswersQuestion format i q answer → (route : Option Name) × GivesRouteOrAll query route × (answer ≡ named_reply format i (listing.Pieces route))
+  pub pieces_told : (q : Question) → AsksOf path.Pieces query q → AnswersQuestion format page i q answer → (route : Option Name) × GivesRouteOrAll query route × (answer ≡ named_reply format page i (listing.Pieces route))
   pieces_told q (route, gives, is) h = (route, gives, listed (listing.Pieces route) q is h)
 
-  pub gone_told : (q : Question) → AsksOf path.Gone query q → AnswersQuestion format i q answer → (w : GoneWanted) × GivesGone query w × (answer ≡ named_reply format i (listing.Gone w))
+  pub gone_told : (q : Question) → AsksOf path.Gone query q → AnswersQuestion format page i q answer → (w : GoneWanted) × GivesGone query w × (answer ≡ named_reply format page i (listing.Gone w))
   gone_told q (w, gives, is) h = (w, gives, listed (listing.Gone w) q is h)
 
-  pub history_told : (q : Question) → AsksOf path.History query q → AnswersQuestion format i q answer → (asset : ℕ) × GivesAsset query asset × (answer ≡ named_reply format i (listing.History asset))
+  pub history_told : (q : Question) → AsksOf path.History query q → AnswersQuestion format page i q answer → (asset : ℕ) × GivesAsset query asset × (answer ≡ named_reply format page i (listing.History asset))
   history_told q (asset, gives, is) h = (asset, gives, listed (listing.History asset) q is h)
 
-  pub log_told : (q : Question) → AsksOf path.Log query q → AnswersQuestion format i q answer
-      → (from : ℕ) × (until : Option ℕ) × GivesFirstEdit query from × GivesUntil query until × (answer ≡ named_reply format i (listing.Log from until))
+  pub log_told : (q : Question) → AsksOf path.Log query q → AnswersQuestion format page i q answer
+      → (from : ℕ) × (until : Option ℕ) × GivesFirstEdit query from × GivesUntil query until × (answer ≡ named_reply format page i (listing.Log from until))
   log_told q (from, until, gives, ends, is) h = (from, until, gives, ends, listed (listing.Log from until) q is h)
 
-  pub find_told : (q : Question) → AsksOf path.Find query q → AnswersQuestion format i q answer → (asset : ℕ) × GivesAsset query asset × (answer ≡ find_reply (get (state_of i).assets asset) (all_rows_of (state_of i) asset))
+  pub find_told : (q : Question) → AsksOf path.Find query q → AnswersQuestion format page i q answer → (asset : ℕ) × GivesAsset query asset × (answer ≡ find_reply (get (state_of i).assets asset) (all_rows_of (state_of i) asset))
   find_told q (asset, gives, is) h =
       let (said, tells, shows) = asked_of q (question.Find asset) is h in
       (asset, gives, found_said said (get (state_of i).assets asset) (all_rows_of (state_of i) asset) tells shows)
 
-  pub at_told : (q : Question) → AsksOf path.At query q → AnswersQuestion format i q answer → AtTold format query i answer
+  pub at_told : (q : Question) → AsksOf path.At query q → AnswersQuestion format page i q answer → AtTold format page query i answer
   at_told q (route, e, by_route, by_position, is) h =
       record { route = route; position = e; gives_route = by_route; gives_position = by_position; tells = asked_of q (question.At route e) is h; served = served }
 
-  pub where_told : (q : Question) → AsksOf path.Where query q → AnswersQuestion format i q answer → WhereTold format query i answer
+  pub where_told : (q : Question) → AsksOf path.Where query q → AnswersQuestion format page i q answer → WhereTold format page query i answer
   where_told q (s, gives, is) h = record { spot = s; gives_spot = gives; tells = asked_of q (question.Where s) is h; served = served }
 
-  pub lengths_told : (q : Question) → AsksOf path.Lengths query q → AnswersQuestion format i q answer → LengthsTold format query i answer
+  pub lengths_told : (q : Question) → AsksOf path.Lengths query q → AnswersQuestion format page i q answer → LengthsTold format page query i answer
   lengths_told q (route, gives, is) h = record { route = route; gives_route = gives; tells = asked_of q (question.Lengths route) is h; served = served }
 
-  pub segments_told : (q : Question) → AsksOf path.Segments query q → AnswersQuestion format i q answer → SegmentsTold format query i answer
+  pub segments_told : (q : Question) → AsksOf path.Segments query q → AnswersQuestion format page i q answer → SegmentsTold format page query i answer
   segments_told q (route, side, classes, by_route, by_side, by_classes, is) h = record {
     route = route;
     side = side;
@@ -343,7 +344,7 @@ module _ (format : Format) (i : Image) (query : Text) (answer : Answer) (served 
     served = served;
   }
 
-  pub translate_told : (q : Question) → AsksOf path.Translate query q → AnswersQuestion format i q answer → TranslateTold format query i answer
+  pub translate_told : (q : Question) → AsksOf path.Translate query q → AnswersQuestion format page i q answer → TranslateTold format page query i answer
   translate_told q (route, e, to, by_route, by_position, by_to, is) h =
       let (said, tells, shows) = asked_of q (question.Translate route e to) is h in
       record {
@@ -359,7 +360,7 @@ module _ (format : Format) (i : Image) (query : Text) (answer : Answer) (served 
         served = served;
       }
 
-  pub diagram_told : (q : Question) → AsksOf path.Diagram query q → AnswersQuestion format i q answer → DiagramTold format query i answer
+  pub diagram_told : (q : Question) → AsksOf path.Diagram query q → AnswersQuestion format page i q answer → DiagramTold format page query i answer
   diagram_told q (route, classes, from, to, by_route, by_classes, by_from, by_to, is) h = record {
     route = route;
     classes = classes;
@@ -373,7 +374,7 @@ module _ (format : Format) (i : Image) (query : Text) (answer : Answer) (served 
     served = served;
   }
 
-  pub route_told : AnswersKnown i format path.Route query answer → RouteTold format query i answer
+  pub route_told : AnswersPage i format page path.Route query answer → RouteTold format page query i answer
   route_told (inl (q, (route, says, is), told)) = inl (route, says, asked_of q (question.Route route) is told)
   route_told (inr (Malformed p, cannot, is)) = absurd cannot
   route_told (inr (NoRoute, cannot, is)) = inr (cannot, is)

@@ -6,6 +6,7 @@ pub mod Amid
 pub mod Stopped
 pub mod Served
 pub mod Parameters
+pub mod GivenPages
 pub mod Once
 pub mod Places
 pub mod Translated

@@ -34,6 +34,7 @@ use Rattle.lrs_report_answers.specs.declared.told.Told.{Told}
 use Rattle.lrs_web_requests.specs.Text.{Answer}
 use Rattle.lrs_web_requests.specs.declared.paths.Format.{Format}
 use Rattle.lrs_web_replies.specs.QuestionAnswers.{IsReplyTo, ShowsTold}
+use Rattle.lrs_web_replies.specs.declared.pages.Page.{Page}
 use Rattle.lrs_web_replies.specs.Replies.{refusal}
 
 pub same_some : {A : Type 0} (x y : A) → ◌≡◌ {A = Option A} (Some x) (Some y) → x ≡ y
@@ -148,10 +149,10 @@ segmented_once s name wanted side = on_route s name (λ a result. MatchOption (s
 
 -- ---- replies
 
-module _ (format : Format) where
+module _ (format : Format) (page : Page) where
   -- the reply to an answer, or to why there is none
   abbrev Replies : {A : Type 0} → (A → Told) → Result A AskFault → Answer → Type 0
-  Replies told_of (Ok x) answer = ShowsTold format (told_of x) answer
+  Replies told_of (Ok x) answer = ShowsTold format page (told_of x) answer
   Replies told_of (Err fault) answer = answer ≡ refusal fault
 
   -- an answer passes, memory did not run out for it, and this is the reply to it
@@ -162,12 +163,12 @@ module _ (format : Format) where
     pub shows : Replies told_of found answer
 
   replied : {A : Type 0} (Passes : Result A AskFault → Type 0) (told_of : A → Told) (answer : Answer) → (answer.status ≡ 503 → ⊥) → (said : Result Told AskFault)
-      → Tells Passes told_of said → IsReplyTo format said answer → Replied Passes told_of answer
+      → Tells Passes told_of said → IsReplyTo format page said answer → Replied Passes told_of answer
   replied Passes told_of answer served (Ok t) (x, passes, is) shows = record {
     found = Ok x;
     passes = passes;
     some = ok_is_not_err x Memory;
-    shows = subst (λ u. ShowsTold format u answer) is shows;
+    shows = subst (λ u. ShowsTold format page u answer) is shows;
   }
   replied Passes told_of answer served (Err fault) passes shows = record {
     found = Err fault;
@@ -176,14 +177,14 @@ module _ (format : Format) where
     shows = shows;
   }
 
-  one_reply : {A : Type 0} (told_of : A → Told) → ((x : A) (a b : Answer) → ShowsTold format (told_of x) a → ShowsTold format (told_of x) b → a ≡ b)
+  one_reply : {A : Type 0} (told_of : A → Told) → ((x : A) (a b : Answer) → ShowsTold format page (told_of x) a → ShowsTold format page (told_of x) b → a ≡ b)
       → (found : Result A AskFault) (a b : Answer) → Replies told_of found a → Replies told_of found b → a ≡ b
   one_reply told_of one (Ok x) a b h g = one x a b h g
   one_reply told_of one (Err fault) a b h g = h ∙ sym g
 
   -- two replies to what passes are one
-  pub told_once : {A : Type 0} (Passes : Result A AskFault → Type 0) (told_of : A → Told) → OneUnlessMemory Passes → ((x : A) (a b : Answer) → ShowsTold format (told_of x) a → ShowsTold format (told_of x) b → a ≡ b)
-      → (a b : Answer) → (a.status ≡ 503 → ⊥) → (b.status ≡ 503 → ⊥) → (said other : Result Told AskFault) → Tells Passes told_of said → Tells Passes told_of other → IsReplyTo format said a → IsReplyTo format other b → a ≡ b
+  pub told_once : {A : Type 0} (Passes : Result A AskFault → Type 0) (told_of : A → Told) → OneUnlessMemory Passes → ((x : A) (a b : Answer) → ShowsTold format page (told_of x) a → ShowsTold format page (told_of x) b → a ≡ b)
+      → (a b : Answer) → (a.status ≡ 503 → ⊥) → (b.status ≡ 503 → ⊥) → (said other : Result Told AskFault) → Tells Passes told_of said → Tells Passes told_of other → IsReplyTo format page said a → IsReplyTo format page other b → a ≡ b
   told_once Passes told_of once one a b served also said other tells more h g =
       let x = replied Passes told_of a served said tells h in
       let y = replied Passes told_of b also other more g in
@@ -192,14 +193,14 @@ module _ (format : Format) where
 
   -- so are two that are told of a stretch between two ends
   pub stretch_once : {A : Type 0} (i : Image) (route : Option Name) (from to : Option PlaceOfRoute) (Passes : Option ℕ → Option ℕ → Result A AskFault → Type 0) (told_of : A → Told)
-      → ((first last : Option ℕ) → OneUnlessMemory (Passes first last)) → ((x : A) (a b : Answer) → ShowsTold format (told_of x) a → ShowsTold format (told_of x) b → a ≡ b)
+      → ((first last : Option ℕ) → OneUnlessMemory (Passes first last)) → ((x : A) (a b : Answer) → ShowsTold format page (told_of x) a → ShowsTold format page (told_of x) b → a ≡ b)
       → (a b : Answer) → (a.status ≡ 503 → ⊥) → (b.status ≡ 503 → ⊥) → (said other : Result Told AskFault)
       → OnStretch i route from to (λ first last. Tells (Passes first last) told_of) said → OnStretch i route from to (λ first last. Tells (Passes first last) told_of) other
-      → IsReplyTo format said a → IsReplyTo format other b → a ≡ b
+      → IsReplyTo format page said a → IsReplyTo format page other b → a ≡ b
   stretch_once {A} i route from to Passes told_of once one a b served also said other tells more h g = by (end_of i route From from) (end_of i route To to) tells more
     where
       refused : (fault : AskFault) → said ≡ Err fault → other ≡ Err fault → a ≡ b
-      refused fault x y = subst (λ r. IsReplyTo format r a) x h ∙ sym (subst (λ r. IsReplyTo format r b) y g)
+      refused fault x y = subst (λ r. IsReplyTo format page r a) x h ∙ sym (subst (λ r. IsReplyTo format page r b) y g)
 
       by : (f t : Result (Option ℕ) AskFault)
           → MatchResult f (λ first. MatchResult t (λ last. Tells (Passes first last) told_of said) (λ fault. said ≡ Err fault)) (λ fault. said ≡ Err fault)

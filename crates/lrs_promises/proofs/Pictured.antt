@@ -50,6 +50,7 @@ use Rattle.lrs_machine.specs.declared.segment.SegFault.TheVariants as seg
 use Rattle.lrs_web_requests.specs.Text.{Answer}
 use Rattle.lrs_web_requests.specs.declared.paths.Format.{Format}
 use Rattle.lrs_web_replies.specs.QuestionAnswers.{ShowsTold}
+use Rattle.lrs_web_replies.specs.declared.pages.Page.{Page}
 use Rattle.lrs_web_replies.specs.Answers.{route_data}
 use Rattle.lrs_web_replies.specs.Replies.{json_answer}
 use Rattle.lrs_promises.proofs.Framed.{first_same, rest_same}
@@ -64,8 +65,8 @@ named_once i name r q h g some also = by (find (is_named name) i.routes) h g
     by None x y = x ∙ sym y
     by (Some e) x y = unless_memory (λ route. route ≡ e.route) (λ c d k l. k ∙ sym l) r q x y some also
 
-pub route_once : (format : Format) (r : Route) (a b : Answer) → ShowsTold format (told.Route r) a → ShowsTold format (told.Route r) b → a ≡ b
-route_once format r a b (d, h, is) (e, g, also) =
+pub route_once : (format : Format) (page : Page) (r : Route) (a b : Answer) → ShowsTold format page (told.Route r) a → ShowsTold format page (told.Route r) b → a ≡ b
+route_once format page r a b (d, h, is) (e, g, also) =
     let pieces = fewest-same h.pieces g.pieces h.fewest g.fewest (h.course ∙ sym g.course) in
     is ∙ ap (json_answer 200) (h.is ∙ ap (route_data r) pieces ∙ sym g.is) ∙ sym also
 

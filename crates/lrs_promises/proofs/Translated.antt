@@ -40,6 +40,7 @@ use Rattle.lrs_web_requests.specs.Query.{parameter}
 use Rattle.lrs_web_requests.specs.Text.{Answer}
 use Rattle.lrs_web_requests.specs.declared.paths.Format.{Format}
 use Rattle.lrs_web_replies.specs.QuestionAnswers.{IsReplyTo}
+use Rattle.lrs_web_replies.specs.declared.pages.Page.{Page}
 use Rattle.lrs_web_replies.specs.Questions.{GivesPosition, Said, SaysDestination}
 use Rattle.lrs_promises.proofs.Once.{OneUnlessMemory, ok_is_not_err, same_some, some_is_not_none, told_once}
 use Rattle.lrs_promises.proofs.Places.{expressed_once}
@@ -179,7 +180,7 @@ pub on_link_once : (i : Image) (route : Name) (e : Expr) → 0 < (number_of e).d
 on_link_once i route e above = asks_once (state_of i) route (λ al on found. IsLinkPosition al on e found)
     (λ al there x y h k. link_once al (referent_chainage (state_of i) al) e (sound_route i route al there) above x y h k)
 
-pub translated_once : (format : Format) (i : Image) (route : Name) (e : Expr) (to : Destination) → 0 < (number_of e).den → (a b : Answer) → (a.status ≡ 503 → ⊥) → (b.status ≡ 503 → ⊥) → (said other : Result Told AskFault)
-    → TellsTranslated (state_of i) route e to said → TellsTranslated (state_of i) route e to other → IsReplyTo format said a → IsReplyTo format other b → a ≡ b
-translated_once format i route e (destination.Method t) above = told_once format (IsTranslated (state_of i) route e t) (told.Translated route) (by_method_once i route e t above) (λ x c d p q. p ∙ sym q)
-translated_once format i route e destination.Link above = told_once format (IsOnLink (state_of i) route e) (λ on. told.OnLink route on.0 on.1) (on_link_once i route e above) (λ x c d p q. p ∙ sym q)
+pub translated_once : (format : Format) (page : Page) (i : Image) (route : Name) (e : Expr) (to : Destination) → 0 < (number_of e).den → (a b : Answer) → (a.status ≡ 503 → ⊥) → (b.status ≡ 503 → ⊥) → (said other : Result Told AskFault)
+    → TellsTranslated (state_of i) route e to said → TellsTranslated (state_of i) route e to other → IsReplyTo format page said a → IsReplyTo format page other b → a ≡ b
+translated_once format page i route e (destination.Method t) above = told_once format page (IsTranslated (state_of i) route e t) (told.Translated route) (by_method_once i route e t above) (λ x c d p q. p ∙ sym q)
+translated_once format page i route e destination.Link above = told_once format page (IsOnLink (state_of i) route e) (λ on. told.OnLink route on.0 on.1) (on_link_once i route e above) (λ x c d p q. p ∙ sym q)

@@ -5,7 +5,7 @@ ghost use Rattle.lrs_web_requests.specs.Request.{Asked, IsServed, asked_by};
 ghost use Rattle.lrs_web_requests.specs.Text.{Answer, answer_of, empty_answer};
 ghost use Rattle.lrs_web_requests.specs.Request.{verb_of};
 ghost use Rattle.lrs_web_requests.specs.declared.response.RequestMethod.TheVariants.{Get};
-ghost use Rattle.lrs_web.specs.QueryAnswers.{AnswersAsked, AnswersKnown};
+ghost use Rattle.lrs_web.specs.QueryAnswers.{AnswersAsked, AnswersKnown, AnswersPage};
 ghost use Rattle.lrs_web.specs.Questions.{AnswersQuestions};
 ghost use Rattle.lrs_web.specs.Sheets.{DoesSheet};
 ghost use Rattle.lrs_web.specs.RequestAnswers as spec;
@@ -16,7 +16,9 @@ use crate::recipient::{AnyClient, Client, Recipient};
 use crate::sheet::do_sheet;
 use http::StatusCode;
 use lrs_sheet::{Desk, Keeper, Sheet};
-use lrs_web_replies::{question_of, reply_to, unasked, unknown_in, unknown_reply};
+use lrs_web_replies::{
+    Page, page_of, question_of, reply_to, unasked, unknown_in, unknown_reply, unpaged,
+};
 use lrs_web_requests::{
     BodyFault, Content, ContentType, Format, Request, RequestMethod, Resource, Response, receive,
     routes, write_reply, write_unavailable,
@@ -105,8 +107,30 @@ fn allowed_reply(verb: RequestMethod) -> Response
     }
 }
 
-/// The reply to the question that a resource is asked by parameters that it knows.
+/// The reply to the question that a resource is asked, with a page of it where it is a list.
 #[tactic(auto, using(crate::proofs::Asking::answered, crate::proofs::Asking::refused))]
+fn page_reply_to<K: Keeper>(
+    alloc: Global,
+    most: usize,
+    format: Format,
+    page: Page,
+    resource: Resource,
+    argument: &[u8],
+    desk: &Desk<K>,
+) -> Result<Response, AllocError>
+    requires verb { verb_of resource ≡ Get }
+    requires behind { desk.now.is_ahead ≡ false }
+    ensures { IfOk result (λ reply. AnswersPage desk.now.image format page resource argument.now
+        (answer_of reply)) }
+{
+    match question_of(alloc, resource, argument) {
+        Ok(question) => reply_to(alloc, most, format, page, desk.ask(question)),
+        Err(fault) => unasked(alloc, fault),
+    }
+}
+
+/// The reply to the question that a resource is asked by parameters that it knows. A page that cannot be read is told first.
+#[tactic(auto, using(crate::proofs::Asking::page_answered, crate::proofs::Asking::page_refused))]
 fn known_reply<K: Keeper>(
     alloc: Global,
     most: usize,
@@ -120,9 +144,9 @@ fn known_reply<K: Keeper>(
     ensures { IfOk result (λ reply. AnswersKnown desk.now.image format resource argument.now
         (answer_of reply)) }
 {
-    match question_of(alloc, resource, argument) {
-        Ok(question) => reply_to(alloc, most, format, desk.ask(question)),
-        Err(fault) => unasked(alloc, fault),
+    match page_of(alloc, format, resource, argument) {
+        Ok(page) => page_reply_to(alloc, most, format, page, resource, argument, desk),
+        Err(fault) => unpaged(alloc, fault),
     }
 }
 
@@ -140,7 +164,7 @@ fn question_reply<K: Keeper>(
     ensures { IfOk result (λ reply. AnswersAsked desk.now.image format resource argument.now
         (answer_of reply)) }
 {
-    match unknown_in(alloc, resource, argument)? {
+    match unknown_in(alloc, format, resource, argument)? {
         Some(name) => unknown_reply(alloc, name.as_str()),
         None => known_reply(alloc, most, format, resource, argument, desk),
     }

@@ -9,7 +9,7 @@ use Rattle.lrs_machine.specs.declared.question.Place.{Place}
 use Rattle.lrs_web_requests.specs.declared.paths.Resource.{Resource}
 use Rattle.lrs_web_requests.specs.declared.paths.Resource.TheVariants as path
 use Rattle.lrs_web_replies.specs.declared.question.Parameter.{Parameter}
-use Rattle.lrs_web_replies.specs.declared.question.Parameter.TheVariants.{Route, RouteOrAll, Method, Position, To, Side, SideOrBoth, Class, ClassOrAll, ClassesOrAll, From, UpTo, Asset, AssetOrAll, FirstEdit, EditOrAll, Since, Until, Exact, RowsOnLinks, Gaps, Chainage, OnLink, Millimetre}
+use Rattle.lrs_web_replies.specs.declared.question.Parameter.TheVariants.{Route, RouteOrAll, Method, Position, To, Side, SideOrBoth, Class, ClassOrAll, ClassesOrAll, From, UpTo, Asset, AssetOrAll, FirstEdit, EditOrAll, Since, Until, Exact, RowsOnLinks, Gaps, Chainage, OnLink, Millimetre, By}
 use Rattle.lrs_web_replies.specs.declared.question.QueryFault.{QueryFault}
 use Rattle.lrs_web_replies.specs.declared.question.QueryFault.TheVariants.{Malformed, NoRoute, Memory}
 use Rattle.lrs_web_replies.specs.Faults.{Lacks, LacksForm, LacksPosition}
@@ -204,7 +204,10 @@ rows_form query e route from to class asset given began ended named numbered lac
     rows_behind_class query e route from to class given began ended named (later query AssetOrAll from_form e (asset, numbered) (form query [] e lacks))
 
 pub lengths_route : (query : Text) (e : QueryFault) → Lacks RouteOrAll query e → CannotAsk path.Lengths query e
-lengths_route query e lacks = cannot path.Lengths query e (first query RouteOrAll [] e lacks)
+lengths_route query e lacks = cannot path.Lengths query e (first query RouteOrAll (By ∷ []) e lacks)
+
+pub lengths_by : (query : Text) (e : QueryFault) (route : Option Name) → GivesRouteOrAll query route → Lacks By query e → CannotAsk path.Lengths query e
+lengths_by query e route given lacks = cannot path.Lengths query e (later query RouteOrAll (By ∷ []) e (route, given) (first query By [] e lacks))
 
 -- ---- overlays
 

@@ -5,3 +5,6 @@ pub mod Said
 pub mod Listing
 pub mod WrittenLines
 pub mod Overlaid
+pub mod PageKeys
+pub mod Paging
+pub mod PagedPieces

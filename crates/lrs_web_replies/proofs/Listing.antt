@@ -1,7 +1,6 @@
 -- The text of a list that is written item by item.
 use Rattle.std.proofs.Common.{◌≡◌, ℕ, List, [], ◌∷◌, ◌++◌, length, map, filter, codes, append_assoc, refl, sym, ap, ◌∙◌, Bool, true, if◌then◌else◌, Result, Ok, Err, IfOk, OnOk, Vec, Global}
 use Rattle.std.specs.List.{flat_map}
-use Rattle.std.proofs.lemmas.List.Concat.{flat_map-append}
 use Rattle.serde_json.specs.Data.{Data, string}
 use Rattle.serde_json.specs.View.{items_of}
 use Rattle.serde_json.specs.Written.{compact_text, items_text}
@@ -53,10 +52,6 @@ behind front before after part all is added same = added ∙ ap (λ t. t ++ part
 pub of_each : {A : Type 0} (shown : A → Data) (xs : List A) → flat_map (λ x. item_text (shown x)) xs ≡ flat_map item_text (map shown xs)
 of_each shown [] = refl
 of_each shown (x ∷ xs) = ap (λ t. item_text (shown x) ++ t) (of_each shown xs)
-
-pub of_all : {A : Type 0} (items : A → List Data) (xs : List A) → flat_map (λ x. flat_map item_text (items x)) xs ≡ flat_map item_text (flat_map items xs)
-of_all items [] = refl
-of_all items (x ∷ xs) = ap (λ t. flat_map item_text (items x) ++ t) (of_all items xs) ∙ sym (flat_map-append item_text (items x) (flat_map items xs))
 
 -- of those that are asked for
 pub of_chosen : {A : Type 0} (asked : A → Bool) (shown : A → Data) (xs : List A) → flat_map (λ x. if asked x then item_text (shown x) else []) xs ≡ flat_map item_text (map shown (filter asked xs))

@@ -15,11 +15,13 @@ use Rattle.lrs_events.specs.declared.span.Span.{Span}
 use Rattle.lrs_machine.specs.declared.segment.Segment.{Segment}
 use Rattle.lrs_machine.specs.declared.hit.Hit.{Hit}
 use Rattle.lrs_machine.specs.Segments.{Values}
+use Rattle.lrs_report_answers.specs.declared.combinations.Combination.{Combination}
 use Rattle.lrs_report_answers.specs.declared.places.answer.Whereabouts.{Whereabouts}
 use Rattle.lrs_machine.specs.declared.image.Edit.{Edit}
 use Rattle.lrs_report_lists.specs.declared.link_rows.LinkStretch.{LinkStretch}
 use Rattle.lrs_web_replies.specs.Listings.{event_data_with, gone_data_with, link_row_data, named_list, row_data_with}
 use Rattle.lrs_web_replies.specs.JsonParts.{each}
+use Rattle.lrs_web_replies.specs.Combinations.{combination_data}
 use Rattle.lrs_web_replies.specs.Overlay.{held_data, overlay_item}
 use Rattle.lrs_web_replies.specs.Answers.{at_data, hit_data, mark_data, piece_data, referent_data, route_data, ShowsRoute, value_data, segment_data, place_data, whereabouts_data}
 
@@ -97,3 +99,8 @@ held_whole (Some value) = refl
 
 pub overlay_whole : (route : Route) (side : LinkSide) (s : Run Values) → has_float (overlay_item route side s) ≡ false
 overlay_whole route side s = neither (has_float (each held_data s.value)) false (each_whole held_data held_whole s.value) refl
+
+-- ---- combinations of values
+
+pub combination_whole : (c : Combination) → has_float (combination_data c) ≡ false
+combination_whole c = neither (has_float (each held_data c.values)) false (each_whole held_data held_whole c.values) refl

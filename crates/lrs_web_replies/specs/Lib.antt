@@ -4,7 +4,10 @@ pub mod Answers
 pub mod Questions
 pub mod Faults
 pub mod Replies
+pub mod Pages
 pub mod Listings
 pub mod Parts
+pub mod PagedText
 pub mod Overlay
+pub mod Combinations
 pub mod QuestionAnswers

@@ -42,7 +42,9 @@ use Rattle.lrs_web_requests.specs.Text.{Answer}
 use Rattle.lrs_web_requests.specs.declared.paths.Format.{Format}
 use Rattle.lrs_web_requests.specs.declared.paths.Format.TheVariants.{Json, Csv}
 use Rattle.lrs_web_replies.specs.JsonParts.{list, whole, with}
+use Rattle.lrs_web_replies.specs.Pages.{paged}
 use Rattle.lrs_web_replies.specs.Replies.{csv_answer, json_answer}
+use Rattle.lrs_web_replies.specs.declared.pages.Page.{Page}
 
 -- a list under its name
 abbrev pub named_list : Text → List Data → Data
@@ -161,42 +163,42 @@ left_data edits g = event_data_with (edit_numbered edits g.part.edit) (reason_te
 
 -- ---- lists
 
--- every route
-abbrev pub routes_data : Image → Data
-routes_data i = named_list (codes "routes") (map route_length_data i.routes)
+-- a page of every route
+abbrev pub routes_data : Page → Image → Data
+routes_data page i = named_list (codes "routes") (paged page (map route_length_data i.routes))
 
--- every link
-abbrev pub links_data : Image → Data
-links_data i = named_list (codes "links") (map link_data i.links)
+-- of every link
+abbrev pub links_data : Page → Image → Data
+links_data page i = named_list (codes "links") (paged page (map link_data i.links))
 
--- every class
-abbrev pub classes_data : Image → Data
-classes_data i = named_list (codes "classes") (map class_data i.classes)
+-- of every class
+abbrev pub classes_data : Page → Image → Data
+classes_data page i = named_list (codes "classes") (paged page (map class_data i.classes))
 
--- every referent of a route, of every route or of one
+-- of every referent of a route, of every route or of one
 abbrev pub refs_on : Route → List Data
 refs_on route = map (ref_data route) route.refs
 
-abbrev pub refs_data : Option Name → Image → Data
-refs_data route i = named_list (codes "refs") (flat_map (λ e. refs_on e.route) (routes_named route i))
+abbrev pub refs_data : Page → Option Name → Image → Data
+refs_data page route i = named_list (codes "refs") (paged page (flat_map (λ e. refs_on e.route) (routes_named route i)))
 
--- every mark
+-- of every mark
 abbrev pub marks_on : Route → List Data
 marks_on route = map (mark_data route) route.marks
 
-abbrev pub marks_data : Option Name → Image → Data
-marks_data route i = named_list (codes "marks") (flat_map (λ e. marks_on e.route) (routes_named route i))
+abbrev pub marks_data : Page → Option Name → Image → Data
+marks_data page route i = named_list (codes "marks") (paged page (flat_map (λ e. marks_on e.route) (routes_named route i)))
 
--- every piece, in the order of the route
+-- of every piece, in the order of the route
 abbrev pub pieces_on : Route → List Data
 pieces_on route = map (piece_data route) (placed_pieces route.course)
 
-abbrev pub pieces_data : Option Name → Image → Data
-pieces_data route i = named_list (codes "pieces") (flat_map (λ e. pieces_on e.route) (routes_named route i))
+abbrev pub pieces_data : Page → Option Name → Image → Data
+pieces_data page route i = named_list (codes "pieces") (paged page (flat_map (λ e. pieces_on e.route) (routes_named route i)))
 
--- every row that is asked for, of every route that is asked for
-abbrev pub rows_data : RowsWanted → Image → Data
-rows_data w i = named_list (codes "rows") (flat_map (rows_of w i.assets) (routes_named w.route i))
+-- of every row that is asked for, of every route that is asked for
+abbrev pub rows_data : Page → RowsWanted → Image → Data
+rows_data page w i = named_list (codes "rows") (paged page (flat_map (rows_of w i.assets) (routes_named w.route i)))
 
 -- every part that is gone and is asked for
 abbrev pub all_gone_data : GoneWanted → Image → Data
@@ -227,19 +229,19 @@ abbrev pub in_format : Format → Data → Text → Answer
 in_format Json d lines = json_answer 200 d
 in_format Csv d lines = csv_answer lines
 
--- The table: the reply with each list in a format. The log is CSV in either.
-abbrev pub listing_answer : Format → Image → Listing → Answer
-listing_answer format i listing.Routes = in_format format (routes_data i) (routes_text i)
-listing_answer format i listing.Links = in_format format (links_data i) (links_text i)
-listing_answer format i listing.Classes = in_format format (classes_data i) (classes_text i)
-listing_answer format i (listing.Refs route exact) = in_format format (refs_data route i) (refs_text route exact i)
-listing_answer format i (listing.Marks route) = in_format format (marks_data route i) (marks_text route i)
-listing_answer format i (listing.Pieces route) = in_format format (pieces_data route i) (pieces_text route i)
-listing_answer format i (listing.Gone wanted) = in_format format (all_gone_data wanted i) (gone_text wanted i)
-listing_answer format i (listing.History asset) = in_format format (history_data asset i) (history_text asset i)
-listing_answer format i (listing.Log from until) = csv_answer (log_text from until i)
-listing_answer format i (listing.LogOfKey key) = csv_answer (edits_text (edits_under key (state_of i).done))
+-- The table: the reply with each list in a format; as JSON, with a page of it. The log is CSV in either.
+abbrev pub listing_answer : Format → Page → Image → Listing → Answer
+listing_answer format page i listing.Routes = in_format format (routes_data page i) (routes_text i)
+listing_answer format page i listing.Links = in_format format (links_data page i) (links_text i)
+listing_answer format page i listing.Classes = in_format format (classes_data page i) (classes_text i)
+listing_answer format page i (listing.Refs route exact) = in_format format (refs_data page route i) (refs_text route exact i)
+listing_answer format page i (listing.Marks route) = in_format format (marks_data page route i) (marks_text route i)
+listing_answer format page i (listing.Pieces route) = in_format format (pieces_data page route i) (pieces_text route i)
+listing_answer format page i (listing.Gone wanted) = in_format format (all_gone_data wanted i) (gone_text wanted i)
+listing_answer format page i (listing.History asset) = in_format format (history_data asset i) (history_text asset i)
+listing_answer format page i (listing.Log from until) = csv_answer (log_text from until i)
+listing_answer format page i (listing.LogOfKey key) = csv_answer (edits_text (edits_under key (state_of i).done))
 
 -- the rows that are asked for, in a format
-abbrev pub rows_answer : Format → Image → RowsWanted → Answer
-rows_answer format i w = in_format format (rows_data w i) (rows_text w i)
+abbrev pub rows_answer : Format → Page → Image → RowsWanted → Answer
+rows_answer format page i w = in_format format (rows_data page w i) (rows_text w i)

@@ -10,7 +10,6 @@ use Rattle.lrs_machine.specs.declared.image.Image.{Image}
 use Rattle.lrs_machine.specs.declared.image.RouteRow.{RouteRow}
 use Rattle.lrs_machine.specs.declared.question.OverlayWanted.{OverlayWanted}
 use Rattle.lrs_machine.specs.declared.segment.Segment.{Segment}
-use Rattle.lrs_machine.specs.Lines.{Text}
 use Rattle.lrs_machine.specs.Segments.{Values}
 use Rattle.lrs_report.specs.Sweep.{run_of}
 use Rattle.lrs_report_lists.specs.Lines.{link_side_text}
@@ -21,7 +20,8 @@ use Rattle.lrs_web_requests.specs.Text.{Answer}
 use Rattle.lrs_web_requests.specs.declared.paths.Format.{Format}
 use Rattle.lrs_web_replies.specs.JsonParts.{each, whole, with}
 use Rattle.lrs_web_replies.specs.Listings.{in_format, named_list, said_of}
-use Rattle.lrs_web_replies.specs.Parts.{item_text}
+use Rattle.lrs_web_replies.specs.Pages.{paged}
+use Rattle.lrs_web_replies.specs.declared.pages.Page.{Page}
 
 -- a value, or null where there is none
 abbrev pub held_data : Option Name → Data
@@ -44,20 +44,14 @@ side_items i w e side = map (overlay_item e.route side) (wanted_segments i w e s
 abbrev pub overlay_items : Image → OverlayWanted → RouteRow → List Data
 overlay_items i w e = flat_map (side_items i w e) (sides_of w.side)
 
--- every segment that is asked for, of every route that is asked for
-abbrev pub overlay_data : OverlayWanted → Image → Data
-overlay_data w i = named_list (codes "overlay") (flat_map (overlay_items i w) (routes_named w.route i))
+-- a page of every segment that is asked for, of every route that is asked for
+abbrev pub overlay_data : Page → OverlayWanted → Image → Data
+overlay_data page w i = named_list (codes "overlay") (paged page (flat_map (overlay_items i w) (routes_named w.route i)))
 
 -- the segments that are asked for, in a format
-abbrev pub overlay_answer : Format → Image → OverlayWanted → Answer
-overlay_answer format i w = in_format format (overlay_data w i) (overlay_text w i)
-
--- ---- parts of the text
+abbrev pub overlay_answer : Format → Page → Image → OverlayWanted → Answer
+overlay_answer format page i w = in_format format (overlay_data page w i) (overlay_text w i)
 
 -- a segment, where it is asked for
-abbrev pub segment_part : OverlayWanted → Route → LinkSide → Segment → Text
-segment_part w route side s = if is_segment_wanted w (run_of s) then item_text (overlay_item route side (run_of s)) else []
-
--- the segments of a route that are asked for
-abbrev pub overlay_part : Image → OverlayWanted → RouteRow → Text
-overlay_part i w e = flat_map item_text (overlay_items i w e)
+abbrev pub segment_items : OverlayWanted → Route → LinkSide → Segment → List Data
+segment_items w route side s = if is_segment_wanted w (run_of s) then overlay_item route side (run_of s) ∷ [] else []

@@ -4,22 +4,16 @@ use Rattle.std.specs.List.{flat_map}
 use Rattle.serde_json.specs.Data.{Data, string}
 use Rattle.serde_json.specs.Written.{compact_text}
 use Rattle.lrs_measure.specs.Texts.{Name}
-use Rattle.lrs_position.specs.declared.route.Route.{Route}
-use Rattle.lrs_events.specs.declared.class.Asset.{Asset}
 use Rattle.lrs_events.specs.declared.part.Gone.{Gone}
 use Rattle.lrs_events.specs.declared.part.Part.{Part}
 use Rattle.lrs_events.specs.declared.side.Side.{Side}
-use Rattle.lrs_events.specs.declared.span.Span.{Span}
 use Rattle.lrs_events.specs.Names.{side_text}
 use Rattle.lrs_machine.specs.declared.image.Edit.{Edit}
 use Rattle.lrs_machine.specs.declared.image.Image.{Image}
-use Rattle.lrs_machine.specs.declared.image.RouteRow.{RouteRow}
 use Rattle.lrs_machine.specs.Lines.{Text}
 use Rattle.lrs_machine.specs.declared.question.GoneWanted.{GoneWanted}
-use Rattle.lrs_machine.specs.declared.question.RowForm.{RowForm}
-use Rattle.lrs_machine.specs.declared.question.RowsWanted.{RowsWanted}
 use Rattle.lrs_report_lists.specs.WantedRows.{is_gone_of, is_gone_wanted, is_part_of}
-use Rattle.lrs_web_replies.specs.Listings.{entered_data, gone_data, left_data, row_items, rows_of}
+use Rattle.lrs_web_replies.specs.Listings.{entered_data, gone_data, left_data}
 
 -- an object up to the value of its first member
 abbrev pub front_text : Text → Text
@@ -45,14 +39,6 @@ segments_front route = front_text (codes "route") ++ (compact_text (string route
 -- what stands behind the list of the segments of a side
 abbrev pub segments_end : Side → Text
 segments_end side = name_text (codes "side") ++ (compact_text (string (side_text side)) ++ 125 ∷ [])
-
--- a row in a form
-abbrev pub row_part : RowForm → List Asset → Route → Span → Text
-row_part told assets route r = flat_map item_text (row_items told assets route r)
-
--- the rows of a route that are asked for
-abbrev pub rows_part : RowsWanted → List Asset → RouteRow → Text
-rows_part w assets e = flat_map item_text (rows_of w assets e)
 
 -- a part that is gone, where it is asked for
 abbrev pub gone_part : GoneWanted → Image → Gone → Text

@@ -1,6 +1,6 @@
 -- What the parameters of a query ask of an inventory.
-use Rattle.std.specs.Prelude.{◌≡◌, ⊤, ◌⊎◌, ℕ, ◌≤◌, IsTrue, Bool, true, false, if◌then◌else◌, List, [], ◌∷◌, bytes_eq, codes, map, Option, None, Some}
-use Rattle.std.specs.List.{list_all, list_any}
+use Rattle.std.specs.Prelude.{◌≡◌, ⊤, ◌⊎◌, ℕ, ◌≤◌, IsTrue, Bool, true, false, if◌then◌else◌, List, [], ◌∷◌, codes, map, Option, None, Some}
+use Rattle.std.specs.List.{list_all}
 use Rattle.std.specs.Option.{option_map_or}
 use Rattle.std.specs.Str.Parse.{IsNumeral, digits_value}
 use Rattle.lrs_measure.specs.Limits.{greatest_asset, greatest_link, longest_link, most_edits}
@@ -22,13 +22,13 @@ use Rattle.lrs_machine.specs.declared.question.RowsAsked.{RowsAsked}
 use Rattle.lrs_machine.specs.declared.question.AskedPlace.{AskedPlace}
 use Rattle.lrs_machine.specs.declared.question.AskedPlace.TheVariants as spot
 use Rattle.lrs_report_lists.specs.Lines.{link_side_text}
-use Rattle.lrs_web_requests.specs.Query.{parameter, parameters, switched, unknown_name}
+use Rattle.lrs_web_requests.specs.Query.{parameter, parameters, switched}
 use Rattle.lrs_web_requests.specs.declared.paths.Resource.{Resource}
 use Rattle.lrs_web_requests.specs.declared.paths.Resource.TheVariants as path
 use Rattle.lrs_machine.specs.declared.question.Destination.{Destination}
 use Rattle.lrs_machine.specs.declared.question.Destination.TheVariants as destination
 use Rattle.lrs_web_replies.specs.declared.question.Parameter.{Parameter}
-use Rattle.lrs_web_replies.specs.declared.question.Parameter.TheVariants.{Route, RouteOrAll, Method as Way, Position, To, Side as Hand, SideOrBoth, Class, ClassOrAll, ClassesOrAll, From, UpTo, Asset, AssetOrAll, FirstEdit, EditOrAll, Since, Until, Exact, RowsOnLinks, Gaps, Chainage, OnLink, Millimetre}
+use Rattle.lrs_web_replies.specs.declared.question.Parameter.TheVariants.{Route, RouteOrAll, Method as Way, Position, To, Side as Hand, SideOrBoth, Class, ClassOrAll, ClassesOrAll, From, UpTo, Asset, AssetOrAll, FirstEdit, EditOrAll, Since, Until, Exact, RowsOnLinks, Gaps, Chainage, OnLink, Millimetre, By}
 use Rattle.lrs_machine.specs.declared.question.Question.{Question}
 use Rattle.lrs_machine.specs.declared.question.Question.TheVariants as question
 use Rattle.lrs_machine.specs.declared.question.Listing.TheVariants as listing
@@ -122,6 +122,10 @@ GivesClasses query classes = (classes ≡ parameters (codes "class") query) × I
 -- all that are given, in their order; none is given where all classes are meant
 abbrev pub GivesClassesOrAll : Text → List Name → Type 0
 GivesClassesOrAll query classes = (classes ≡ parameters (codes "class") query) × IsTrue (list_all is_class_name (parameters (codes "class") query))
+
+-- all that are given, in their order; none is given where the lengths of each value are meant
+abbrev pub GivesBy : Text → List Name → Type 0
+GivesBy query classes = (classes ≡ parameters (codes "by") query) × IsTrue (list_all is_class_name (parameters (codes "by") query))
 
 -- the text says this, and where there is no text nothing is said
 abbrev pub SaidIfGiven : {A : Type 0} → (Text → A → Type 0) → Option Text → Option A → Type 0
@@ -228,6 +232,11 @@ GivesSpot query (spot.OnRoute route place) = (is_on_link query ≡ false) × Giv
 
 -- ---- what is asked
 
+-- the lengths of each value of each class, or of the combinations of the values of classes where some are given
+abbrev pub lengths_question : Option Name → List Name → Question
+lengths_question route [] = question.Lengths route
+lengths_question route (c ∷ cs) = question.Combinations route (c ∷ cs)
+
 -- What a resource is asked by this argument: a route by its name, any other by what the parameters of its query give.
 abbrev pub AsksOf : Resource → Text → Question → Type 0
 AsksOf path.At query q = (route : Name) × (e : Expr) × GivesRoute query route × GivesPosition query e × (q ≡ question.At route e)
@@ -244,7 +253,8 @@ AsksOf path.Diagram query q =
     × GivesFrom query from × GivesUpTo query to × (q ≡ question.Diagram route classes from to)
 AsksOf path.Find query q = (asset : ℕ) × GivesAsset query asset × (q ≡ question.Find asset)
 AsksOf path.Where query q = (s : AskedPlace) × GivesSpot query s × (q ≡ question.Where s)
-AsksOf path.Lengths query q = (route : Option Name) × GivesRouteOrAll query route × (q ≡ question.Lengths route)
+AsksOf path.Lengths query q =
+    (route : Option Name) × GivesRouteOrAll query route × ((classes : List Name) × GivesBy query classes × (q ≡ lengths_question route classes))
 AsksOf path.Routes query q = q ≡ question.List listing.Routes
 AsksOf path.Links query q = q ≡ question.List listing.Links
 AsksOf path.Classes query q = q ≡ question.List listing.Classes
@@ -274,7 +284,7 @@ parameters_of path.Marks query = RouteOrAll ∷ []
 parameters_of path.Pieces query = RouteOrAll ∷ []
 parameters_of path.Rows query = RouteOrAll ∷ From ∷ UpTo ∷ ClassOrAll ∷ AssetOrAll ∷ Exact ∷ RowsOnLinks ∷ []
 parameters_of path.Overlay query = RouteOrAll ∷ SideOrBoth ∷ From ∷ UpTo ∷ Gaps ∷ Class ∷ []
-parameters_of path.Lengths query = RouteOrAll ∷ []
+parameters_of path.Lengths query = RouteOrAll ∷ By ∷ []
 parameters_of path.Gone query = EditOrAll ∷ Since ∷ Until ∷ ClassOrAll ∷ []
 parameters_of path.History query = Asset ∷ []
 parameters_of path.Where query = if is_on_link query then OnLink ∷ Millimetre ∷ [] else Route ∷ Chainage ∷ []
@@ -305,6 +315,7 @@ parameter_text Gaps = codes "gaps"
 parameter_text Chainage = codes "chainage"
 parameter_text OnLink = codes "link"
 parameter_text Millimetre = codes "mm"
+parameter_text By = codes "by"
 
 -- the parameter is there, or may be left out, and can be read; rows that are told on links are not told with measures
 abbrev pub IsGiven : Text → Parameter → Type 0
@@ -332,6 +343,7 @@ IsGiven query Gaps = (gaps : Bool) × GivesGaps query gaps
 IsGiven query Chainage = (place : Place) × GivesPlaceOnRoute query place
 IsGiven query OnLink = (link : ℕ) × GivesLink query link
 IsGiven query Millimetre = (mm : ℕ) × GivesMillimetre query mm
+IsGiven query By = (classes : List Name) × GivesBy query classes
 
 -- the first of these that is not
 abbrev pub IsFirstMalformed : Text → List Parameter → Parameter → Type 0
@@ -347,13 +359,10 @@ CannotAsk resource argument Memory = ⊤
 
 -- ---- what is not known
 
--- the names of the parameters that a path knows; of a place, those of either way
+-- the names of the parameters by which a path is asked; of a place, those of either way
 abbrev pub known_names : Resource → List Text
 known_names path.Where = map parameter_text (Route ∷ Chainage ∷ OnLink ∷ Millimetre ∷ [])
 known_names resource = map parameter_text (parameters_of resource [])
-
-abbrev pub is_known : Resource → Text → Bool
-is_known resource name = list_any (λ known. bytes_eq name known) (known_names resource)
 
 -- whether a path passes over parameters that it does not know
 abbrev pub passes_over : Resource → Bool
@@ -367,7 +376,3 @@ passes_over path.Edits = true
 passes_over path.Surveys = true
 passes_over path.Questions = true
 passes_over _ = false
-
--- the first parameter of a query that its path does not know, where it does not pass over it
-abbrev pub unknown_in : Resource → Text → Option Text
-unknown_in resource argument = if passes_over resource then None else unknown_name (is_known resource) argument

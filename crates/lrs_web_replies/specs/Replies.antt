@@ -12,7 +12,10 @@ use Rattle.lrs_web_requests.specs.declared.response.ContentType.{ContentType}
 use Rattle.lrs_web_requests.specs.declared.response.ContentType.TheVariants.{Csv, Json, Svg}
 use Rattle.lrs_web_requests.specs.Text.{Answer, empty_answer}
 use Rattle.lrs_web_replies.specs.Answers.{error_data}
+use Rattle.lrs_web_replies.specs.Pages.{page_fault_text}
 use Rattle.lrs_web_replies.specs.Questions.{parameter_text}
+use Rattle.lrs_web_replies.specs.declared.pages.PageFault.{PageFault}
+use Rattle.lrs_web_replies.specs.declared.pages.PageFault.TheVariants as fault
 use Rattle.lrs_web_replies.specs.declared.question.QueryFault.{QueryFault}
 use Rattle.lrs_web_replies.specs.declared.question.QueryFault.TheVariants.{Malformed, NoRoute, Memory}
 
@@ -65,6 +68,11 @@ abbrev pub unasked : QueryFault → Answer
 unasked (Malformed p) = error_answer 400 (codes "Malformed:" ++ parameter_text p)
 unasked NoRoute = error_answer 404 (codes "NoRoute")
 unasked Memory = unavailable
+
+-- no page is asked for
+abbrev pub unpaged : PageFault → Answer
+unpaged fault.Memory = unavailable
+unpaged page = error_answer 400 (codes "Malformed:" ++ page_fault_text page)
 
 -- a parameter of this name is not known
 abbrev pub unknown_answer : Text → Answer

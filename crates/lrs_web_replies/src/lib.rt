@@ -3,7 +3,9 @@
 
 mod answers;
 mod bounded;
+mod combinations;
 mod entries;
+mod held;
 mod ledgers;
 mod lines;
 mod list;
@@ -12,6 +14,8 @@ mod list_text;
 mod listings;
 mod members;
 mod overlay;
+mod paged_text;
+mod pages;
 mod parameters;
 mod parts;
 mod question;
@@ -21,7 +25,8 @@ mod row_lists;
 mod unknown_parameters;
 
 pub use bounded::BoundedBytes;
+pub use pages::{KeyField, KeyMember, KeyValue, Page, PageFault, page_of};
 pub use question::{Parameter, QueryFault, question_of};
 pub use replies::reply_to;
-pub use reply::unasked;
+pub use reply::{unasked, unpaged};
 pub use unknown_parameters::{unknown_in, unknown_reply};

@@ -2,15 +2,18 @@
 
 ghost use Rattle.std.specs.Prelude.{◌≡◌, IfOk, IfErr, true, false};
 ghost use Rattle.lrs_web_requests.specs.declared.paths.Resource.TheVariants as path;
-ghost use Rattle.lrs_web_replies.specs.Questions.{AsksOf, CannotAsk, GivesGone, GivesOverlay, GivesRows, GivesSpot, is_on_link};
+ghost use Rattle.lrs_web_replies.specs.Questions.{AsksOf, CannotAsk, GivesGone, GivesOverlay, GivesRows, GivesSpot, is_on_link, lengths_question};
 
 use crate::parameters::{
-    asset_in, asset_or_all_in, class_or_all_in, classes_in, edit_or_all_in, exact_in,
+    asset_in, asset_or_all_in, by_in, class_or_all_in, classes_in, edit_or_all_in, exact_in,
     first_edit_in, form_in, from_in, gaps_in, is_on_link, link_in, millimetre_in,
     place_on_route_in, route_in, route_or_all_in, side_or_both_in, since_in, to_in, until_in,
 };
 use crate::question::QueryFault;
+use lrs_events::ClassName;
 use lrs_machine::{AskedPlace, GoneWanted, Listing, OverlayAsked, Question, RowsAsked};
+use lrs_measure::Rows;
+use lrs_position::RouteName;
 use std::alloc::Global;
 
 #[tactic(auto, using(crate::proofs::FirstFaults::rows_route, crate::proofs::FirstFaults::rows_from, crate::proofs::FirstFaults::rows_to, crate::proofs::FirstFaults::rows_class, crate::proofs::FirstFaults::rows_asset, crate::proofs::FirstFaults::rows_form))]
@@ -133,13 +136,24 @@ pub(crate) fn overlay_question(alloc: Global, query: &[u8]) -> Result<Question, 
     Ok(Question::Overlay(asked))
 }
 
-#[tactic(auto, using(crate::proofs::FirstFaults::lengths_route))]
+/// How long each value of each class is, or each combination of the values of classes where some are given.
+fn asked_lengths(route: Option<RouteName>, classes: Rows<ClassName>) -> Question
+    ensures { result ≡ lengths_question route classes }
+{
+    if classes.is_empty() {
+        return Question::Lengths(route);
+    }
+    Question::Combinations { route, classes }
+}
+
+#[tactic(auto, using(crate::proofs::FirstFaults::lengths_route, crate::proofs::FirstFaults::lengths_by))]
 pub(crate) fn lengths_question(alloc: Global, query: &[u8]) -> Result<Question, QueryFault>
     ensures asked { IfOk result (AsksOf path.Lengths query.now) }
     ensures unasked { IfErr result (CannotAsk path.Lengths query.now) }
 {
     let route = route_or_all_in(alloc, query)?;
-    Ok(Question::Lengths(route))
+    let classes = by_in(alloc, query)?;
+    Ok(asked_lengths(route, classes))
 }
 
 #[tactic(auto, using(crate::proofs::FirstFaults::where_link, crate::proofs::FirstFaults::where_mm))]

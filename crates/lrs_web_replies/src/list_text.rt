@@ -12,7 +12,6 @@ ghost use Rattle.lrs_web_replies.specs.JsonParts.{each, list as list_data};
 
 use crate::answers::bytes_of;
 use crate::list::Shown;
-use lrs_ordered::Chunked;
 use lrs_report_answers::RouteSegments;
 use serde_json::Value;
 use std::alloc::{AllocError, Global};
@@ -99,23 +98,6 @@ fn add_segments(
     while let Some(segment) = segments.first() {
         add_one(alloc, most, bytes, segment)?;
         segments.pass();
-    }
-    Ok(())
-}
-
-/// Adds each of a list, with a comma before it.
-pub(crate) fn add_each<T: Shown>(
-    alloc: Global,
-    most: usize,
-    bytes: &mut Vec<u8>,
-    list: &Chunked<T>,
-) -> Result<(), AllocError>
-    requires whole { (one : T) → has_float (T.shown one) ≡ false }
-    ensures { OnOk result (bytes.new.items
-        ≡ bytes.old.items ++ flat_map (λ one. item_text (T.shown one)) list.now.rows) }
-{
-    for one in list.iter() {
-        add_one(alloc, most, bytes, one)?;
     }
     Ok(())
 }

@@ -12,13 +12,14 @@ ghost use Rattle.lrs_report_lists.specs.Lists.{routes_named};
 ghost use Rattle.lrs_web_requests.specs.Text.{answer_of};
 ghost use Rattle.lrs_web_replies.specs.JsonParts.{each};
 ghost use Rattle.lrs_web_replies.specs.Members.{scalar_data};
-ghost use Rattle.lrs_web_replies.specs.Overlay.{held_data, overlay_answer, overlay_data, overlay_item, overlay_part, segment_part, side_items};
-ghost use Rattle.lrs_web_replies.specs.Parts.{item_text};
+ghost use Rattle.lrs_web_replies.specs.Overlay.{held_data, overlay_answer, overlay_data, overlay_item, overlay_items, segment_items, side_items};
+ghost use Rattle.lrs_web_replies.specs.PagedText.{add_all, add_one};
 
 use crate::bounded::BoundedBytes;
 use crate::entries::{decimal_at, measure_at};
-use crate::list_text::{add_item, begin, end};
 use crate::members::{Member, Scalar, members_of, scalar_value, with_value};
+use crate::paged_text::PagedText;
+use crate::pages::Page;
 use crate::reply::{csv_reply, found_reply};
 use lrs_events::{LinkSide, Value as AssetValue};
 use lrs_inventory::Inventory;
@@ -107,34 +108,36 @@ fn segment_value(
 
 fn add_segment(
     alloc: Global,
-    most: usize,
-    bytes: &mut Vec<u8>,
+    text: &mut PagedText,
     route: &Route,
     side: LinkSide,
     segment: &Segment,
 ) -> Result<(), AllocError>
-    ensures { OnOk result (bytes.new.items ≡ bytes.old.items
-        ++ item_text (overlay_item route.now side (run_of segment.now))) }
+    ensures { OnOk result (text.new ≡ add_one text.old (overlay_item route.now side (run_of
+        segment.now))) }
 {
     let value = segment_value(alloc, route, side, segment)?;
-    add_item(alloc, most, bytes, value)
+    text.add(alloc, value)
 }
 
 /// Adds a segment where it is asked for.
+#[tactic(auto, using(crate::proofs::Paging::full_stays))]
 fn add_wanted_segment(
     alloc: Global,
-    most: usize,
-    bytes: &mut Vec<u8>,
+    text: &mut PagedText,
     wanted: &OverlayWanted,
     route: &Route,
     side: LinkSide,
     segment: &Segment,
 ) -> Result<(), AllocError>
-    ensures { OnOk result (bytes.new.items
-        ≡ bytes.old.items ++ segment_part wanted.now route.now side segment.now) }
+    ensures { OnOk result (text.new ≡ add_all text.old (segment_items wanted.now route.now side
+        segment.now)) }
 {
+    if text.is_full() {
+        return Ok(());
+    }
     if is_segment_wanted(wanted, segment) {
-        return add_segment(alloc, most, bytes, route, side, segment);
+        return add_segment(alloc, text, route, side, segment);
     }
     Ok(())
 }
@@ -142,42 +145,44 @@ fn add_wanted_segment(
 /// Adds the segments that are asked for, which are made one by one.
 fn add_wanted_segments(
     alloc: Global,
-    most: usize,
-    bytes: &mut Vec<u8>,
+    text: &mut PagedText,
     wanted: &OverlayWanted,
     route: &Route,
     side: LinkSide,
     mut segments: RouteSegments<'_>,
 ) -> Result<(), AllocError>
-    ensures { OnOk result (bytes.new.items ≡ bytes.old.items
-        ++ flat_map (segment_part wanted.now route.now side) segments.entry) }
+    ensures { OnOk result (text.new ≡ add_all text.old (flat_map (segment_items wanted.now
+        route.now side) segments.entry)) }
 {
     while let Some(segment) = segments.first() {
-        add_wanted_segment(alloc, most, bytes, wanted, route, side, segment)?;
+        add_wanted_segment(alloc, text, wanted, route, side, segment)?;
         segments.pass();
     }
     Ok(())
 }
 
 // The classes are known and exclusive where an overlay is told, so memory alone is wanting where there are no segments.
+#[tactic(auto, using(crate::proofs::Paging::full_stays))]
 fn add_on_side(
     alloc: Global,
-    most: usize,
-    bytes: &mut Vec<u8>,
+    text: &mut PagedText,
     inventory: &Inventory,
     wanted: &OverlayWanted,
     route_row: &RouteRow,
     side: LinkSide,
 ) -> Result<(), AllocError>
     requires known { In route_row.now inventory.now.routes }
-    ensures { OnOk result (bytes.new.items ≡ bytes.old.items
-        ++ flat_map item_text (side_items inventory.now wanted.now route_row.now side)) }
+    ensures { OnOk result (text.new ≡ add_all text.old (side_items inventory.now wanted.now
+        route_row.now side)) }
 {
+    if text.is_full() {
+        return Ok(());
+    }
     let classes = wanted.classes.as_slice();
     match overlay_segments(alloc, inventory, route_row, classes, side) {
         Ok(segments) => {
             let route = &route_row.route;
-            add_wanted_segments(alloc, most, bytes, wanted, route, side, segments)
+            add_wanted_segments(alloc, text, wanted, route, side, segments)
         }
         Err(_) => Err(AllocError),
     }
@@ -186,53 +191,50 @@ fn add_on_side(
 /// Adds the segments of the left side of a route, and then those of the right one.
 fn add_both_sides(
     alloc: Global,
-    most: usize,
-    bytes: &mut Vec<u8>,
+    text: &mut PagedText,
     inventory: &Inventory,
     wanted: &OverlayWanted,
     route_row: &RouteRow,
 ) -> Result<(), AllocError>
     requires known { In route_row.now inventory.now.routes }
-    ensures { OnOk result (bytes.new.items ≡ bytes.old.items
-        ++ (flat_map item_text (side_items inventory.now wanted.now route_row.now LinkSide.Left)
-        ++ flat_map item_text (side_items inventory.now wanted.now route_row.now LinkSide.Right))) }
+    ensures { OnOk result (text.new ≡ add_all text.old (side_items inventory.now wanted.now
+        route_row.now LinkSide.Left ++ side_items inventory.now wanted.now route_row.now
+        LinkSide.Right)) }
 {
     let (left, right) = (LinkSide::Left, LinkSide::Right);
-    add_on_side(alloc, most, bytes, inventory, wanted, route_row, left)?;
-    add_on_side(alloc, most, bytes, inventory, wanted, route_row, right)
+    add_on_side(alloc, text, inventory, wanted, route_row, left)?;
+    add_on_side(alloc, text, inventory, wanted, route_row, right)
 }
 
 /// Adds the segments of a route, of both sides or of the one that is asked for.
 fn add_sides(
     alloc: Global,
-    most: usize,
-    bytes: &mut Vec<u8>,
+    text: &mut PagedText,
     inventory: &Inventory,
     wanted: &OverlayWanted,
     route_row: &RouteRow,
 ) -> Result<(), AllocError>
     requires known { In route_row.now inventory.now.routes }
-    ensures { OnOk result (bytes.new.items
-        ≡ bytes.old.items ++ overlay_part inventory.now wanted.now route_row.now) }
+    ensures { OnOk result (text.new ≡ add_all text.old (overlay_items inventory.now wanted.now
+        route_row.now)) }
 {
     match wanted.side {
-        Some(side) => add_on_side(alloc, most, bytes, inventory, wanted, route_row, side),
-        None => add_both_sides(alloc, most, bytes, inventory, wanted, route_row),
+        Some(side) => add_on_side(alloc, text, inventory, wanted, route_row, side),
+        None => add_both_sides(alloc, text, inventory, wanted, route_row),
     }
 }
 
 fn add_each_route(
     alloc: Global,
-    most: usize,
-    bytes: &mut Vec<u8>,
+    text: &mut PagedText,
     inventory: &Inventory,
     wanted: &OverlayWanted,
 ) -> Result<(), AllocError>
-    ensures { OnOk result (bytes.new.items ≡ bytes.old.items
-        ++ flat_map (overlay_part inventory.now wanted.now) inventory.now.routes) }
+    ensures { OnOk result (text.new ≡ add_all text.old (flat_map (overlay_items inventory.now
+        wanted.now) inventory.now.routes)) }
 {
     for route_row in inventory.kept().routes.iter() {
-        add_sides(alloc, most, bytes, inventory, wanted, route_row)?;
+        add_sides(alloc, text, inventory, wanted, route_row)?;
     }
     Ok(())
 }
@@ -240,20 +242,18 @@ fn add_each_route(
 /// Adds the segments of the route of a name, if there is one.
 fn add_named_route(
     alloc: Global,
-    most: usize,
-    bytes: &mut Vec<u8>,
+    text: &mut PagedText,
     inventory: &Inventory,
     wanted: &OverlayWanted,
     name: &RouteName,
 ) -> Result<(), AllocError>
-    ensures { OnOk result (bytes.new.items ≡ bytes.old.items
-        ++ flat_map (overlay_part inventory.now wanted.now)
-        (routes_named (Some name.now) inventory.now)) }
+    ensures { OnOk result (text.new ≡ add_all text.old (flat_map (overlay_items inventory.now
+        wanted.now) (routes_named (Some name.now) inventory.now))) }
 {
     // For the prover alone: no two routes have one name.
     inventory.prove_sound();
     match inventory.route(name) {
-        Some(route_row) => add_sides(alloc, most, bytes, inventory, wanted, route_row),
+        Some(route_row) => add_sides(alloc, text, inventory, wanted, route_row),
         None => Ok(()),
     }
 }
@@ -261,34 +261,32 @@ fn add_named_route(
 /// Adds the segments of the routes that are asked for. A route that is named is found by search.
 fn add_asked_routes(
     alloc: Global,
-    most: usize,
-    bytes: &mut Vec<u8>,
+    text: &mut PagedText,
     inventory: &Inventory,
     wanted: &OverlayWanted,
 ) -> Result<(), AllocError>
-    ensures { OnOk result (bytes.new.items ≡ bytes.old.items
-        ++ flat_map (overlay_part inventory.now wanted.now)
-        (routes_named wanted.now.route inventory.now)) }
+    ensures { OnOk result (text.new ≡ add_all text.old (flat_map (overlay_items inventory.now
+        wanted.now) (routes_named wanted.now.route inventory.now))) }
 {
     match &wanted.route {
-        Some(name) => add_named_route(alloc, most, bytes, inventory, wanted, name),
-        None => add_each_route(alloc, most, bytes, inventory, wanted),
+        Some(name) => add_named_route(alloc, text, inventory, wanted, name),
+        None => add_each_route(alloc, text, inventory, wanted),
     }
 }
 
 fn overlay_json(
     alloc: Global,
     most: usize,
+    page: Page,
     inventory: &Inventory,
     wanted: &OverlayWanted,
 ) -> Result<Vec<u8>, AllocError>
     ensures { IfOk result (λ bytes. bytes.items
-        ≡ compact_text (overlay_data wanted.now inventory.now)) }
+        ≡ compact_text (overlay_data page wanted.now inventory.now)) }
 {
-    let mut bytes = begin(alloc, "overlay")?;
-    let start = bytes.len();
-    add_asked_routes(alloc, most, &mut bytes, inventory, wanted)?;
-    end(bytes, start)
+    let mut text = PagedText::begin(alloc, most, page, "overlay")?;
+    add_asked_routes(alloc, &mut text, inventory, wanted)?;
+    text.end()
 }
 
 // It takes every byte that it is given, unless it has no room for it or memory runs out.
@@ -315,14 +313,15 @@ pub(crate) fn overlay_reply(
     alloc: Global,
     most: usize,
     format: Format,
+    page: Page,
     inventory: &Inventory,
     wanted: &OverlayWanted,
 ) -> Result<Response, AllocError>
     ensures { IfOk result (λ reply. answer_of reply
-        ≡ overlay_answer format inventory.now wanted.now) }
+        ≡ overlay_answer format page inventory.now wanted.now) }
 {
     match format {
-        Format::Json => Ok(found_reply(overlay_json(alloc, most, inventory, wanted)?)),
+        Format::Json => Ok(found_reply(overlay_json(alloc, most, page, inventory, wanted)?)),
         Format::Csv => Ok(csv_reply(overlay_lines(alloc, most, inventory, wanted)?)),
     }
 }

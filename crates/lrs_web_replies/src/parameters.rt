@@ -7,7 +7,7 @@ ghost use Rattle.lrs_events.specs.Names.{is_class_name};
 ghost use Rattle.lrs_position.specs.declared.expression.Expr.{Expr as Expression};
 ghost use Rattle.lrs_machine.specs.PlaceTexts.{SaysPlace};
 ghost use Rattle.lrs_machine.specs.declared.question.Place.{Place as PlaceValue};
-ghost use Rattle.lrs_web_replies.specs.Questions.{Said, SaidIfGiven, SaysDestination, SaysLinkSide, SaysNumber, GivesAsset, GivesAssetOrAll, GivesClassOrAll, GivesClasses, GivesClassesOrAll, GivesDestination, GivesEditOrAll, GivesExact, GivesFirstEdit, GivesForm, GivesFrom, GivesGaps, GivesLink, GivesMethod, GivesMillimetre, GivesPlaceOnRoute, GivesPosition, GivesPositionBy, GivesRoute, GivesRouteOrAll, GivesSide, GivesSideOrBoth, GivesSince, GivesUntil, GivesUpTo, form_by, is_on_link};
+ghost use Rattle.lrs_web_replies.specs.Questions.{Said, SaidIfGiven, SaysDestination, SaysLinkSide, SaysNumber, GivesAsset, GivesAssetOrAll, GivesBy, GivesClassOrAll, GivesClasses, GivesClassesOrAll, GivesDestination, GivesEditOrAll, GivesExact, GivesFirstEdit, GivesForm, GivesFrom, GivesGaps, GivesLink, GivesMethod, GivesMillimetre, GivesPlaceOnRoute, GivesPosition, GivesPositionBy, GivesRoute, GivesRouteOrAll, GivesSide, GivesSideOrBoth, GivesSince, GivesUntil, GivesUpTo, form_by, is_on_link};
 ghost use Rattle.lrs_web_requests.specs.Query.{parameter, switched};
 ghost use Rattle.lrs_web_replies.specs.Faults.{Lacks, LacksForm, LacksPosition};
 
@@ -36,6 +36,8 @@ const NO_SIDE_OR_BOTH: QueryFault = QueryFault::Malformed(Parameter::SideOrBoth)
 const NO_CLASS: QueryFault = QueryFault::Malformed(Parameter::Class);
 
 const NO_CLASSES: QueryFault = QueryFault::Malformed(Parameter::ClassesOrAll);
+
+const NO_BY: QueryFault = QueryFault::Malformed(Parameter::By);
 
 const NO_FROM: QueryFault = QueryFault::Malformed(Parameter::From);
 
@@ -225,8 +227,17 @@ pub(crate) fn classes_or_all_in(alloc: Global, query: &[u8]) -> Result<Rows<Clas
     class_names(alloc, texts.as_slice(), NO_CLASSES)
 }
 
+/// The classes by whose values lengths are asked for, or none.
+pub(crate) fn by_in(alloc: Global, query: &[u8]) -> Result<Rows<ClassName>, QueryFault>
+    ensures read { IfOk result (GivesBy query.now) }
+    ensures unread { IfErr result (Lacks Parameter.By query.now) }
+{
+    let texts = values_of(alloc, query, "by")?;
+    class_names(alloc, texts.as_slice(), NO_BY)
+}
+
 /// The number of at least `least` and at most `greatest` that a text says.
-fn read_number(text: &str, least: u64, greatest: u64) -> Option<u64>
+pub(crate) fn read_number(text: &str, least: u64, greatest: u64) -> Option<u64>
     ensures read { IfSome result (SaysNumber least greatest text.now) }
     ensures unread { IfNone result ((number : ℕ) → SaysNumber least greatest text.now number → ⊥) }
 {

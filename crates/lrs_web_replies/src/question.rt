@@ -63,6 +63,8 @@ pub enum Parameter {
     OnLink,
     /// Where on that link it is.
     Millimetre,
+    /// The classes of lengths by the combinations of their values, which may be left out.
+    By,
 }
 
 impl Parameter {
@@ -88,6 +90,7 @@ impl Parameter {
             Parameter::Chainage => "chainage",
             Parameter::OnLink => "link",
             Parameter::Millimetre => "mm",
+            Parameter::By => "by",
         }
     }
 }

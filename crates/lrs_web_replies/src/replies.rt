@@ -14,9 +14,11 @@ use crate::answers::{
     totals_json, translated_json, whereabouts_json,
 };
 use crate::bounded::BoundedBytes;
+use crate::combinations::combinations_reply;
 use crate::lines::lengths_lines;
 use crate::listings::listing_reply;
 use crate::overlay::overlay_reply;
+use crate::pages::Page;
 use crate::reply::{csv_reply, found_reply, refusal, svg_reply};
 use crate::row_lists::rows_reply;
 use lrs_events::Side;
@@ -108,9 +110,10 @@ fn told_reply(
     alloc: Global,
     most: usize,
     format: Format,
+    page: Page,
     told: Told<'_>,
 ) -> Result<Response, AllocError>
-    ensures { IfOk result (λ reply. ShowsTold format told.entry (answer_of reply)) }
+    ensures { IfOk result (λ reply. ShowsTold format page told.entry (answer_of reply)) }
 {
     match told {
         Told::At { route, found } => at_reply(alloc, &route, &found),
@@ -131,20 +134,29 @@ fn told_reply(
         Told::Totals(totals) => Ok(found_reply(totals_json(alloc, totals.as_slice())?)),
         Told::Found(rows) => Ok(found_reply(found_json(alloc, rows.as_slice())?)),
         Told::Where(found) => Ok(found_reply(whereabouts_json(alloc, &found)?)),
+        Told::Combinations {
+            classes,
+            combinations,
+        } => {
+            let (classes, rows) = (classes.as_slice(), combinations.as_slice());
+            combinations_reply(alloc, most, format, classes, rows)
+        }
         Told::Lengths(rows) => lengths_reply(alloc, most, format, rows.as_slice()),
-        Told::Rows { wanted, inventory } => rows_reply(alloc, most, format, inventory, &wanted),
+        Told::Rows { wanted, inventory } => rows_reply(
+            alloc, most, format, page, inventory, &wanted,
+        ),
         Told::Overlay { wanted, inventory } => {
-            overlay_reply(alloc, most, format, inventory, &wanted)
+            overlay_reply(alloc, most, format, page, inventory, &wanted)
         }
         Told::Listing { listing, inventory } => {
-            listing_reply(alloc, most, format, inventory, &listing)
+            listing_reply(alloc, most, format, page, inventory, &listing)
         }
         Told::Health(edits) => Ok(found_reply(health_json(alloc, edits)?)),
     }
 }
 
 /// The reply to what is told to a question: its answer, or why it is refused. The format is that of lists, rows, overlays
-/// and lengths. It is no longer made once it has so many bytes.
+/// and lengths; of the former three, as JSON, the page is told. It is no longer made once it has so many bytes.
 ///
 /// # Errors
 /// When memory or so many bytes do not suffice; the reply may be the empty 503 then, too.
@@ -152,12 +164,13 @@ pub fn reply_to(
     alloc: Global,
     most: usize,
     format: Format,
+    page: Page,
     told: Result<Told<'_>, AskFault>,
 ) -> Result<Response, AllocError>
-    ensures { IfOk result (λ reply. IsReplyTo format told.entry (answer_of reply)) }
+    ensures { IfOk result (λ reply. IsReplyTo format page told.entry (answer_of reply)) }
 {
     match told {
-        Ok(told) => told_reply(alloc, most, format, told),
+        Ok(told) => told_reply(alloc, most, format, page, told),
         Err(fault) => refusal(alloc, fault),
     }
 }

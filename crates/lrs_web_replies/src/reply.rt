@@ -1,11 +1,12 @@
 //! Replies that are JSON or a picture.
 
-ghost use Rattle.std.specs.Prelude.{◌≡◌, IfOk};
+ghost use Rattle.std.specs.Prelude.{◌≡◌, ◌++◌, IfOk, codes};
 ghost use Rattle.lrs_web_requests.specs.Text.{answer_of};
+ghost use Rattle.lrs_web_replies.specs.Pages.{page_fault_text};
 ghost use Rattle.lrs_web_replies.specs.Replies as spec;
 
 use crate::answers::error_json;
-use crate::{Parameter, QueryFault};
+use crate::{PageFault, Parameter, QueryFault};
 use http::StatusCode;
 use lrs_machine::Missing;
 use lrs_report_answers::{AskCause, AskFault, cause_of};
@@ -111,5 +112,28 @@ pub fn unasked(alloc: Global, fault: QueryFault) -> Result<Response, AllocError>
         QueryFault::Malformed(parameter) => malformed(alloc, parameter),
         QueryFault::NoRoute => error_reply(alloc, StatusCode::NOT_FOUND, "NoRoute"),
         QueryFault::Memory => Ok(Response::empty(StatusCode::SERVICE_UNAVAILABLE)),
+    }
+}
+
+fn malformed_page(alloc: Global, fault: PageFault) -> Result<Response, AllocError>
+    ensures { IfOk result (λ reply. answer_of reply
+        ≡ spec.error_answer 400 (codes "Malformed:" ++ page_fault_text fault)) }
+{
+    let name = fault.name();
+    let cause = format!(in alloc; "Malformed:{name}")?;
+    error_reply(alloc, StatusCode::BAD_REQUEST, cause.as_str())
+}
+
+/// The reply where no page of a list is asked for.
+///
+/// # Errors
+/// When memory runs out.
+pub fn unpaged(alloc: Global, fault: PageFault) -> Result<Response, AllocError>
+    ensures { IfOk result (λ reply. answer_of reply ≡ spec.unpaged fault) }
+{
+    match fault {
+        PageFault::Limit => malformed_page(alloc, fault),
+        PageFault::After => malformed_page(alloc, fault),
+        PageFault::Memory => Ok(Response::empty(StatusCode::SERVICE_UNAVAILABLE)),
     }
 }

@@ -2,5 +2,5 @@ use Rattle.std.proofs.Common.{ap, ◌∙◌}
 use Rattle.serde_json.specs.Written.{has_float}
 use Rattle.lrs_web_replies.proofs.listings.add_on.Goals as goal
 
-pub add_item-requires : goal.add_item-requires
-add_item-requires g c = ap has_float c.in_ok-value.ensures ∙ g.met.T.OnRoute.has_no_float c.args.route.now c.args.one.now
+pub add-requires : goal.add-requires
+add-requires g c = ap has_float c.in_ok-value.ensures ∙ g.met.T.OnRoute.has_no_float c.args.route.now c.args.one.now

@@ -2,5 +2,5 @@ use Rattle.std.proofs.Common.{ap}
 use Rattle.serde_json.specs.Written.{has_float}
 use Rattle.lrs_web_replies.proofs.listings.add_piece.Goals as goal
 
-pub add_item-requires : goal.add_item-requires
-add_item-requires c = ap has_float c.in_ok-value.ensures
+pub add-requires : goal.add-requires
+add-requires c = ap has_float c.in_ok-value.ensures

@@ -1,15 +1,9 @@
-use Rattle.std.proofs.Common.{ℕ, List, length, codes, ap, arith, map}
+use Rattle.std.proofs.Common.{codes, map}
 use Rattle.lrs_image.specs.OpenLists.{image_of}
-use Rattle.lrs_web_replies.specs.Parts.{front_text, item_text}
-use Rattle.std.specs.List.{flat_map}
 use Rattle.lrs_web_replies.specs.Listings.{route_length_data}
-use Rattle.lrs_web_replies.proofs.Listing.{behind, named, of_each}
+use Rattle.lrs_web_replies.proofs.Paging.{page_of_items}
 use Rattle.lrs_web_replies.proofs.listings.routes_json.Goals as goal
 
 pub returns : goal.returns
 returns c =
-    let i = image_of c.args.kept.now in
-    let name = codes "routes" in
-    let items = map route_length_data i.routes in
-    let same = ap (λ (t : List ℕ). length t) c.in_ok-bytes.ensures in
-    named c.end.result _ c.len-start.result name items c.end.ensures (omega arith) (behind (front_text name) _ _ _ (flat_map item_text items) c.in_ok-bytes.ensures c.in_ok-add_each.ensures (of_each route_length_data i.routes))
+    page_of_items c.end.result c.in_ok-text.text c.add_each.new.text (codes "routes") c.args.page (map route_length_data (image_of c.args.kept.now).routes) c.in_ok-text.ensures c.in_ok-add_each.ensures c.end.ensures

@@ -1,6 +1,5 @@
-use Rattle.std.proofs.Common.{◌≡◌, Some, ◌∙◌, ap, map, filter, subst}
+use Rattle.std.proofs.Common.{◌≡◌, ◌∙◌, ap, map, filter, subst}
 use Rattle.std.specs.Prelude.{List}
-use Rattle.std.specs.List.{flat_map}
 use Rattle.lrs_measure.specs.Runs.{Run}
 use Rattle.lrs_measure.specs.Texts.{Name}
 use Rattle.lrs_events.specs.RouteSpans.Search.{one_side}
@@ -11,9 +10,8 @@ use Rattle.lrs_report.specs.Sweep.{run_of}
 use Rattle.lrs_report_answers.proofs.SideBySide.{answered}
 use Rattle.lrs_report_answers.specs.Overlay.{is_segment_wanted}
 use Rattle.lrs_report_answers.specs.RouteSegments.{class_list}
-use Rattle.lrs_report_lists.proofs.Writing.{as_text}
+use Rattle.lrs_web_replies.proofs.Paging.{as_items}
 use Rattle.lrs_web_replies.specs.Overlay.{overlay_item, side_items}
-use Rattle.lrs_web_replies.specs.Parts.{item_text}
 use Rattle.lrs_web_replies.proofs.Overlaid.{wanted_items}
 use Rattle.lrs_web_replies.proofs.overlay.add_on_side.Goals as goal
 
@@ -28,5 +26,5 @@ returns-in-Ok c =
     let by_names : map run_of found ≡ segments_on (state_of i) e.route.course names side =
     answered (segment_fault (class_list (state_of i)) names (one_side side)) (λ fs. map run_of fs ≡ segments_on (state_of i) e.route.course names side) found c.in-Ok.ensures in
     let are : map run_of found ≡ segments_on (state_of i) e.route.course w.classes side = subst (λ (ns : List Name). map run_of found ≡ segments_on (state_of i) e.route.course ns side) c.as_slice-classes.ensures by_names in
-    as_text c.add_wanted_segments.result (Some c.args.bytes.now.items) (Some c.add_wanted_segments.new.bytes.items) _ (flat_map item_text (side_items i w e side)) c.add_wanted_segments.ensures
-    (wanted_items w e.route side found ∙ ap (λ (runs : List (Run Values)). flat_map item_text (map (overlay_item e.route side) (filter (is_segment_wanted w) runs))) are)
+    as_items c.add_wanted_segments.result c.args.text.now c.add_wanted_segments.new.text _ (side_items i w e side) c.add_wanted_segments.ensures
+    (wanted_items w e.route side found ∙ ap (λ (runs : List (Run Values)). map (overlay_item e.route side) (filter (is_segment_wanted w) runs)) are)

@@ -4,5 +4,5 @@ use Rattle.lrs_report.specs.Sweep.{run_of}
 use Rattle.lrs_web_replies.proofs.Whole.{overlay_whole}
 use Rattle.lrs_web_replies.proofs.overlay.add_segment.Goals as goal
 
-pub add_item-requires : goal.add_item-requires
-add_item-requires c = ap has_float c.in_ok-value.ensures ∙ overlay_whole c.args.route.now c.args.side (run_of c.args.segment.now)
+pub add-requires : goal.add-requires
+add-requires c = ap has_float c.in_ok-value.ensures ∙ overlay_whole c.args.route.now c.args.side (run_of c.args.segment.now)

@@ -3,5 +3,5 @@ use Rattle.serde_json.specs.Written.{has_float}
 use Rattle.lrs_web_replies.proofs.Whole.{row_whole}
 use Rattle.lrs_web_replies.proofs.row_lists.add_on_route.Goals as goal
 
-pub add_item-requires : goal.add_item-requires
-add_item-requires c = ap has_float c.in_ok-value.ensures ∙ row_whole _ c.args.route.now c.args.row.now
+pub add-requires : goal.add-requires
+add-requires c = ap has_float c.in_ok-value.ensures ∙ row_whole _ c.args.route.now c.args.row.now

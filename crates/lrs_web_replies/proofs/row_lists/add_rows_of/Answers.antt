@@ -1,14 +1,12 @@
-use Rattle.std.proofs.Common.{List, Some, ap, subst, sym, ◌∙◌, filter}
+use Rattle.std.proofs.Common.{List, ap, subst, sym, ◌∙◌, filter}
 use Rattle.std.specs.Prelude.{IsTrue}
 use Rattle.std.specs.List.{flat_map}
 use Rattle.lrs_events.specs.Spans.{are_rows}
 use Rattle.lrs_events.specs.declared.span.Span.{Span}
-use Rattle.lrs_report_lists.proofs.Writing.{as_text}
+use Rattle.lrs_web_replies.proofs.Paging.{as_items}
 use Rattle.lrs_report_lists.specs.RoadOrder.{in_road_order}
 use Rattle.lrs_report_lists.specs.WantedRows.{is_wanted}
-use Rattle.lrs_web_replies.specs.Parts.{row_part, rows_part}
-use Rattle.lrs_web_replies.specs.Listings.{row_items}
-use Rattle.lrs_web_replies.proofs.Listing.{of_all}
+use Rattle.lrs_web_replies.specs.Listings.{row_items, rows_of}
 use Rattle.lrs_web_replies.proofs.row_lists.add_rows_of.Goals as goal
 
 pub rows_in_road_order-requires : goal.rows_in_road_order-requires
@@ -19,6 +17,5 @@ returns c =
     let w = c.args.wanted.now in
     let assets = c.args.assets.now.rows in
     let e = c.args.route_row.now in
-    as_text c.add_rows_on.result (Some c.args.bytes.now.items) (Some c.add_rows_on.new.bytes.items) _ (rows_part w assets e) c.add_rows_on.ensures
-    (ap (flat_map (row_part w.form assets e.route)) (c.deref.ensures.value ∙ c.in_ok-rows.ensures ∙ ap (λ (z : List Span). in_road_order (filter (is_wanted w) z)) c.rows.ensures.rows)
-    ∙ of_all (row_items w.form assets e.route) (in_road_order (filter (is_wanted w) e.spans)))
+    as_items c.add_rows_on.result c.args.text.now c.add_rows_on.new.text _ (rows_of w assets e) c.add_rows_on.ensures
+    (ap (flat_map (row_items w.form assets e.route)) (c.deref.ensures.value ∙ c.in_ok-rows.ensures ∙ ap (λ (z : List Span). in_road_order (filter (is_wanted w) z)) c.rows.ensures.rows))
