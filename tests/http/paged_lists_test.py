@@ -14,7 +14,7 @@ KEYS = {
     "/v1/routes": ("name",),
     "/v1/links": ("link",),
     "/v1/classes": ("class",),
-    "/v1/refs": ("route", "chainage"),
+    "/v1/refs": ("route", "ref"),
     "/v1/marks": ("route", "chainage"),
     "/v1/pieces": ("route", "from"),
     "/v1/rows": ("route", "from", "side", "class", "asset"),
@@ -128,7 +128,7 @@ MALFORMED = {
     "/v1/links?after=x": "after",
     "/v1/links?after=1,": "after",
     "/v1/routes?after=": "after",
-    "/v1/refs?after=A1,KM2": "after",
+    "/v1/refs?after=A1,km2": "after",
     "/v1/overlay?after=A1,L,0": "class",
     "/v1/overlay?class=SPEED&after=A1,0,L": "after",
 }

@@ -1,5 +1,5 @@
 -- Pages of a list: the entries behind a key, and at most so many of them.
-use Rattle.std.specs.Prelude.{◌≡◌, ⊤, ℕ, ◌-◌, ◌^◌, Bool, true, false, ◌==◌, ◌+◌, if◌then◌else◌, List, [], ◌∷◌, ◌++◌, codes, bytes_eq, drop, filter, take, option_and_then, option_map, unwrap_or, Option, None, Some}
+use Rattle.std.specs.Prelude.{◌≡◌, ⊤, ℕ, ◌-◌, ◌^◌, Bool, true, false, ◌==◌, ◌+◌, if◌then◌else◌, List, [], ◌∷◌, ◌++◌, codes, bytes_eq, drop, filter, take, option_and_then, option_map, unwrap_or, Option, None, Some, IsTrue}
 use Rattle.std.specs.List.{list_any, position}
 use Rattle.std.specs.Option.{option_map_or}
 use Rattle.std.specs.Ordering.{match_ordering, nat_cmp}
@@ -8,6 +8,7 @@ use Rattle.std.specs.declared.cmp.Ordering.TheVariants.{Equal}
 use Rattle.serde_json.specs.Data.{Data}
 use Rattle.serde_json.specs.Find.{as_number, as_str, as_u64, get}
 use Rattle.lrs_measure.specs.Texts.{Name, name_cmp}
+use Rattle.lrs_position.specs.Names.{is_referent_name}
 use Rattle.lrs_events.specs.declared.side.Side.{Side}
 use Rattle.lrs_events.specs.declared.side.Side.TheVariants.{L, R, B}
 use Rattle.lrs_web_requests.specs.Query.{parameter, switched, unknown_name}
@@ -32,6 +33,7 @@ member_text member.Route = codes "route"
 member_text member.Name = codes "name"
 member_text member.Link = codes "link"
 member_text member.Class = codes "class"
+member_text member.Ref = codes "ref"
 member_text member.Chainage = codes "chainage"
 member_text member.From = codes "from"
 member_text member.Side = codes "side"
@@ -51,6 +53,7 @@ abbrev pub value_order : KeyValue → Data → Ordering
 value_order (value.Number n) shown = option_map_or (λ m. nat_cmp n m) (option_and_then as_u64 (as_number shown)) Equal
 value_order (value.Route name) shown = option_map_or (λ text. name_cmp name text) (as_str shown) Equal
 value_order (value.Class name) shown = option_map_or (λ text. name_cmp name text) (as_str shown) Equal
+value_order (value.Referent name) shown = option_map_or (λ text. name_cmp name text) (as_str shown) Equal
 value_order (value.Side side) shown = option_map_or (λ text. nat_cmp (side_place side) (side_text_place text)) (as_str shown) Equal
 
 -- how it stands to the member of an entry that has its name
@@ -92,7 +95,7 @@ abbrev pub key_of : Format → Resource → Text → Option (List KeyMember)
 key_of Json path.Routes query = Some (member.Name ∷ [])
 key_of Json path.Links query = Some (member.Link ∷ [])
 key_of Json path.Classes query = Some (member.Class ∷ [])
-key_of Json path.Refs query = Some (member.Route ∷ member.Chainage ∷ [])
+key_of Json path.Refs query = Some (member.Route ∷ member.Ref ∷ [])
 key_of Json path.Marks query = Some (member.Route ∷ member.Chainage ∷ [])
 key_of Json path.Pieces query = Some (member.Route ∷ member.From ∷ [])
 key_of Json path.Rows query =
@@ -101,7 +104,7 @@ key_of Json path.Rows query =
 key_of Json path.Overlay query = Some (member.Route ∷ member.Side ∷ member.From ∷ [])
 key_of _ _ query = None
 
--- a field says a whole number, the name of a route or of a class, or a side
+-- a field says a whole number, the name of a route, of a class or of a referent, or a side
 abbrev pub SaysNumberValue : Text → KeyValue → Type 0
 SaysNumberValue text (value.Number number) = SaysNumber 0 (2 ^ 64 - 1) text number
 SaysNumberValue text _ = ⊥
@@ -114,6 +117,10 @@ abbrev pub SaysClassValue : Text → KeyValue → Type 0
 SaysClassValue text (value.Class name) = SaysClass text name
 SaysClassValue text _ = ⊥
 
+abbrev pub SaysReferentValue : Text → KeyValue → Type 0
+SaysReferentValue text (value.Referent name) = (name ≡ text) × IsTrue (is_referent_name text)
+SaysReferentValue text _ = ⊥
+
 abbrev pub SaysSideValue : Text → KeyValue → Type 0
 SaysSideValue text (value.Side side) = SaysSide text side
 SaysSideValue text _ = ⊥
@@ -124,6 +131,7 @@ SaysValue member.Route text value = SaysRouteValue text value
 SaysValue member.Name text value = SaysRouteValue text value
 SaysValue member.Link text value = SaysNumberValue text value
 SaysValue member.Class text value = SaysClassValue text value
+SaysValue member.Ref text value = SaysReferentValue text value
 SaysValue member.Chainage text value = SaysNumberValue text value
 SaysValue member.From text value = SaysNumberValue text value
 SaysValue member.Side text value = SaysSideValue text value

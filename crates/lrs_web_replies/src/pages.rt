@@ -4,14 +4,14 @@ ghost use Rattle.std.specs.Prelude.{◌≡◌, ◌⊎◌, ℕ, List, Option, Som
 ghost use Rattle.serde_json.specs.View.{view};
 ghost use Rattle.lrs_web_requests.specs.declared.paths.Format.TheVariants.{Json};
 ghost use Rattle.lrs_web_requests.specs.declared.paths.Resource.TheVariants as path;
-ghost use Rattle.lrs_web_replies.specs.Pages.{CannotPage, GivesAfter, GivesLimit, GivesPage, SaysClassValue, SaysKey, SaysNumberValue, SaysRouteValue, SaysSideValue, SaysValue, comma_place, field_order, fields_behind, first_field, is_admitted, is_behind, is_on_links, key_of, member_text, page_fault_text, side_place, side_text_place, value_order, whole};
+ghost use Rattle.lrs_web_replies.specs.Pages.{CannotPage, GivesAfter, GivesLimit, GivesPage, SaysClassValue, SaysKey, SaysNumberValue, SaysReferentValue, SaysRouteValue, SaysSideValue, SaysValue, comma_place, field_order, fields_behind, first_field, is_admitted, is_behind, is_on_links, key_of, member_text, page_fault_text, side_place, side_text_place, value_order, whole};
 ghost use Rattle.lrs_web_replies.specs.declared.pages.KeyField.{KeyField as Field};
 ghost use Rattle.lrs_web_replies.specs.declared.pages.KeyValue.{KeyValue as Shown};
 
 use crate::parameters::read_number;
 use lrs_events::{ClassName, Side, read_side};
 use lrs_measure::{Rows, read_digits};
-use lrs_position::RouteName;
+use lrs_position::{RefName, RouteName};
 use lrs_web_requests::{Format, Resource, switched, value_of};
 use serde_json::Value;
 use std::alloc::{AllocError, AllocFailed, Global};
@@ -25,6 +25,7 @@ pub enum KeyMember {
     Name,
     Link,
     Class,
+    Ref,
     Chainage,
     From,
     Side,
@@ -37,6 +38,7 @@ pub enum KeyValue {
     Number(u64),
     Route(RouteName),
     Class(ClassName),
+    Referent(RefName),
     Side(Side),
 }
 
@@ -107,6 +109,7 @@ impl KeyMember {
             KeyMember::Name => "name",
             KeyMember::Link => "link",
             KeyMember::Class => "class",
+            KeyMember::Ref => "ref",
             KeyMember::Chainage => "chainage",
             KeyMember::From => "from",
             KeyMember::Side => "side",
@@ -178,6 +181,15 @@ fn class_order(name: ClassName, shown: &Value) -> Ordering
     }
 }
 
+fn referent_order(name: RefName, shown: &Value) -> Ordering
+    ensures { result ≡ value_order (KeyValue.Referent name) (view shown.now) }
+{
+    match shown.as_str() {
+        Some(text) => name.bytes().cmp(text.as_bytes()),
+        None => Ordering::Equal,
+    }
+}
+
 fn side_order(side: Side, shown: &Value) -> Ordering
     ensures { result ≡ value_order (KeyValue.Side side) (view shown.now) }
 {
@@ -195,6 +207,7 @@ fn value_order(value: KeyValue, shown: &Value) -> Ordering
         KeyValue::Number(number) => number_order(number, shown),
         KeyValue::Route(name) => route_order(name, shown),
         KeyValue::Class(name) => class_order(name, shown),
+        KeyValue::Referent(name) => referent_order(name, shown),
         KeyValue::Side(side) => side_order(side, shown),
     }
 }
@@ -265,6 +278,16 @@ fn class_value(text: &[u8]) -> Option<KeyValue>
     }
 }
 
+fn referent_value(text: &[u8]) -> Option<KeyValue>
+    ensures read { IfSome result (SaysReferentValue text.now) }
+    ensures unread { IfNone result ((value : Shown) → SaysReferentValue text.now value → ⊥) }
+{
+    match RefName::new(text) {
+        Some(name) => Some(KeyValue::Referent(name)),
+        None => None,
+    }
+}
+
 fn side_value(text: &[u8]) -> Option<KeyValue>
     ensures read { IfSome result (SaysSideValue text.now) }
     ensures unread { IfNone result ((value : Shown) → SaysSideValue text.now value → ⊥) }
@@ -285,6 +308,7 @@ fn read_value(member: &KeyMember, text: &[u8]) -> Option<KeyValue>
         KeyMember::Name => route_value(text),
         KeyMember::Link => number_value(text),
         KeyMember::Class => class_value(text),
+        KeyMember::Ref => referent_value(text),
         KeyMember::Chainage => number_value(text),
         KeyMember::From => number_value(text),
         KeyMember::Side => side_value(text),
@@ -429,7 +453,7 @@ fn json_page(alloc: Global, resource: Resource, query: &[u8]) -> Result<Page, Pa
         Resource::Routes => page_by(alloc, &[KeyMember::Name], query),
         Resource::Links => page_by(alloc, &[KeyMember::Link], query),
         Resource::Classes => page_by(alloc, &[KeyMember::Class], query),
-        Resource::Refs => page_by(alloc, &[route, KeyMember::Chainage], query),
+        Resource::Refs => page_by(alloc, &[route, KeyMember::Ref], query),
         Resource::Marks => page_by(alloc, &[route, KeyMember::Chainage], query),
         Resource::Pieces => page_by(alloc, &[route, from], query),
         Resource::Rows => rows_page(alloc, query),
