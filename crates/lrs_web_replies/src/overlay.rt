@@ -1,83 +1,35 @@
 //! The values of exclusive classes side by side, as replies.
 
-ghost use Rattle.std.specs.Prelude.{◌≡◌, ◌∷◌, ◌++◌, [], IfOk, OnOk, Some, codes, map};
+ghost use Rattle.std.specs.Prelude.{◌≡◌, ◌++◌, IfOk, OnOk, Some};
 ghost use Rattle.std.specs.List.{flat_map};
-ghost use Rattle.serde_json.specs.Data.{object, put};
-ghost use Rattle.serde_json.specs.View.{members_view, view};
+ghost use Rattle.serde_json.specs.View.{view};
 ghost use Rattle.serde_json.specs.Written.{compact_text};
 ghost use Rattle.lrs_measure.specs.Lists.{In};
 ghost use Rattle.lrs_report.specs.Sweep.{run_of};
 ghost use Rattle.lrs_report_answers.specs.Overlay.{overlay_text};
 ghost use Rattle.lrs_report_lists.specs.Lists.{routes_named};
 ghost use Rattle.lrs_web_requests.specs.Text.{answer_of};
-ghost use Rattle.lrs_web_replies.specs.JsonParts.{each};
-ghost use Rattle.lrs_web_replies.specs.Members.{scalar_data};
-ghost use Rattle.lrs_web_replies.specs.Overlay.{held_data, overlay_answer, overlay_data, overlay_item, overlay_items, segment_items, side_items};
+ghost use Rattle.lrs_web_replies.specs.Overlay.{overlay_answer, overlay_data, overlay_item, overlay_items, segment_items, side_items};
 ghost use Rattle.lrs_web_replies.specs.PagedText.{add_all, add_one};
 
 use crate::bounded::BoundedBytes;
 use crate::entries::{decimal_at, measure_at};
-use crate::members::{Member, Scalar, members_of, scalar_value, with_value};
+use crate::held::with_held;
+use crate::members::{Member, Scalar, members_of};
 use crate::paged_text::PagedText;
 use crate::pages::Page;
 use crate::reply::{csv_reply, found_reply};
-use lrs_events::{LinkSide, Value as AssetValue};
+use lrs_events::LinkSide;
 use lrs_inventory::Inventory;
 use lrs_machine::{OverlayWanted, RouteRow, Segment};
 use lrs_position::{Route, RouteName};
 use lrs_report_answers::{RouteSegments, is_segment_wanted, overlay_segments, write_overlay};
 use lrs_report_lists::link_side_text;
 use lrs_web_requests::{Format, Response};
-use serde_json::{Map, Value};
+use serde_json::Value;
 use std::alloc::{AllocError, Global};
 
 // ---- a segment
-
-fn held_or_null(value: Option<AssetValue>) -> Scalar
-    ensures { scalar_data result ≡ held_data value }
-{
-    match value {
-        Some(value) => Scalar::Held(value),
-        None => Scalar::Null,
-    }
-}
-
-fn push_held(
-    alloc: Global,
-    values: &mut Vec<Value>,
-    held: Option<AssetValue>,
-) -> Result<(), AllocError>
-    ensures { OnOk result (map view values.new.items
-        ≡ map view values.old.items ++ held_data held ∷ []) }
-{
-    let value = scalar_value(alloc, &held_or_null(held))?;
-    Ok(values.push(value)?)
-}
-
-/// A list of values, each null where there is none.
-fn held_values(alloc: Global, held: &[Option<AssetValue>]) -> Result<Value, AllocError>
-    ensures { IfOk result (λ value. view value ≡ each held_data held.now) }
-{
-    let mut values = Vec::new(alloc);
-    for one in held {
-        push_held(alloc, &mut values, *one)?;
-    }
-    Ok(Value::Array(values))
-}
-
-/// An object of these members and values. It takes them, so that a caller has none to drop where memory runs out.
-fn with_held(
-    alloc: Global,
-    map: Map<String, Value>,
-    held: &[Option<AssetValue>],
-) -> Result<Value, AllocError>
-    ensures { IfOk result (λ value. view value
-        ≡ object (put (codes "values") (each held_data held.now) (members_view map.entries))) }
-{
-    let values = held_values(alloc, held)?;
-    let members = with_value(alloc, map, "values", values)?;
-    Ok(Value::Object(members))
-}
 
 fn segment_value(
     alloc: Global,
