@@ -2,9 +2,11 @@
 
 ghost use Rattle.std.specs.Prelude.{◌≡◌, IfSome, Some};
 ghost use Rattle.std.specs.List.{find};
+ghost use Rattle.std.specs.Option.{option_map};
 ghost use Rattle.lrs_image.specs.Change.{is_named};
 ghost use Rattle.lrs_inventory.specs.RouteStretches.{IsRouteIn};
 ghost use Rattle.lrs_machine.specs.Image.{state_of};
+ghost use Rattle.lrs_measure.specs.Texts.{same_name};
 ghost use Rattle.lrs_report_answers.specs.AssetStretches.{all_rows_of};
 ghost use Rattle.lrs_cli_sheets.specs.Holdings as spec;
 
@@ -54,15 +56,21 @@ fn meets(side: Side, stretch: RouteStretch, row: &Span) -> bool
 }
 
 // The first of these rows that has one.
-fn first_of(rows: &[Span], side: Side, stretch: RouteStretch) -> Option<Span>
-    ensures { result ≡ find (spec.meets side stretch) rows.now }
+fn first_of(rows: &[Span], side: Side, stretch: RouteStretch) -> Option<&Span>
+    ensures { option_map (λ row. row.now) result ≡ find (spec.meets side stretch) rows.now }
 {
-    rows.iter().find(|row| meets(side, stretch, *row)).copied()
+    rows.iter().find(|row| meets(side, stretch, *row))
 }
 
 // The first row of an asset on a route that has one.
-fn first_met(route_row: &RouteRow, asset: &Asset, side: Side, stretch: RouteStretch) -> Option<Span>
-    ensures { result ≡ spec.first_met asset.now side stretch route_row.now }
+fn first_met<'a>(
+    route_row: &'a RouteRow,
+    asset: &Asset,
+    side: Side,
+    stretch: RouteStretch,
+) -> Option<&'a Span>
+    ensures { option_map (λ row. row.now) result
+        ≡ spec.first_met asset.now side stretch route_row.now }
 {
     let rows = route_row.spans.asset_rows(asset.class, asset.number);
     first_of(rows, side, stretch)
@@ -101,13 +109,20 @@ fn lain_over(inventory: &Inventory, asked: &NewAsset, asset: &Asset) -> Option<F
     }
 }
 
-// The first of these rows on the route of a name, or else the first of all.
-fn first_on(rows: &[FoundRow], route: &RouteName) -> Option<FoundRow>
-    ensures { result ≡ spec.first_on route.now rows.now }
+// The first of these rows on the route of a name.
+fn found_on<'a>(rows: &'a [FoundRow], route: &RouteName) -> Option<&'a FoundRow>
+    ensures { option_map (λ row. row.now) result ≡ find (λ r. same_name r.route route.now) rows.now }
 {
-    match rows.iter().find(|row| row.route == *route) {
-        Some(row) => Some(*row),
-        None => rows.first().copied(),
+    rows.iter().find(|row| row.route == *route)
+}
+
+// The same, or else the first of all.
+fn first_on<'a>(rows: &'a [FoundRow], route: &RouteName) -> Option<&'a FoundRow>
+    ensures { option_map (λ row. row.now) result ≡ spec.first_on route.now rows.now }
+{
+    match found_on(rows, route) {
+        Some(row) => Some(row),
+        None => rows.first(),
     }
 }
 
@@ -122,7 +137,7 @@ fn first_found(
         (all_rows_of (state_of inventory.now) number) ≡ Some row) }
 {
     match find(alloc, inventory, number) {
-        Ok(rows) => first_on(rows.as_slice(), route),
+        Ok(rows) => first_on(rows.as_slice(), route).copied(),
         Err(_) => None,
     }
 }
