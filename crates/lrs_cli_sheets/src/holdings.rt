@@ -7,7 +7,7 @@ ghost use Rattle.lrs_image.specs.Change.{is_named};
 ghost use Rattle.lrs_inventory.specs.RouteStretches.{IsRouteIn};
 ghost use Rattle.lrs_machine.specs.Image.{state_of};
 ghost use Rattle.lrs_measure.specs.Texts.{same_name};
-ghost use Rattle.lrs_report_answers.specs.AssetStretches.{all_rows_of};
+ghost use Rattle.lrs_report_answers.specs.AssetStretches.{all_rows_of, row_of_span};
 ghost use Rattle.lrs_cli_sheets.specs.Holdings as spec;
 
 use crate::place_notes::name_of;
@@ -76,6 +76,18 @@ fn first_met<'a>(
     first_of(rows, side, stretch)
 }
 
+// A row of a route, with its name.
+fn found_row(route: RouteName, row: &Span) -> FoundRow
+    ensures { result ≡ row_of_span route row.now }
+{
+    FoundRow {
+        route,
+        from: row.from,
+        to: row.to,
+        side: row.side,
+    }
+}
+
 // The first row of an asset that a new one would lie over, on the route of the new one.
 fn lain_over_on(
     inventory: &Inventory,
@@ -90,13 +102,10 @@ fn lain_over_on(
     let Ok(stretch) = inventory.stretch(route_row, asked.location) else {
         return None;
     };
-    let row = first_met(route_row, asset, asked.side, stretch)?;
-    Some(FoundRow {
-        route: route_row.route.name,
-        from: row.from,
-        to: row.to,
-        side: row.side,
-    })
+    match first_met(route_row, asset, asked.side, stretch) {
+        Some(row) => Some(found_row(route_row.route.name, row)),
+        None => None,
+    }
 }
 
 // The same of the route by its name.
@@ -154,7 +163,7 @@ fn places_of_row(kind: Kind, row: &FoundRow) -> Places
 }
 
 // How a row of an asset is told.
-fn holding(inventory: &Inventory, asset: Asset, row: &FoundRow) -> Option<Holding> {
+fn holding_at(inventory: &Inventory, asset: Asset, row: &FoundRow) -> Option<Holding> {
     let kind = inventory.class(&asset.class)?;
     let route_row = inventory.route(&row.route)?;
     Some(Holding {
@@ -173,7 +182,7 @@ pub(crate) fn holding_below(
 ) -> Option<Holding> {
     let asset = inventory.asset(number)?;
     let row = lain_over(inventory, asked, &asset)?;
-    holding(inventory, asset, &row)
+    holding_at(inventory, asset, &row)
 }
 
 /// Where the asset of a number lies: its first stretch on the route of a name, or else on the first route that has one.
@@ -185,5 +194,5 @@ pub(crate) fn holding_of(
 ) -> Option<Holding> {
     let asset = inventory.asset(number)?;
     let row = first_found(alloc, inventory, route, number)?;
-    holding(inventory, asset, &row)
+    holding_at(inventory, asset, &row)
 }
