@@ -1,7 +1,7 @@
 """On a terminal it is said how places are understood: in metres, with the measures there. Where measures were meant most likely,
 a hint says how they are written, or in a sheet at which chainages they are. Of an asset of which nothing is left it is said what
-took the last of it, and of a record that is refused what is near to what it names. Elsewhere nothing is said of it, and the answer
-is the same everywhere."""
+took the last of it, and of a record that is refused what is near to what it names, or where the asset lies that it is about.
+Elsewhere nothing is said of it, and the answer is the same everywhere."""
 
 import pytest
 from program import FIRST, HEADER, TOP, on_terminal, record, run, sheet_of
@@ -203,6 +203,90 @@ def test_a_check_tells_what_is_near_to_what_is_refused(county):
     assert said("check", county, "stdin", "--survey", given=survey) == ["key v1: the nearest route is B4100"]
     many = sheet_of(*(f"x{n},close,A39" for n in range(30)))
     assert said("check", county, "stdin", given=many) == [f"key x{n}: the nearest route is A38" for n in range(20)]
+
+
+def told_of(db, *texts):
+    """What a check of these records, x0 and so on, says of those that are refused: the keys, and what is said of each."""
+    sheet = sheet_of(*(f"x{n},{text}" for n, text in enumerate(texts)))
+    told = [line for line in said("check", db, "stdin", given=sheet) if ": splits " not in line]
+    return dict(line.removeprefix("key ").split(": ", 1) for line in told)
+
+
+SMA11 = "asset 201 (SMA11) lies on A38 from 0.000 m (measure 12000) to 4200.000 m (measure 16200), side B"
+AC11 = "asset 203 (AC11) lies on A38 from 4200.000 m (measure 16200) to 7800.000 m (measure 19800), side R"
+
+HOLDERS = [
+    # the least asset that a new one would lie over: all of its stretch, on its side
+    ("enter,99900,SURFACE,A38,R,abs,16000,17000,X,0", SMA11),
+    ("enter,99900,SURFACE,A38,R,abs,16200,17000,X,0", AC11),
+    # nothing of it lies there, on this route or on another
+    ("retire,201,A38,abs,17000,18000", SMA11),
+    ("retire,201,B4100,abs,0,1000", SMA11),
+    ("retire,508,A38,abs,17000", "asset 508 (town) lies on A38 at 4200.000 m (measure 16200), side L"),
+    # other causes
+    ("enter,99900,SURFACE,A38,R,abs,16200,16200,X,0", None),
+    ("enter,201,SURFACE,A38,R,abs,16200,17000,X,0", None),
+    ("retire,99900,A38,abs,17000,18000", None),
+]
+
+
+def test_a_check_tells_where_the_asset_lies_that_a_refused_record_is_about(county):
+    held = {f"x{n}": holder for n, (_, holder) in enumerate(HOLDERS) if holder}
+    assert told_of(county, *(text for text, _ in HOLDERS)) == held
+    survey = b"key,asset,class,route,side,method,from,to,value,offset\nv1,99900,SURFACE,A38,R,abs,16000,17000,X,0\n"
+    assert said("check", county, "stdin", "--survey", given=survey) == [f"key v1: {SMA11}"]
+    many = told_of(county, *["retire,201,A38,abs,17000,18000"] * 30)
+    assert many == {f"x{n}": SMA11 for n in range(20)}
+
+
+def test_a_check_tells_the_first_stretch_that_a_new_asset_would_lie_over(small):
+    first = "asset 10 (60) lies on A1 from 2.500 m (measure 3000) to 5.000 m (measure 6000), side B"
+    second = "asset 10 (60) lies on A1 from 6.000 m (measure 7000) to 8.000 m (measure 9000), side B"
+    assert told_of(
+        small,
+        "enter,10,SPEED,A1,B,abs,3000,9000,60,0",
+        "retire,10,A1,abs,6000,7000",
+        "enter,11,SPEED,A1,L,abs,6500,8000,40,0",
+        "enter,12,SPEED,A1,R,abs,1200,8000,40,0",
+        "enter,13,SPEED,A1,R,abs,6000,7000,40,0",
+    ) == {"x2": second, "x3": first}
+
+
+def test_a_check_tells_a_stretch_on_a_side_of_the_new_asset(small):
+    """The asset lies to the left of A1, of which the first part is turned: there it lies to the right."""
+    assert told_of(
+        small,
+        "enter,10,SPEED,A1,L,abs,0,9000,60,0",
+        "split,A1,5000,A2",
+        "turn,A1",
+        "join,A1,A2",
+        "enter,11,SPEED,A1,L,int,0/1,1/1,40,0",
+        "enter,12,SPEED,A1,B,int,0/1,1/1,40,0",
+    ) == {
+        "x4": "asset 10 (60) lies on A1 from 5.000 m (measure 6000) to 8.000 m (measure 9000), side L",
+        "x5": "asset 10 (60) lies on A1 from 0.000 m (measure 0) to 5.000 m (measure 6000), side R",
+    }
+
+
+def test_a_check_tells_where_an_asset_lies_that_is_not_where_it_is_retired(small):
+    """On the route of the record, else on the first that has it by name, else what took the last of it."""
+    assert told_of(
+        small,
+        "enter,10,SPEED,A1,B,abs,3000,9000,60,0",
+        "split,A1,5000,A2",
+        "retire,10,A2,abs,7000,9000",
+        "retire,10,A2,abs,8000,9000",
+        "retire,10,H1,int,0/1,1/1",
+        "retire,10,A1,abs,0,6000",
+        "retire,10,A1,abs,0,6000",
+        "close,A2",
+        "retire,10,A1,abs,0,6000",
+    ) == {
+        "x3": "asset 10 (60) lies on A2 from 0.000 m (measure 6000) to 1.000 m (measure 7000), side B",
+        "x4": "asset 10 (60) lies on A1 from 2.500 m (measure 3000) to 5.000 m (measure 6000), side B",
+        "x6": "asset 10 (60) lies on A2 from 0.000 m (measure 6000) to 1.000 m (measure 7000), side B",
+        "x8": "asset 10: the last of it was abandoned by edit 14 (key x7)",
+    }
 
 
 LIMIT = "e1,enter,10,SPEED,A1,B,abs,3000,9000,60,0"

@@ -6,3 +6,4 @@ pub mod Reports
 pub mod Tidyings
 pub mod Places
 pub mod Remains
+pub mod Holdings

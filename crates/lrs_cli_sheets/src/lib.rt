@@ -6,6 +6,7 @@ mod advice;
 mod audit;
 mod cuts;
 mod difference;
+mod holdings;
 mod likely_measures;
 mod nearby;
 mod nearest;

@@ -2,13 +2,16 @@
 
 ghost use Rattle.std.specs.Prelude.{◌<◌, IfSome};
 
+use crate::holdings::{Holding, holding_below, holding_of};
 use crate::nearest::{nearest_class, nearest_on, nearest_referent, nearest_route};
+use crate::remains::{LastPart, last_part};
 use lrs_element::Mark;
 use lrs_events::ClassName;
 use lrs_inventory::Inventory;
 use lrs_machine::{Cause, Command};
 use lrs_measure::Metres;
 use lrs_position::{EnteredPosition, EventLocation, Expr, RefName, Route, RouteName};
+use std::alloc::Global;
 use std::fmt;
 
 /// What is near.
@@ -29,6 +32,10 @@ pub(crate) enum Nearby<'a> {
         before: u64,
         behind: u64,
     },
+    /// Where an asset lies.
+    Held(Holding),
+    /// What took the last of an asset of which nothing is left.
+    Gone(LastPart),
 }
 
 // A name as text.
@@ -67,6 +74,8 @@ impl<'a> fmt::Display for Nearby<'a> {
                 write!(f, "{name} has marks at {before} and {behind}")?;
                 write!(f, ", and none between")
             }
+            Nearby::Held(holding) => write!(f, "{holding}"),
+            Nearby::Gone(last) => write!(f, "{last}"),
         }
     }
 }
@@ -202,8 +211,36 @@ fn near_marks<'a>(inventory: &'a Inventory, command: &Command) -> Option<Nearby<
     })
 }
 
+// Where an asset lies over which a new one would lie.
+fn near_holder<'a>(inventory: &'a Inventory, command: &Command, number: u64) -> Option<Nearby<'a>> {
+    match command {
+        Command::Enter(asked) => {
+            let holding = holding_below(inventory, asked, number)?;
+            Some(Nearby::Held(holding))
+        }
+        _ => None,
+    }
+}
+
+// Where an asset lies of which nothing is to be retired, or what took the last of it.
+fn near_retired<'a>(
+    alloc: Global,
+    inventory: &'a Inventory,
+    command: &Command,
+) -> Option<Nearby<'a>> {
+    let Command::Retire { asset, route, .. } = command else {
+        return None;
+    };
+    if let Some(holding) = holding_of(alloc, inventory, route, asset.get()) {
+        return Some(Nearby::Held(holding));
+    }
+    let last = last_part(inventory, asset.get())?;
+    Some(Nearby::Gone(last))
+}
+
 /// What an inventory has near to what a command names that it refuses for this cause, if there is something to say.
 pub(crate) fn near_to<'a>(
+    alloc: Global,
     inventory: &'a Inventory,
     command: &Command,
     cause: Cause,
@@ -214,6 +251,8 @@ pub(crate) fn near_to<'a>(
         Cause::NoRef => near_referent(inventory, command),
         Cause::OffRoute | Cause::BadMarks(_) => whole_route(inventory, command),
         Cause::NoMark => near_marks(inventory, command),
+        Cause::Overlap(number) => near_holder(inventory, command, number),
+        Cause::Empty => near_retired(alloc, inventory, command),
         _ => None,
     }
 }

@@ -116,7 +116,7 @@ fn tell_refusal<R: Runtime<A = Global>>(
     if untold.refusals == 0 {
         return untold;
     }
-    match near_to(inventory, command, cause) {
+    match near_to(rt.alloc(), inventory, command, cause) {
         Some(near) => {
             let _ = eprintln!(rt; "key {key}: {near}");
             Untold {
