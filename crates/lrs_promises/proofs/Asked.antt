@@ -331,7 +331,7 @@ module _ (format : Format) (i : Image) (query : Text) (answer : Answer) (served 
   where_told q (s, gives, is) h = record { spot = s; gives_spot = gives; tells = asked_of q (question.Where s) is h; served = served }
 
   pub lengths_told : (q : Question) → AsksOf path.Lengths query q → AnswersQuestion format i q answer → LengthsTold format query i answer
-  lengths_told q (route, by_route, classes, by_classes, is) h = record {
+  lengths_told q (route, by_route, (classes, by_classes, is)) h = record {
     route = route;
     classes = classes;
     gives_route = by_route;
