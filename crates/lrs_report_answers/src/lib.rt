@@ -7,7 +7,7 @@ mod bands;
 mod cause;
 mod class_faults;
 mod combination_lines;
-mod combinations;
+pub mod combinations;
 mod entered_parts;
 mod fault;
 mod ground_routes;
@@ -30,7 +30,7 @@ mod told;
 
 pub use cause::{AskCause, cause_of};
 pub use combination_lines::write_combinations;
-pub use combinations::{Combination, combinations};
+pub use combinations::Combination;
 pub use fault::AskFault;
 pub use hits::{AtAnswer, at};
 pub use list_totals::totals_of_image;

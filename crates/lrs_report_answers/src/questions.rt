@@ -21,10 +21,11 @@ ghost use Rattle.lrs_report_answers.specs.Tally.RunningCounts.{IsCounted};
 ghost use Rattle.lrs_report_answers.specs.ToldAnswers.{AreRows, AreTotals, IsNamedRoute, IsOnLink, IsOverlay, IsTold, IsTranslated, Tells, length_on};
 
 use crate::class_faults::class_fault;
+use crate::combinations::combinations;
 use crate::tallies::Counts;
 use crate::{
-    AskFault, End, Told, at, combinations, diagram, end_of, find, length_of, named_route, segments,
-    to_link, translate, whereabouts,
+    AskFault, End, Told, at, diagram, end_of, find, length_of, named_route, segments, to_link,
+    translate, whereabouts,
 };
 use lrs_events::{ClassName, Side};
 use lrs_image::ImageLists;
@@ -235,10 +236,10 @@ fn tell_combinations<'a>(
         (told.Combinations classes) result }
     ensures never { result ≡ Err AskFault.MustReopen → ⊥ }
 {
-    let combinations = combinations(alloc, inventory, route, classes.as_slice())?;
+    let found = combinations(alloc, inventory, route, classes.as_slice())?;
     Ok(Told::Combinations {
         classes,
-        combinations,
+        combinations: found,
     })
 }
 
