@@ -1,5 +1,5 @@
 -- Two inventories that agree answer alike.
-use Rattle.std.proofs.Common.{◌≡◌, inl, inr, ℕ, Bool, true, false, List, ◌++◌, length, map, Option, Some, None, Result, Ok, Err, refl, sym, ap, subst, ◌∙◌}
+use Rattle.std.proofs.Common.{◌≡◌, inl, inr, ℕ, Bool, true, false, List, [], ◌∷◌, ◌++◌, length, map, Option, Some, None, Result, Ok, Err, refl, sym, ap, subst, ◌∙◌}
 use Rattle.std.specs.Prelude.{MatchOption, MatchResult, codes, filter, unwrap_or}
 use Rattle.std.specs.List.{AllByRecursion, find, flat_map}
 use Rattle.std.proofs.lemmas.Bool.{false≢true}
@@ -22,15 +22,18 @@ use Rattle.lrs_machine.specs.declared.question.Question.{Question}
 use Rattle.lrs_image.specs.Change.{is_named}
 use Rattle.lrs_report.specs.declared.diagrams.diagram.Diagram.{Diagram}
 use Rattle.lrs_machine.specs.declared.question.Listing.TheVariants as listing
-use Rattle.lrs_report_answers.specs.Answers.{IsAt, StandsAt, UnlessMemory, route_missing}
+use Rattle.lrs_report_answers.specs.Answers.{IsAt, StandsAt, UnlessMemory, UnlessMissing, route_missing}
+use Rattle.lrs_report_answers.specs.Combinations.{AreCombinationsOf, AreCombinationsOn}
 use Rattle.lrs_report_lists.specs.Lists.{routes_named}
+use Rattle.lrs_report_lists.specs.WantedRows.{is_of_route}
 use Rattle.lrs_report_answers.specs.Listings.{AreLengthsOf, missing_route}
 use Rattle.lrs_report_answers.specs.Overlay.{is_segment_wanted, overlay_header, overlay_line, overlay_wanted, sides_of}
 use Rattle.lrs_report_answers.specs.DrawnRows.{IsDrawn, IsDrawnOn}
 use Rattle.lrs_report_answers.specs.AssetStretches.{all_rows_of}
-use Rattle.lrs_report_answers.specs.RouteSegments.{IsSegmented, class_list}
+use Rattle.lrs_report_answers.specs.RouteSegments.{IsSegmented, UnlessRefused, class_list}
 use Rattle.lrs_report_answers.specs.ToldAnswers.{IsNamedRoute, Tells, length_on}
 use Rattle.lrs_report_answers.specs.Totals.{totals_of}
+use Rattle.lrs_report_answers.specs.declared.combinations.Combination.{Combination}
 use Rattle.lrs_report_answers.specs.declared.fault.AskFault.{AskFault}
 use Rattle.lrs_report_answers.specs.declared.fault.AskFault.TheVariants as why
 use Rattle.lrs_report_answers.specs.declared.told.Told.{Told}
@@ -58,7 +61,7 @@ use Rattle.lrs_web_requests.specs.Query.{parameter}
 use Rattle.lrs_web_replies.specs.QuestionAnswers.{AnswersQuestion}
 use Rattle.lrs_web_replies.specs.declared.pages.Page.{Page}
 use Rattle.lrs_web_replies.specs.Answers.{health_data, totals_data}
-use Rattle.lrs_web_replies.specs.Questions.{AsksOf, CannotAsk, GivesAsset, GivesExact, GivesFirstEdit, GivesGone, GivesOverlay, GivesRouteOrAll, GivesRows, GivesUntil, IsGiven, SaysDestination, SaysEdit, SaysRoute, SaysSide, parameters_of}
+use Rattle.lrs_web_replies.specs.Questions.{AsksOf, CannotAsk, GivesAsset, GivesExact, GivesFirstEdit, GivesGone, GivesOverlay, GivesRouteOrAll, GivesRows, GivesUntil, IsGiven, SaysDestination, SaysEdit, SaysRoute, SaysSide, lengths_question, parameters_of}
 use Rattle.lrs_web_replies.specs.Pages.{key_of, paged, unknown_in}
 use Rattle.lrs_web_replies.specs.Replies.{csv_answer, json_answer, unknown_answer, unpaged}
 use Rattle.lrs_web_replies.specs.Listings.{in_format, listing_answer, named_list}
@@ -71,7 +74,7 @@ use Rattle.lrs_promises.proofs.OneInventory.{same_inventories}
 use Rattle.lrs_promises.proofs.GivenPages.{one_fault, one_page, page_or_fault, served_fault}
 use Rattle.lrs_promises.proofs.Parameters.{one_first, one_if_given, one_number, one_asked, one_gone, one_overlay, one_place, one_position, one_route, one_said, one_side, one_spot}
 use Rattle.lrs_promises.proofs.Pictured.{drawn_once, named_once, route_once}
-use Rattle.lrs_promises.proofs.Places.{lengths_once, where_once}
+use Rattle.lrs_promises.proofs.Places.{combinations_once, lengths_once, where_once}
 use Rattle.lrs_promises.proofs.Translated.{TellsTranslated, one_destination, position_above, translated_once}
 use Rattle.lrs_promises.proofs.Asked.{AtTold, DiagramTold, LengthsTold, RouteTold, SegmentsTold, TranslateTold, WhereTold, at_told, between_reply, classes_reply, diagram_told, find_reply, find_told, gone_told, health_told, history_told, lengths_told, list_reply, list_told, log_told, marks_told, named_reply, one_split, overlay_reply, overlay_told, pieces_told, refs_told, route_told, rows_reply, rows_told, segments_told, splits, totals_told, translate_told, where_given, where_told}
 
@@ -169,6 +172,21 @@ overlay_of_state format page s j a =
     list_reply (missing_route j a.route)
     (classes_reply (segment_fault (class_list s) a.classes L)
     (between_reply (λ first last. overlay_in format page s j (overlay_wanted a first last)) (end_of j a.route From a.from) (end_of j a.route To a.to)))
+
+-- ---- lengths of the routes of an image, by the values of a state
+
+abbrev CombinationsOfState : State → Image → Option Name → List Name → Result (List Combination) AskFault → Type 0
+CombinationsOfState s j route classes =
+    UnlessMissing (missing_route j route) (UnlessRefused (segment_fault (class_list s) classes L) (UnlessMemory (AreCombinationsOn s classes (filter (is_of_route route) j.routes))))
+
+-- lengths do not hang on the ledgers
+lengths_same : (format : Format) (page : Page) (i j : Image) → state_of (with_ledgers i j) ≡ state_of j → (route : Option Name) (classes : List Name) (a b : Answer) → (a.status ≡ 503 → ⊥) → (b.status ≡ 503 → ⊥)
+    → AnswersQuestion format page (with_ledgers i j) (lengths_question route classes) a → AnswersQuestion format page j (lengths_question route classes) b → a ≡ b
+lengths_same format page i j e route [] a b served also (said, tells, shows) (other, more, too) =
+    told_once format page (AreLengthsOf j route) told.Lengths (lengths_once j route) (λ x c d p q. p ∙ sym q) a b served also said other tells more shows too
+lengths_same format page i j e route (class ∷ classes) a b served also (said, tells, shows) (other, more, too) =
+    told_once format page (AreCombinationsOf j route (class ∷ classes)) (told.Combinations (class ∷ classes)) (combinations_once j route (class ∷ classes)) (λ x c d p q. p ∙ sym q) a b served also said other
+    (subst (λ s. Tells (CombinationsOfState s j route (class ∷ classes)) (told.Combinations (class ∷ classes)) said) e tells) more shows too
 
 module _ (format : Format) (page : Page) (query : Text) (one two : Answer) (served : one.status ≡ 503 → ⊥) (also : two.status ≡ 503 → ⊥) where
   module _ (i j : Image) where
@@ -299,9 +317,9 @@ module _ (format : Format) (page : Page) (query : Text) (one two : Answer) (serv
     lengths_alike = alike (with_ledgers i j) j path.Lengths (λ k a. LengthsTold format page query k a) (λ x. x) (λ k a s. lengths_told format page k query a s)
         (λ a b h g.
         let route = one_if_given SaysRoute one_route (parameter (codes "route") query) g.route h.route g.gives_route h.gives_route in
-        told_once format page (AreLengthsOf j h.route) told.Lengths (lengths_once j h.route) (λ x c d p q. p ∙ sym q) a b h.served g.served h.tells.0 g.tells.0 h.tells.1
-        (coe 0 1 (k. Tells (AreLengthsOf j (route k)) told.Lengths g.tells.0) g.tells.1) h.tells.2 g.tells.2)
-        (λ k a h. ((h.route, h.gives_route), tt))
+        let classes : g.classes ≡ h.classes = g.gives_classes.0 ∙ sym h.gives_classes.0 in
+        lengths_same format page i j e h.route h.classes a b h.served g.served h.tells (coe 0 1 (k. AnswersQuestion format page j (lengths_question (route k) (classes k)) b) g.tells))
+        (λ k a h. ((h.route, h.gives_route), ((h.classes, h.gives_classes), tt)))
 
     where_alike : AnswersPage (with_ledgers i j) format page path.Where query one → AnswersPage j format page path.Where query two → one ≡ two
     where_alike = alike (with_ledgers i j) j path.Where (λ k a. WhereTold format page query k a) (λ x. x) (λ k a s. where_told format page k query a s)

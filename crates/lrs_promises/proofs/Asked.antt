@@ -52,7 +52,7 @@ use Rattle.lrs_web_replies.specs.declared.pages.Page.{Page}
 use Rattle.lrs_web_replies.specs.Answers.{found_data, health_data, totals_data}
 use Rattle.lrs_web_replies.specs.Listings.{listing_answer, rows_answer}
 use Rattle.lrs_web_replies.specs.Overlay.{overlay_answer}
-use Rattle.lrs_web_replies.specs.Questions.{AsksOf, CannotAsk, GivesAsset, GivesClasses, GivesClassesOrAll, GivesDestination, GivesExact, GivesFirstEdit, GivesFrom, GivesGone, GivesOverlay, GivesPosition, GivesRoute, GivesRouteOrAll, GivesRows, GivesSide, GivesSpot, GivesUntil, GivesUpTo, IsFirstMalformed, IsGiven, SaysRoute, parameters_of}
+use Rattle.lrs_web_replies.specs.Questions.{AsksOf, CannotAsk, GivesAsset, GivesBy, GivesClasses, GivesClassesOrAll, GivesDestination, GivesExact, GivesFirstEdit, GivesFrom, GivesGone, GivesOverlay, GivesPosition, GivesRoute, GivesRouteOrAll, GivesRows, GivesSide, GivesSpot, GivesUntil, GivesUpTo, IsFirstMalformed, IsGiven, SaysRoute, lengths_question, parameters_of}
 use Rattle.lrs_web_replies.specs.Replies.{json_answer, refusal, unasked}
 use Rattle.lrs_machine.specs.declared.absence.Missing.{Missing}
 use Rattle.lrs_web_replies.specs.declared.question.Parameter.{Parameter}
@@ -180,11 +180,13 @@ pub record WhereTold (format : Format) (page : Page) (query : Text) (i : Image) 
   pub tells : AnswersQuestion format page i (question.Where spot) answer
   pub served : answer.status ≡ 503 → ⊥
 
--- lengths were asked for, and told
+-- lengths of values were asked for, or of combinations of values, and told
 pub record LengthsTold (format : Format) (page : Page) (query : Text) (i : Image) (answer : Answer) : Type 0 where
   pub route : Option Name
+  pub classes : List Name
   pub gives_route : GivesRouteOrAll query route
-  pub tells : AnswersQuestion format page i (question.Lengths route) answer
+  pub gives_classes : GivesBy query classes
+  pub tells : AnswersQuestion format page i (lengths_question route classes) answer
   pub served : answer.status ≡ 503 → ⊥
 
 -- a diagram was asked for, and told
@@ -330,7 +332,14 @@ module _ (format : Format) (page : Page) (i : Image) (query : Text) (answer : An
   where_told q (s, gives, is) h = record { spot = s; gives_spot = gives; tells = asked_of q (question.Where s) is h; served = served }
 
   pub lengths_told : (q : Question) → AsksOf path.Lengths query q → AnswersQuestion format page i q answer → LengthsTold format page query i answer
-  lengths_told q (route, gives, is) h = record { route = route; gives_route = gives; tells = asked_of q (question.Lengths route) is h; served = served }
+  lengths_told q (route, by_route, (classes, by_classes, is)) h = record {
+    route = route;
+    classes = classes;
+    gives_route = by_route;
+    gives_classes = by_classes;
+    tells = asked_of q (lengths_question route classes) is h;
+    served = served;
+  }
 
   pub segments_told : (q : Question) → AsksOf path.Segments query q → AnswersQuestion format page i q answer → SegmentsTold format page query i answer
   segments_told q (route, side, classes, by_route, by_side, by_classes, is) h = record {

@@ -1,4 +1,4 @@
--- What is at a place is one answer, and so are the lengths of values.
+-- What is at a place is one answer, and so are the lengths of values and of their combinations.
 use Rattle.std.proofs.Common.{◌≡◌, ℕ, pos, unsigned_abs, List, [], ◌∷◌, Option, None, Some, Result, Ok, Err, refl, sym, ap, subst, ◌∙◌}
 use Rattle.std.specs.Prelude.{MatchResult}
 use Rattle.std.specs.List.{AllZip}
@@ -11,7 +11,10 @@ use Rattle.lrs_position.specs.declared.expression.Expr.{Expr}
 use Rattle.lrs_position.specs.declared.expression.Target.{Target}
 use Rattle.lrs_position.proofs.Answering.{IsSound-from_route}
 use Rattle.lrs_position.proofs.Located.{IsSound, same_expression}
+use Rattle.lrs_events.specs.declared.side.Side.TheVariants.{L}
 use Rattle.lrs_machine.specs.Image.{state_of}
+use Rattle.lrs_machine.specs.Segments.{segment_fault}
+use Rattle.lrs_machine.specs.declared.segment.SegFault.{SegFault}
 use Rattle.lrs_machine.specs.declared.image.Image.{Image}
 use Rattle.lrs_machine.specs.declared.image.RouteRow.{RouteRow}
 use Rattle.lrs_machine.specs.declared.absence.Missing.{Missing}
@@ -19,11 +22,14 @@ use Rattle.lrs_machine.specs.declared.question.AskedPlace.{AskedPlace}
 use Rattle.lrs_report_lists.specs.Length.Lengths.{AreLengths}
 use Rattle.lrs_report_lists.proofs.Length.Unique.{are_unique}
 use Rattle.lrs_report_answers.specs.Answers.{UnlessMemory, UnlessMissing}
+use Rattle.lrs_report_answers.specs.Combinations.{AreCombinations, AreCombinationsOf}
 use Rattle.lrs_report_answers.specs.Listings.{AreLengthsOf, missing_route}
 use Rattle.lrs_report_answers.specs.Place.Answers.{IsPosition, IsThere, IsWhereabouts, targets_of}
 use Rattle.lrs_report_answers.specs.Place.Places.{Spot, place_of}
+use Rattle.lrs_report_answers.specs.RouteSegments.{UnlessRefused, class_list}
 use Rattle.lrs_report_answers.specs.declared.fault.AskFault.{AskFault}
 use Rattle.lrs_report_answers.specs.declared.places.answer.Whereabouts.{Whereabouts}
+use Rattle.lrs_report_answers.proofs.Combined.{combinations_unique}
 use Rattle.lrs_promises.proofs.Once.{OneUnlessMemory, stands_once, unless_memory}
 
 -- a chainage of a sound route is expressed once by a target
@@ -66,3 +72,12 @@ lengths_once i route = by (missing_route i route)
     by : (o : Option Missing) → OneUnlessMemory (UnlessMissing o (UnlessMemory (AreLengths route i)))
     by None = unless_memory (AreLengths route i) (λ x y h g. are_unique route i x y h g)
     by (Some what) = λ r q h g some also. h ∙ sym g
+
+-- ... and of their combinations
+pub combinations_once : (i : Image) (route : Option Name) (classes : List Name) → OneUnlessMemory (AreCombinationsOf i route classes)
+combinations_once i route classes = by (missing_route i route) (segment_fault (class_list (state_of i)) classes L)
+  where
+    by : (o : Option Missing) (refuses : Option SegFault) → OneUnlessMemory (UnlessMissing o (UnlessRefused refuses (UnlessMemory (AreCombinations i route classes))))
+    by None None = unless_memory (AreCombinations i route classes) (λ x y h g. combinations_unique i route classes x y h g)
+    by None (Some fault) = λ r q h g some also. h ∙ sym g
+    by (Some what) refuses = λ r q h g some also. h ∙ sym g

@@ -175,6 +175,7 @@ module _ (i j : Image) (same : state_of i ≡ state_of j) (alike : SameInventori
       )
   told_alike key (question.Route route) says never_asked said other h g some also = absurd (nameless (subst (Contains all_questions) says.same_question says.is_question))
   told_alike key (question.Diagram route classes from to) says never_asked said other h g some also = absurd (nameless (subst (Contains all_questions) says.same_question says.is_question))
+  told_alike key (question.Combinations route classes) says never_asked said other h g some also = absurd (nameless (subst (Contains all_questions) says.same_question says.is_question))
   told_alike key question.Totals says never_asked said other h g some also = absurd (nameless (subst (Contains all_questions) says.same_question says.is_question))
   told_alike key (question.Where spot) says never_asked said other h g some also =
       let moved = tells_moved (IsWhereabouts (with_ledgers i j) spot) (IsWhereabouts j spot) told.Where (where_moved i j (ap state_of (sym is_with_ledgers) ∙ same) spot) said

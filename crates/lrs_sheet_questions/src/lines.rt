@@ -294,6 +294,7 @@ pub(crate) fn count_segments(told: &Told<'_>) -> Result<usize, AllocError>
         | Told::Totals(_)
         | Told::Where(_)
         | Told::Lengths(_)
+        | Told::Combinations { .. }
         | Told::Rows { .. }
         | Told::Overlay { .. }
         | Told::Listing { .. }
@@ -333,6 +334,7 @@ pub(crate) fn write_told<W: Write>(
         | Told::Diagram(_)
         | Told::Totals(_)
         | Told::Lengths(_)
+        | Told::Combinations { .. }
         | Told::Rows { .. }
         | Told::Overlay { .. }
         | Told::Listing { .. }

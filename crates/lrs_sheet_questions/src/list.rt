@@ -43,6 +43,7 @@ pub(crate) fn kind_of(told: &Told<'_>) -> Option<ListKind>
         | Told::Diagram(_)
         | Told::Totals(_)
         | Told::Where(_)
+        | Told::Combinations { .. }
         | Told::Health(_) => None,
     }
 }
@@ -70,6 +71,7 @@ fn write_text<W: Write>(alloc: Global, writer: &mut W, told: &Told<'_>) -> io::R
         | Told::Diagram(_)
         | Told::Totals(_)
         | Told::Where(_)
+        | Told::Combinations { .. }
         | Told::Health(_) => Ok(()),
     }
 }
