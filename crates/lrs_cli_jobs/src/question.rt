@@ -36,11 +36,12 @@ pub(crate) fn do_question<R: Runtime<A = Global>, W: Write + Drop, K: Keeper>(
 // Says which columns the list has that answers a question.
 fn tell_columns(rt: &HostRuntime, question: &Question) {
     if let Some(columns) = first_columns(question) {
-        let classes = match question {
-            Question::Overlay(_) => " and each CLASS",
-            _ => "",
+        let (before, behind) = match question {
+            Question::Combinations { .. } => ("each CLASS and ", ""),
+            Question::Overlay(_) => ("", " and each CLASS"),
+            _ => ("", ""),
         };
-        let _ = eprintln!(rt; "hint: its columns are {columns}{classes}");
+        let _ = eprintln!(rt; "hint: its columns are {before}{columns}{behind}");
     }
 }
 
