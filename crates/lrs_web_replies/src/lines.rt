@@ -11,6 +11,7 @@ ghost use Rattle.lrs_web_requests.specs.declared.paths.Format.TheVariants.{Csv};
 ghost use Rattle.lrs_web_replies.specs.Listings.{listing_answer, listing_text};
 
 use crate::bounded::BoundedBytes;
+use crate::pages::Page;
 use crate::reply::csv_reply;
 use lrs_image::ImageLists;
 use lrs_machine::{Listing, RowsWanted};
@@ -65,18 +66,21 @@ fn listing_lines(
 
 /// The reply with a list of an inventory as CSV.
 ///
+/// Whatever the page, it is the whole list.
+///
 /// # Errors
 /// When memory or so many bytes do not suffice.
 #[tactic(auto, using(crate::proofs::WrittenLines::as_lines))]
 pub(crate) fn csv_listing(
     alloc: Global,
     most: usize,
+    _page: &Page,
     kept: &ImageLists,
     listing: &Listing,
 ) -> Result<Response, AllocError>
     requires sound { IsSound (image_of kept.now) }
     ensures { IfOk result (λ reply. answer_of reply
-        ≡ listing_answer Csv (image_of kept.now) listing.now) }
+        ≡ listing_answer Csv _page.now (image_of kept.now) listing.now) }
 {
     let bytes = listing_lines(alloc, most, kept, listing)?;
     Ok(csv_reply(bytes))

@@ -330,7 +330,9 @@ fn json_listing(
         Listing::Pieces(route) => Ok(found_reply(pieces_json(alloc, most, page, kept, *route)?)),
         Listing::Gone(wanted) => Ok(found_reply(gone_json(alloc, most, kept, wanted)?)),
         Listing::History(asset) => Ok(found_reply(history_json(alloc, most, kept, *asset)?)),
-        Listing::Log { .. } | Listing::LogOfKey(_) => csv_listing(alloc, most, kept, listing),
+        Listing::Log { .. } | Listing::LogOfKey(_) => csv_listing(
+            alloc, most, &page, kept, listing,
+        ),
     }
 }
 
@@ -352,6 +354,6 @@ pub(crate) fn listing_reply(
     let kept = inventory.kept();
     match format {
         Format::Json => json_listing(alloc, most, page, kept, listing),
-        Format::Csv => csv_listing(alloc, most, kept, listing),
+        Format::Csv => csv_listing(alloc, most, &page, kept, listing),
     }
 }
