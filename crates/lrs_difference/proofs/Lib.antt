@@ -1,0 +1,4 @@
+pub mod Same
+pub mod Lacking
+pub mod Stretches
+pub mod Itself

@@ -1,0 +1,7 @@
+//! The difference of two inventories: what the one says and the other does not, line by line.
+#![tactic(auto)]
+
+pub mod laws;
+mod line;
+
+pub use line::{AssetFacts, Item, Line, Sign};
