@@ -2,3 +2,4 @@ pub mod Same
 pub mod Lacking
 pub mod Stretches
 pub mod Itself
+pub mod Signs

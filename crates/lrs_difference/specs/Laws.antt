@@ -1,8 +1,83 @@
 -- Laws of the difference of two inventories.
-use Rattle.std.specs.Prelude.{◌≡◌, []}
+use Rattle.std.specs.Prelude.{◌≡◌, ◌↔◌, ℕ, Bool, true, false, ◌||◌, ◌&&◌, not, nat_eq, nat_le, nat_lt, List, [], map}
+use Rattle.std.specs.List.{filter, list_any}
+use Rattle.lrs_measure.specs.Texts.{Name}
+use Rattle.lrs_events.specs.declared.side.Side.{Side}
+use Rattle.lrs_events.specs.Members.{has_side}
+use Rattle.lrs_events.specs.Places.{Place}
+use Rattle.lrs_machine.specs.declared.answer.Limits.{Limits}
+use Rattle.lrs_machine.specs.declared.command.Command.{Command}
 use Rattle.lrs_machine.specs.declared.image.Image.{Image}
-use Rattle.lrs_difference.specs.Difference.{difference}
+use Rattle.lrs_machine.specs.Image.{state_of}
+use Rattle.lrs_machine.specs.Laws.{is_route_edit}
+use Rattle.lrs_machine.specs.Machine.{step}
+use Rattle.lrs_machine.specs.Sound.{IsSound}
+use Rattle.lrs_machine.specs.State.{State}
+use Rattle.lrs_difference.specs.declared.line.Item.{Item}
+use Rattle.lrs_difference.specs.declared.line.Item.TheVariants.{Link, Class, Route, Referent, Asset, Holds}
+use Rattle.lrs_difference.specs.declared.line.Line.{Line}
+use Rattle.lrs_difference.specs.declared.line.Sign.{Sign}
+use Rattle.lrs_difference.specs.declared.line.Sign.TheVariants.{Removed, Added}
+use Rattle.lrs_difference.specs.Difference.{difference, facts_in}
 
 -- No inventory differs from itself.
 abbrev pub NothingDiffersFromItself : Type 0
 NothingDiffersFromItself = (i : Image) → difference i i ≡ []
+
+-- Two inventories say the same of links, classes, routes, referents, assets, and of what each asset holds.
+pub record SayTheSame (a b : Image) : Type 0 where
+  pub links : (state_of a).links ≡ (state_of b).links
+  pub classes : (state_of a).classes ≡ (state_of b).classes
+  pub routes : (state_of a).routes ≡ (state_of b).routes
+  pub referents : (name : Name) → (state_of a).referents name ≡ (state_of b).referents name
+  pub assets : facts_in (state_of a) ≡ facts_in (state_of b)
+  pub holds : (asset : ℕ) (p : Place) → (state_of a).holds asset p ≡ (state_of b).holds asset p
+
+-- The difference has no line exactly where they do.
+abbrev pub NoLineWhereTheyAgree : Type 0
+NoLineWhereTheyAgree = (a b : Image) → IsSound a → IsSound b → (difference a b ≡ []) ↔ SayTheSame a b
+
+abbrev pub same_sign : Sign → Sign → Bool
+same_sign Removed Removed = true
+same_sign Added Added = true
+same_sign _ _ = false
+
+abbrev pub other_sign : Sign → Sign
+other_sign Removed = Added
+other_sign Added = Removed
+
+-- the items of the lines of one sign, in their order
+abbrev pub items_of : Sign → List Line → List Item
+items_of sign lines = map (λ l. l.item) (filter (λ l. same_sign l.sign sign) lines)
+
+-- Where the two are exchanged, the signs are exchanged: what is removed the one way is added the other way, item by item.
+abbrev pub SignsAreExchanged : Type 0
+SignsAreExchanged = (a b : Image) (sign : Sign) → items_of sign (difference b a) ≡ items_of (other_sign sign) (difference a b)
+
+-- the item says that the asset holds the place
+abbrev pub gives : Item → ℕ → Place → Bool
+gives (Holds a link from to side) asset p = nat_eq a.number asset && nat_eq link p.link && nat_le from p.mm && nat_lt p.mm to && has_side side p.side
+gives _ asset p = false
+
+-- whether some line of the sign says so
+abbrev pub gives_some : Sign → List Line → ℕ → Place → Bool
+gives_some sign lines asset p = list_any (λ x. gives x asset p) (items_of sign lines)
+
+-- The second inventory holds what the first does and no removed line has, and what an added line has.
+abbrev pub LinesLeadToTheOther : Type 0
+LinesLeadToTheOther = (a b : Image) → IsSound a → IsSound b → (asset : ℕ) (p : Place)
+    → (state_of b).holds asset p ≡ ((state_of a).holds asset p && not (gives_some Removed (difference a b) asset p) || gives_some Added (difference a b) asset p)
+
+-- the item is of assets
+abbrev pub is_of_assets : Item → Bool
+is_of_assets (Link number length) = false
+is_of_assets (Class name kind) = false
+is_of_assets (Route name course marks) = false
+is_of_assets (Referent name link mm) = false
+is_of_assets (Asset a) = true
+is_of_assets (Holds a link from to side) = true
+
+-- A split, join, renumber, recalibrate or turn is told by no line of an asset, or of what assets hold.
+abbrev pub RouteEditsTellNoAsset : Type 0
+RouteEditsTellNoAsset = (limits : Limits) (key : Name) (command : Command) (a b : Image) → is_route_edit command ≡ true
+    → state_of b ≡ (step limits key command (state_of a)).state → (sign : Sign) → list_any is_of_assets (items_of sign (difference a b)) ≡ false
