@@ -14,7 +14,7 @@ use Rattle.lrs_difference.proofs.Lacking.{lacks_nothing_of_itself}
 use Rattle.lrs_difference.proofs.Same as decided
 use Rattle.lrs_difference.proofs.Stretches.{no_stretches}
 
-not_both : (b : Bool) → (b && not b) ≡ false
+pub not_both : (b : Bool) → (b && not b) ≡ false
 not_both true = refl
 not_both false = refl
 

@@ -6,3 +6,4 @@ pub mod Signs
 pub mod Rows
 pub mod Given
 pub mod Leading
+pub mod RouteEdits
