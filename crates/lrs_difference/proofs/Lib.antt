@@ -7,3 +7,6 @@ pub mod Rows
 pub mod Given
 pub mod Leading
 pub mod RouteEdits
+pub mod Sorted
+pub mod Referents
+pub mod Agreeing

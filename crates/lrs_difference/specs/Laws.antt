@@ -2,7 +2,6 @@
 use Rattle.std.specs.Prelude.{◌≡◌, ◌↔◌, ℕ, Bool, true, false, ◌||◌, ◌&&◌, not, nat_eq, nat_le, nat_lt, List, [], map}
 use Rattle.std.specs.List.{filter, list_any}
 use Rattle.lrs_measure.specs.Texts.{Name}
-use Rattle.lrs_events.specs.declared.side.Side.{Side}
 use Rattle.lrs_events.specs.Members.{has_side}
 use Rattle.lrs_events.specs.Places.{Place}
 use Rattle.lrs_machine.specs.declared.answer.Limits.{Limits}
@@ -12,7 +11,6 @@ use Rattle.lrs_machine.specs.Image.{state_of}
 use Rattle.lrs_machine.specs.Laws.{is_route_edit}
 use Rattle.lrs_machine.specs.Machine.{step}
 use Rattle.lrs_machine.specs.Sound.{IsSound}
-use Rattle.lrs_machine.specs.State.{State}
 use Rattle.lrs_difference.specs.declared.line.Item.{Item}
 use Rattle.lrs_difference.specs.declared.line.Item.TheVariants.{Link, Class, Route, Referent, Asset, Holds}
 use Rattle.lrs_difference.specs.declared.line.Line.{Line}
