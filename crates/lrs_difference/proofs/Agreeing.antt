@@ -37,13 +37,13 @@ less_one_way : (m n : ℕ) → nat_lt m n ≡ true → nat_lt n m ≡ true → �
 less_one_way m n h k = let a = ltb-true m n h in let b = ltb-true n m k in omega (arith, a, b)
 
 module _ (i : Image) (sound : IsSound i) where
-  classes_in_order : each_two (λ x y. name_before x.0 y.0) (entries (state_of i).classes) ≡ true
+  pub classes_in_order : each_two (λ x y. name_before x.0 y.0) (entries (state_of i).classes) ≡ true
   unfolding first_unsound state_of
   classes_in_order =
       each_two-map (λ x y. name_before x.0 y.0) (λ (c : Class). (c.name, c.kind)) i.classes
       ∙ passed (record { table = table.Class; passes = are_classes i.classes }) (tests i) sound (inr (inl refl))
 
-  routes_in_order : each_two (λ x y. name_before x.0 y.0) (entries (state_of i).routes) ≡ true
+  pub routes_in_order : each_two (λ x y. name_before x.0 y.0) (entries (state_of i).routes) ≡ true
   unfolding first_unsound state_of
   routes_in_order =
       let courses = courses_of i in
@@ -56,7 +56,7 @@ module _ (i : Image) (sound : IsSound i) where
       ∙ sym (each_two-map course_before (λ (e : RouteRow). record { route = e.route.name; entries = e.route.course }) i.routes)
       ∙ (and_parts order each (and_parts (order && each) free (and_parts (order && each && free) few test).0).0).0
 
-  facts_in_order : each_two (λ x y. nat_lt x.number y.number) (facts_in (state_of i)) ≡ true
+  pub facts_in_order : each_two (λ x y. nat_lt x.number y.number) (facts_in (state_of i)) ≡ true
   facts_in_order = each_two-map (λ x y. nat_lt x.number y.number) facts_of (entries (state_of i).assets) ∙ (sound_is_lawful i sound).grounded.assets
 
 -- ---- where there is no line, they say the same

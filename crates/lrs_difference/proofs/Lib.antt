@@ -10,3 +10,7 @@ pub mod RouteEdits
 pub mod Sorted
 pub mod Referents
 pub mod Agreeing
+pub mod Keys
+pub mod Merged
+pub mod Rising
+pub mod Ordered

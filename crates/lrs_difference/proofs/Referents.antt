@@ -26,14 +26,14 @@ use Rattle.lrs_machine.proofs.Finding.{find_found}
 use Rattle.lrs_machine.proofs.SoundImages.{passed}
 use Rattle.lrs_difference.specs.Difference.{referent_before, referents_in}
 
-abbrev Entry : Type 0
+abbrev pub Entry : Type 0
 Entry = Name × Millimetre
 
 -- two referents, or two entries, have different names
 abbrev differ : Referent → Referent → Bool
 differ a b = not (same_name a.name b.name)
 
-abbrev apart : Entry → Entry → Bool
+abbrev pub apart : Entry → Entry → Bool
 apart x y = not (same_name x.0 y.0)
 
 -- what stands before others where there is something
@@ -82,7 +82,7 @@ of_some_referent x routes m =
     let r = of_referent e.0.route.course x e.0.route.refs e.2 in
     (r.0, In-flat_map refs_of e.0 r.0 routes e.1 r.1, r.2)
 
-all_apart : (routes : List RouteRow) → each_two differ (flat_map refs_of routes) ≡ true → each_two apart (flat_map referents_on routes) ≡ true
+pub all_apart : (routes : List RouteRow) → each_two differ (flat_map refs_of routes) ≡ true → each_two apart (flat_map referents_on routes) ≡ true
 all_apart [] h = refl
 all_apart (e ∷ es) h =
     joined apart (referents_on e) (flat_map referents_on es)
@@ -112,7 +112,7 @@ refs_listed : (routes : List RouteRow) → flat_map (λ (r : RouteReferents). r.
 refs_listed [] = refl
 refs_listed (e ∷ es) = ap (λ xs. e.route.refs ++ xs) (refs_listed es)
 
-refs_apart : (i : Image) → IsSound i → each_two differ (flat_map refs_of i.routes) ≡ true
+pub refs_apart : (i : Image) → IsSound i → each_two differ (flat_map refs_of i.routes) ≡ true
 unfolding first_unsound
 refs_apart i sound =
     let test = passed (record { table = table.Ref; passes = are_all_referents (referents_of i) }) (tests i) sound (inr (inr (inr (inr (inr (inl refl)))))) in

@@ -63,7 +63,7 @@ sides_decided = record { itself = itself; equal = equal }
 abbrev whole : Run Side → Run (Option Side)
 whole u = record { from = u.from; to = u.to; value = Some u.value }
 
-held_in : (u : Run Side) (rs : List (Run (Option Side))) → In u (filter_map held_run rs) → In (whole u) rs
+pub held_in : (u : Run Side) (rs : List (Run (Option Side))) → In u (filter_map held_run rs) → In (whole u) rs
 held_in u [] m = absurd m
 held_in u (r ∷ rs) m = by r.value refl m (held_in u rs)
   where
@@ -143,7 +143,7 @@ module _ (held : Place → Bool) (number len : ℕ) where
   abbrev runs : List (Run (Option Side))
   runs = runs_of (same_option same_side) sides
 
-  are_runs : AreRuns (Option Side) (same_option same_side) 0 sides runs
+  pub are_runs : AreRuns (Option Side) (same_option same_side) 0 sides runs
   are_runs = (runs_are_one (Option Side) (same_option same_side) sides_decided sides runs).1 refl
 
   -- what the sides read
