@@ -14,3 +14,4 @@ pub mod Keys
 pub mod Merged
 pub mod Rising
 pub mod Ordered
+pub mod Words

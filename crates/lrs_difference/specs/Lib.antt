@@ -1,3 +1,4 @@
 pub mod Items
 pub mod Difference
 pub mod Laws
+pub mod Lines

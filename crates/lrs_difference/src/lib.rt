@@ -3,5 +3,7 @@
 
 pub mod laws;
 mod line;
+mod text;
 
 pub use line::{AssetFacts, Item, Line, Sign};
+pub use text::{sign_text, write_line, write_lines};
