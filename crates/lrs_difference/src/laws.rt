@@ -1,6 +1,13 @@
 //! Laws of the difference of two inventories.
 
 ghost use Rattle.lrs_difference.specs.Laws.{NothingDiffersFromItself, NoLineWhereTheyAgree, SignsAreExchanged, LinesAreInOrder, LinesLeadToTheOther, RouteEditsTellNoAsset};
+ghost use Rattle.lrs_difference.specs.Examples.{ShorterLimitIsTold};
+
+/// An example: where a speed limit becomes shorter and is taken from one side, the stretches that it no longer has are told,
+/// and so is a link that is added.
+pub fn shorter_limit_is_told()
+    ensures { ShorterLimitIsTold }
+{}
 
 /// No inventory differs from itself.
 pub fn nothing_differs_from_itself()
