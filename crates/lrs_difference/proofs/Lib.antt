@@ -15,3 +15,4 @@ pub mod Merged
 pub mod Rising
 pub mod Ordered
 pub mod Words
+pub mod Grouped
