@@ -18,7 +18,7 @@ ARCHITECTURE = TOP / "docs" / "ARCHITECTURE.md"
 
 # rt's bookkeeping walks each way down from each crate to those that it stands on, so a crate more costs all that stand above it.
 MOST_CRATES = 41
-MOST_WAYS = 67_500
+MOST_WAYS = 70_500
 
 # How many wrong bodies of a crate the gate tries; those of wrong-bodies/ are tried by whoever changes the crate.
 MOST_TRIED = 15
