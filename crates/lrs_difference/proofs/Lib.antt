@@ -7,3 +7,5 @@ pub mod Rows
 pub mod Given
 pub mod Leading
 pub mod RouteEdits
+pub mod Merged
+pub mod Passing

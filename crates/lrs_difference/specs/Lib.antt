@@ -1,3 +1,5 @@
 pub mod Items
 pub mod Difference
+pub mod Merging
+pub mod Text
 pub mod Laws

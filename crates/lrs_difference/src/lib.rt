@@ -3,5 +3,6 @@
 
 pub mod laws;
 mod line;
+mod merging;
 
 pub use line::{AssetFacts, Item, Line, Sign};
