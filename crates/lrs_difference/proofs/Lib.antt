@@ -9,3 +9,4 @@ pub mod Leading
 pub mod RouteEdits
 pub mod Merged
 pub mod Passing
+pub mod Words

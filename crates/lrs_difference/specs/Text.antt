@@ -2,6 +2,8 @@
 use Rattle.std.specs.Prelude.{ℕ, nat_eq, List, [], ◌∷◌, ◌++◌, codes}
 use Rattle.std.specs.List.{filter, flat_map}
 use Rattle.std.specs.Fmt.{decimal}
+use Rattle.lrs_measure.specs.Texts.{Name}
+use Rattle.lrs_events.specs.declared.class.Asset.{Asset as AssetValue}
 use Rattle.lrs_events.specs.Names.{kind_text, side_text}
 use Rattle.lrs_machine.specs.Lines.{Text, marks_text, pieces_text}
 use Rattle.lrs_machine.specs.declared.image.Image.{Image}
@@ -43,3 +45,14 @@ difference_text before after = flat_map line_text (difference before after)
 -- its lines of one group alone
 abbrev pub group_text : ℕ → Image → Image → Text
 group_text g before after = flat_map line_text (filter (λ l. nat_eq (group l.item) g) (difference before after))
+
+-- ---- the parts of a line, as they are written
+
+abbrev pub route_head : Sign → Name → Text
+route_head sign name = sign_text sign ++ codes ",route," ++ name ++ 44 ∷ []
+
+abbrev pub asset_head : Sign → ℕ → Text
+asset_head sign number = sign_text sign ++ codes ",asset," ++ decimal number ++ 44 ∷ []
+
+abbrev pub asset_end : AssetValue → Text
+asset_end a = csv_line (a.class ∷ a.value ∷ decimal a.lateral ∷ [])

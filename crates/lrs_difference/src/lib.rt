@@ -2,7 +2,10 @@
 #![tactic(auto)]
 
 pub mod laws;
+mod entries;
+mod groups;
 mod line;
+mod lines;
 mod merging;
 
 pub use line::{AssetFacts, Item, Line, Sign};
