@@ -10,3 +10,6 @@ pub mod RouteEdits
 pub mod Merged
 pub mod Passing
 pub mod Words
+pub mod Sections
+pub mod ByKey
+pub mod Listed

@@ -1,0 +1,56 @@
+-- The text of the groups that are lists of an image.
+use Rattle.std.proofs.Common.{◌≡◌, ℕ, List, [], ◌∷◌, map, refl, sym, ap, ◌∙◌}
+use Rattle.std.specs.List.{flat_map}
+use Rattle.lrs_measure.specs.Texts.{Name}
+use Rattle.lrs_element.specs.declared.link.Link.{Link as LinkValue}
+use Rattle.lrs_events.specs.declared.class.Asset.{Asset as AssetValue}
+use Rattle.lrs_events.specs.declared.class.Class.{Class as ClassValue}
+use Rattle.lrs_events.specs.declared.class.Kind.{Kind}
+use Rattle.lrs_machine.specs.declared.image.Image.{Image}
+use Rattle.lrs_machine.specs.declared.image.RouteRow.{RouteRow}
+use Rattle.lrs_machine.specs.Image.{asset_entry, link_entry, route_entry, state_of}
+use Rattle.lrs_machine.specs.Register.{entries}
+use Rattle.lrs_machine.specs.State as state
+use Rattle.lrs_difference.specs.declared.line.AssetFacts.{AssetFacts}
+use Rattle.lrs_difference.specs.declared.line.Item.TheVariants as item
+use Rattle.lrs_difference.specs.Difference.{class_item, facts_in, facts_of, in_order, lacking, link_item, route_item}
+use Rattle.lrs_difference.specs.Items.{same_asset, same_class, same_link, same_route}
+use Rattle.lrs_difference.specs.Merging.{lines_between}
+use Rattle.lrs_difference.specs.Text.{group_text, line_text}
+use Rattle.lrs_difference.proofs.ByKey.{lines_said}
+use Rattle.lrs_difference.proofs.Sections.{the_assets, the_classes, the_links, the_routes}
+
+abbrev pub class_entry : ClassValue → Name × Kind
+class_entry c = (c.name, c.kind)
+
+abbrev pub asset_facts : AssetValue → AssetFacts
+asset_facts a = facts_of (asset_entry a)
+
+facts_listed : (xs : List AssetValue) → map facts_of (map asset_entry xs) ≡ map asset_facts xs
+facts_listed [] = refl
+facts_listed (x ∷ xs) = ap (λ zs. asset_facts x ∷ zs) (facts_listed xs)
+
+facts_of_image : (i : Image) → facts_in (state_of i) ≡ map asset_facts i.assets
+unfolding state_of
+facts_of_image i = facts_listed i.assets
+
+pub links_text : (a b : Image) → flat_map line_text (lines_between (λ x y. same_link (link_entry x) (link_entry y)) (λ x. link_item (link_entry x)) a.links b.links) ≡ group_text 0 a b
+unfolding state_of
+links_text a b = ap (flat_map line_text) (lines_said link_entry same_link link_item a.links b.links ∙ sym (the_links a b))
+
+pub classes_text : (a b : Image) → flat_map line_text (lines_between (λ x y. same_class (class_entry x) (class_entry y)) (λ x. class_item (class_entry x)) a.classes b.classes) ≡ group_text 1 a b
+unfolding state_of
+classes_text a b = ap (flat_map line_text) (lines_said class_entry same_class class_item a.classes b.classes ∙ sym (the_classes a b))
+
+pub routes_text : (a b : Image) → flat_map line_text (lines_between (λ x y. same_route (route_entry x) (route_entry y)) (λ x. route_item (route_entry x)) a.routes b.routes) ≡ group_text 2 a b
+unfolding state_of
+routes_text a b = ap (flat_map line_text) (lines_said route_entry same_route route_item a.routes b.routes ∙ sym (the_routes a b))
+
+pub assets_text : (a b : Image) → flat_map line_text (lines_between (λ x y. same_asset (asset_facts x) (asset_facts y)) (λ x. item.Asset (asset_facts x)) a.assets b.assets) ≡ group_text 4 a b
+assets_text a b =
+    let f = facts_of_image a in
+    let g = facts_of_image b in
+    ap (flat_map line_text)
+    (lines_said asset_facts same_asset item.Asset a.assets b.assets
+    ∙ sym (λ i. in_order (map item.Asset (lacking same_asset (f i) (g i))) (map item.Asset (lacking same_asset (g i) (f i))))
+    ∙ sym (the_assets a b))

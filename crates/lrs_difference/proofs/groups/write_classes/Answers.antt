@@ -1,0 +1,20 @@
+use Rattle.std.proofs.Common.{List, ap, sym, ◌∙◌}
+use Rattle.std.specs.List.{flat_map}
+use Rattle.lrs_image.specs.OpenLists.{image_of}
+use Rattle.lrs_image.proofs.Tables.{classes_in_order}
+use Rattle.lrs_report_lists.proofs.Writing.{as_text}
+use Rattle.lrs_difference.specs.Text.{group_text, line_text}
+use Rattle.lrs_difference.proofs.Listed.{classes_text}
+use Rattle.lrs_difference.proofs.groups.write_classes.Goals as goal
+
+pub write_between-requires-clause-left : goal.write_between-requires-clause-left
+write_between-requires-clause-left g c = classes_in_order (image_of c.args.before.now) c.requires.before
+
+pub write_between-requires-clause-right : goal.write_between-requires-clause-right
+write_between-requires-clause-right g c = classes_in_order (image_of c.args.after.now) c.requires.after
+
+pub returns : goal.returns
+returns g c =
+    let a = image_of c.args.before.now in
+    let b = image_of c.args.after.now in
+    as_text c.write_between.result _ _ _ (group_text 1 a b) c.write_between.ensures (classes_text a b)
