@@ -19,10 +19,10 @@ use Rattle.lrs_difference.proofs.Same.{Tells}
 
 -- ---- orders
 
-abbrev OneWay : {K : Type 0} → (K → K → Bool) → Type 0
+abbrev pub OneWay : {K : Type 0} → (K → K → Bool) → Type 0
 OneWay {K = K} lt = (a b : K) → lt a b ≡ true → lt b a ≡ false
 
-abbrev Onward : {K : Type 0} → (K → K → Bool) → Type 0
+abbrev pub Onward : {K : Type 0} → (K → K → Bool) → Type 0
 Onward {K = K} lt = (a b c : K) → lt b a ≡ false → lt b c ≡ true → lt a c ≡ true
 
 module _ {K : Type 0} {R : K → K → Ordering} (o : IsTotalOrder R) where
@@ -35,25 +35,25 @@ module _ {K : Type 0} {R : K → K → Ordering} (o : IsTotalOrder R) where
   onward : Onward (λ a b. is_lt (R a b))
   onward a b c h k = turned a c (key_after o b c a k h)
 
-names_one_way : OneWay name_before
+pub names_one_way : OneWay name_before
 names_one_way = one_way nat_list_cmp_total
 
-names_onward : Onward name_before
+pub names_onward : Onward name_before
 names_onward = onward nat_list_cmp_total
 
-numbers_one_way : OneWay nat_lt
+pub numbers_one_way : OneWay nat_lt
 numbers_one_way a b h = numbers_agree b a ∙ one_way nat_cmp_total a b (sym (numbers_agree a b) ∙ h)
 
-numbers_onward : Onward nat_lt
+pub numbers_onward : Onward nat_lt
 numbers_onward a b c h k = numbers_agree a c ∙ onward nat_cmp_total a b c (sym (numbers_agree b a) ∙ h) (sym (numbers_agree b c) ∙ k)
 
 -- ---- entries with a key
 
 module _ {A B K : Type 0} (says : A → B) (key : B → K) (lt : K → K → Bool) (one : OneWay lt) (on : Onward lt) (same : B → B → Bool) (tells : Tells same) where
-  abbrev earlier : A → A → Bool
+  abbrev pub earlier : A → A → Bool
   earlier a b = lt (key (says a)) (key (says b))
 
-  abbrev alike : A → A → Bool
+  abbrev pub alike : A → A → Bool
   alike a b = same (says a) (says b)
 
   never : (k : K) → lt k k ≡ false

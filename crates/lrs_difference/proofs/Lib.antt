@@ -13,3 +13,4 @@ pub mod Words
 pub mod Sections
 pub mod ByKey
 pub mod Listed
+pub mod SamePieces

@@ -1,7 +1,7 @@
 -- The text of the groups that are lists of an image.
 use Rattle.std.proofs.Common.{◌≡◌, ℕ, List, [], ◌∷◌, map, refl, sym, ap, ◌∙◌}
 use Rattle.std.specs.List.{flat_map}
-use Rattle.lrs_measure.specs.Texts.{Name}
+use Rattle.lrs_measure.specs.Texts.{Name, name_before}
 use Rattle.lrs_element.specs.declared.link.Link.{Link as LinkValue}
 use Rattle.lrs_events.specs.declared.class.Asset.{Asset as AssetValue}
 use Rattle.lrs_events.specs.declared.class.Class.{Class as ClassValue}
@@ -11,13 +11,15 @@ use Rattle.lrs_machine.specs.declared.image.RouteRow.{RouteRow}
 use Rattle.lrs_machine.specs.Image.{asset_entry, link_entry, route_entry, state_of}
 use Rattle.lrs_machine.specs.Register.{entries}
 use Rattle.lrs_machine.specs.State as state
+use Rattle.lrs_machine.specs.Sound.{route_before}
 use Rattle.lrs_difference.specs.declared.line.AssetFacts.{AssetFacts}
 use Rattle.lrs_difference.specs.declared.line.Item.TheVariants as item
 use Rattle.lrs_difference.specs.Difference.{class_item, facts_in, facts_of, in_order, lacking, link_item, route_item}
 use Rattle.lrs_difference.specs.Items.{same_asset, same_class, same_link, same_route}
-use Rattle.lrs_difference.specs.Merging.{lines_between}
+use Rattle.lrs_difference.specs.Merging.{IsByKey, lines_between}
 use Rattle.lrs_difference.specs.Text.{group_text, line_text}
-use Rattle.lrs_difference.proofs.ByKey.{lines_said}
+use Rattle.lrs_difference.proofs.ByKey.{by_key, lines_said, names_one_way, names_onward}
+use Rattle.lrs_difference.proofs.Same as decided
 use Rattle.lrs_difference.proofs.Sections.{the_assets, the_classes, the_links, the_routes}
 
 abbrev pub class_entry : ClassValue → Name × Kind
@@ -54,3 +56,6 @@ assets_text a b =
     (lines_said asset_facts same_asset item.Asset a.assets b.assets
     ∙ sym (λ i. in_order (map item.Asset (lacking same_asset (f i) (g i))) (map item.Asset (lacking same_asset (g i) (f i))))
     ∙ sym (the_assets a b))
+
+pub routes_by_key : IsByKey route_before (λ x y. same_route (route_entry x) (route_entry y)) (λ x. route_item (route_entry x))
+routes_by_key = by_key route_entry (λ e. e.0) name_before names_one_way names_onward same_route decided.routes (λ x. route_item (route_entry x)) (λ a b. refl)

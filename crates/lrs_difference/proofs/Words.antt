@@ -23,5 +23,5 @@ module _ {X : Type 0} (text : X → Text) where
       subst (λ (t : List ℕ). Appends a d t) e whole
 
 -- the line of a route, by its parts
-pub route_parts : (s k n p m : Text) → (((((s ++ k ++ n ++ 44 ∷ []) ++ p) ++ 44 ∷ []) ++ m) ++ 10 ∷ []) ≡ (s ++ k ++ (n ++ 44 ∷ (p ++ 44 ∷ m))) ++ 10 ∷ []
+pub route_parts : (s k n p m : Text) → (((((s ++ k ++ n ++ 44 ∷ []) ++ p) ++ 44 ∷ []) ++ m) ++ 10 ∷ []) ≡ (s ++ (k ++ (n ++ 44 ∷ (p ++ 44 ∷ m)))) ++ 10 ∷ []
 route_parts s k n p m = simp append_assoc

@@ -1,5 +1,7 @@
 -- Two lists that are merged by the keys of their entries.
-use Rattle.std.specs.Prelude.{◌≡◌, ◌&&◌, Bool, true, false, List, [], ◌∷◌, map, Option, Some, None}
+use Rattle.std.specs.Prelude.{◌≡◌, ◌&&◌, nat_eq, Bool, true, false, List, [], ◌∷◌, map, Option, Some, None}
+use Rattle.lrs_measure.specs.Lists.{same_bool}
+use Rattle.lrs_element.specs.declared.link.Piece.{Piece}
 use Rattle.lrs_difference.specs.declared.line.Item.{Item}
 use Rattle.lrs_difference.specs.declared.line.Line.{Line}
 use Rattle.lrs_difference.specs.Difference.{in_order, lacking}
@@ -26,3 +28,6 @@ first_is test (y ∷ ys) = test y
 abbrev pub with_first : {A : Type 0} → Option A → List A → List A
 with_first None others = []
 with_first (Some x) others = x ∷ others
+
+abbrev pub same_piece : Piece → Piece → Bool
+same_piece p q = nat_eq p.link q.link && nat_eq p.from q.from && nat_eq p.to q.to && same_bool p.forward q.forward

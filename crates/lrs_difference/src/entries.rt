@@ -1,8 +1,9 @@
 //! The entries of the lists of an image, as they are compared.
 
-ghost use Rattle.std.specs.Prelude.{◌≡◌, ◌↔◌, IsTrue};
+ghost use Rattle.std.specs.Prelude.{◌≡◌};
 ghost use Rattle.std.specs.Cmp.Lexicographic.{pointwise};
 ghost use Rattle.lrs_machine.specs.Image.{route_entry};
+ghost use Rattle.lrs_difference.specs.Merging.{same_piece};
 ghost use Rattle.lrs_difference.specs.Items.{same_alignment, same_ground, same_kind, same_mark};
 
 use crate::line::Sign;
@@ -56,7 +57,7 @@ impl Entry for Class {
 }
 
 fn are_same_pieces(one: &[Piece], other: &[Piece]) -> bool
-    ensures { IsTrue result ↔ (one.now ≡ other.now) }
+    ensures { result ≡ pointwise same_piece one.now other.now }
 {
     one == other
 }

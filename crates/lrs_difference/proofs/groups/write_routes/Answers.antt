@@ -4,8 +4,11 @@ use Rattle.lrs_image.specs.OpenLists.{image_of}
 use Rattle.lrs_image.proofs.Tables.{routes_in_order}
 use Rattle.lrs_report_lists.proofs.Writing.{as_text}
 use Rattle.lrs_difference.specs.Text.{group_text, line_text}
-use Rattle.lrs_difference.proofs.Listed.{routes_text}
+use Rattle.lrs_difference.proofs.Listed.{routes_by_key, routes_text}
 use Rattle.lrs_difference.proofs.groups.write_routes.Goals as goal
+
+pub write_between-requires-clause-by_key : goal.write_between-requires-clause-by_key
+write_between-requires-clause-by_key g c = routes_by_key
 
 pub write_between-requires-clause-left : goal.write_between-requires-clause-left
 write_between-requires-clause-left g c = routes_in_order (image_of c.args.before.now) c.requires.before
