@@ -1,5 +1,5 @@
 -- The text of the groups that are lists of an image.
-use Rattle.std.proofs.Common.{◌≡◌, ℕ, List, [], ◌∷◌, map, refl, sym, ap, ◌∙◌}
+use Rattle.std.proofs.Common.{◌≡◌, ℕ, List, [], ◌∷◌, ◌++◌, map, refl, sym, ap, ◌∙◌, append_assoc, append-nil}
 use Rattle.std.specs.List.{flat_map}
 use Rattle.lrs_measure.specs.Texts.{Name, name_before}
 use Rattle.lrs_element.specs.declared.link.Link.{Link as LinkValue}
@@ -17,10 +17,10 @@ use Rattle.lrs_difference.specs.declared.line.Item.TheVariants as item
 use Rattle.lrs_difference.specs.Difference.{class_item, facts_in, facts_of, in_order, lacking, link_item, route_item}
 use Rattle.lrs_difference.specs.Items.{same_asset, same_class, same_link, same_route}
 use Rattle.lrs_difference.specs.Merging.{IsByKey, lines_between}
-use Rattle.lrs_difference.specs.Text.{group_text, line_text}
+use Rattle.lrs_difference.specs.Text.{DifferenceIsItsGroups, difference_text, group_text, line_text}
 use Rattle.lrs_difference.proofs.ByKey.{by_key, lines_said, names_one_way, names_onward}
 use Rattle.lrs_difference.proofs.Same as decided
-use Rattle.lrs_difference.proofs.Sections.{the_assets, the_classes, the_links, the_routes}
+use Rattle.lrs_difference.proofs.Sections.{the_assets, the_classes, the_links, the_routes, whole}
 
 abbrev pub class_entry : ClassValue → Name × Kind
 class_entry c = (c.name, c.kind)
@@ -59,3 +59,15 @@ assets_text a b =
 
 pub routes_by_key : IsByKey route_before (λ x y. same_route (route_entry x) (route_entry y)) (λ x. route_item (route_entry x))
 routes_by_key = by_key route_entry (λ e. e.0) name_before names_one_way names_onward same_route decided.routes (λ x. route_item (route_entry x)) (λ a b. refl)
+
+pub classes_by_key : IsByKey (λ x y. name_before x.name y.name) (λ x y. same_class (class_entry x) (class_entry y)) (λ x. class_item (class_entry x))
+classes_by_key = by_key class_entry (λ e. e.0) name_before names_one_way names_onward same_class decided.classes (λ x. class_item (class_entry x)) (λ a b. refl)
+
+-- all groups, one behind the other
+pub all_groups : DifferenceIsItsGroups
+all_groups a b =
+    sym (whole a b)
+    ∙ ap (λ t. group_text 0 a b ++ (group_text 1 a b ++ (group_text 2 a b ++ (group_text 3 a b ++ (group_text 4 a b ++ t))))) (sym (append-nil (group_text 5 a b)))
+
+pub listed_groups : (p q r s : List ℕ) → ((p ++ q) ++ r) ++ s ≡ p ++ (q ++ (r ++ (s ++ [])))
+listed_groups p q r s = append_assoc (p ++ q) r s ∙ append_assoc p q (r ++ s) ∙ ap (λ t. p ++ (q ++ (r ++ t))) (sym (append-nil s))

@@ -1,5 +1,5 @@
 -- The text of a difference: a line for each of its lines, with its sign, its kind and its fields, and commas between them.
-use Rattle.std.specs.Prelude.{ℕ, nat_eq, List, [], ◌∷◌, ◌++◌, codes}
+use Rattle.std.specs.Prelude.{◌≡◌, ℕ, nat_eq, List, [], ◌∷◌, ◌++◌, codes}
 use Rattle.std.specs.List.{filter, flat_map}
 use Rattle.std.specs.Fmt.{decimal}
 use Rattle.lrs_measure.specs.Texts.{Name}
@@ -45,6 +45,18 @@ difference_text before after = flat_map line_text (difference before after)
 -- its lines of one group alone
 abbrev pub group_text : ℕ → Image → Image → Text
 group_text g before after = flat_map line_text (filter (λ l. nat_eq (group l.item) g) (difference before after))
+
+-- ... of several groups, one behind the other
+abbrev pub groups_text : List ℕ → Image → Image → Text
+groups_text groups before after = flat_map (λ g. group_text g before after) groups
+
+-- The text of a difference is that of its groups.
+abbrev pub DifferenceIsItsGroups : Type 0
+DifferenceIsItsGroups = (before after : Image) → difference_text before after ≡ groups_text (0 ∷ 1 ∷ 2 ∷ 3 ∷ 4 ∷ 5 ∷ []) before after
+
+-- links, classes, routes and assets
+abbrev pub listed_groups : List ℕ
+listed_groups = 0 ∷ 1 ∷ 2 ∷ 4 ∷ []
 
 -- ---- the parts of a line, as they are written
 

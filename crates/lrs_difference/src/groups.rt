@@ -1,10 +1,10 @@
-//! The groups of a difference that are lists of an image.
+//! The groups of a difference, and those that are lists of an image.
 
 ghost use Rattle.std.specs.Prelude.{OnOk};
 ghost use Rattle.std.specs.Io.KnownBytes.{Appends};
 ghost use Rattle.lrs_machine.specs.Sound.{IsSound};
 ghost use Rattle.lrs_image.specs.OpenLists.{image_of};
-ghost use Rattle.lrs_difference.specs.Text.{group_text};
+ghost use Rattle.lrs_difference.specs.Text.{DifferenceIsItsGroups, group_text, groups_text, listed_groups};
 
 use crate::merging::write_between;
 use lrs_image::ImageLists;
@@ -66,3 +66,31 @@ pub(crate) fn write_assets<W: Write>(
 {
     write_between(writer, &before.assets, &after.assets)
 }
+
+/// Writes the lines of the difference of two inventories that tell of links, classes, routes and assets, each with its
+/// sign, `-` where the item is only before and `+` where it is only after, its kind, and its fields: by kind in this
+/// order, then by number or name, and of two with one key the removed one first. It takes no memory beyond the
+/// writer's, and does not flush the writer.
+///
+/// # Errors
+/// That of the writer. Part of the lines may be written then.
+pub fn write_listed_differences<W: Write>(
+    writer: &mut W,
+    before: &ImageLists,
+    after: &ImageLists,
+) -> io::Result<()>
+    requires before { IsSound (image_of before.now) }
+    requires after { IsSound (image_of after.now) }
+    ensures { OnOk result (Appends (W.contents writer.old) (W.contents writer.new)
+        (groups_text listed_groups (image_of before.now) (image_of after.now))) }
+{
+    write_links(writer, before, after)?;
+    write_classes(writer, before, after)?;
+    write_routes(writer, before, after)?;
+    write_assets(writer, before, after)
+}
+
+/// The text of a difference is that of its groups, one behind the other.
+pub fn a_difference_is_its_groups()
+    ensures { DifferenceIsItsGroups }
+{}

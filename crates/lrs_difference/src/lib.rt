@@ -8,4 +8,5 @@ mod line;
 mod lines;
 mod merging;
 
+pub use groups::{a_difference_is_its_groups, write_listed_differences};
 pub use line::{AssetFacts, Item, Line, Sign};
