@@ -7,9 +7,9 @@ pub mod Rows
 pub mod Given
 pub mod Leading
 pub mod RouteEdits
-pub mod Merged
+pub mod Steps
 pub mod Passing
-pub mod Words
+pub mod SpacedWords
 pub mod Sections
 pub mod ByKey
 pub mod Listed

@@ -3,7 +3,7 @@ use Rattle.std.proofs.Common.{◌≡◌, ℕ, Bool, true, false, Option, Some, N
 use Rattle.std.specs.Prelude.{OnOk, slice_get}
 use Rattle.std.specs.Io.KnownBytes.{Appends}
 use Rattle.lrs_report_lists.proofs.Writing.{Leads}
-use Rattle.lrs_difference.proofs.Merged.{behind, behind_more, behind_none, front, front_more, front_none}
+use Rattle.lrs_difference.proofs.Steps.{behind, behind_more, behind_none, front, front_more, front_none}
 
 module _ {A : Type 0} where
   pub head_some : (xs : List A) (x : A) → slice_get xs 0 ≡ Some x → xs ≡ x ∷ drop 1 xs

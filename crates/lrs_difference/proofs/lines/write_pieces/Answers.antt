@@ -1,7 +1,7 @@
 use Rattle.std.proofs.Common.{false}
 use Rattle.lrs_element.specs.declared.link.Piece.{Piece}
 use Rattle.lrs_machine.specs.Lines.{piece_text}
-use Rattle.lrs_difference.proofs.Words.{word-next}
+use Rattle.lrs_difference.proofs.SpacedWords.{word-next}
 use Rattle.lrs_difference.proofs.lines.write_pieces.Goals as goal
 
 pub loop-i-preserved : goal.loop-i-preserved

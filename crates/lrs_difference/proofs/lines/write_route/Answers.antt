@@ -9,7 +9,7 @@ use Rattle.lrs_report_lists.proofs.CoursePieces.{are-pieces}
 use Rattle.lrs_report_lists.proofs.Writing.{appends_last, appends_more}
 use Rattle.lrs_difference.specs.Difference.{route_item}
 use Rattle.lrs_difference.specs.Text.{line_text, route_head, sign_text}
-use Rattle.lrs_difference.proofs.Words.{route_parts}
+use Rattle.lrs_difference.proofs.SpacedWords.{route_parts}
 use Rattle.lrs_difference.proofs.lines.write_route.Goals as goal
 
 pub returns : goal.returns

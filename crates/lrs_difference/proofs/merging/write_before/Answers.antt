@@ -4,7 +4,7 @@ use Rattle.std.specs.Option.{option_copied}
 use Rattle.lrs_difference.specs.declared.line.Sign.TheVariants.{Added}
 use Rattle.lrs_difference.specs.Text.{line_text}
 use Rattle.lrs_report_lists.proofs.Writing.{leads_end, leads_next}
-use Rattle.lrs_difference.proofs.Merged.{front}
+use Rattle.lrs_difference.proofs.Steps.{front}
 use Rattle.lrs_difference.proofs.Passing.{behind_next, front_at, front_next, head_none}
 use Rattle.lrs_difference.proofs.merging.write_before.Goals as goal
 

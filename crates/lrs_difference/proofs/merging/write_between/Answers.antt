@@ -3,7 +3,7 @@ use Rattle.std.specs.List.{flat_map, list_all}
 use Rattle.std.proofs.lemmas.Bool.{and_parts}
 use Rattle.lrs_measure.specs.Lists.{each_two}
 use Rattle.lrs_report_lists.proofs.Writing.{leads_next}
-use Rattle.lrs_difference.proofs.Merged.{added_line, at_end, front, passed, passed_order, step, text_between, unless}
+use Rattle.lrs_difference.proofs.Steps.{added_line, at_end, front, passed, passed_order, step, text_between, unless}
 use Rattle.lrs_difference.proofs.Passing.{leads_last}
 use Rattle.lrs_difference.proofs.merging.write_between.Goals as goal
 
