@@ -1,5 +1,5 @@
 -- What the lines of assets give: the places that one state holds and the other does not.
-use Rattle.std.proofs.Common.{◌≡◌, ℕ, zero, suc, ◌+◌, ◌<◌, ◌≤◌, Bool, true, false, not, ◌⊎◌, inl, inr, List, [], ◌∷◌, ◌++◌, map, refl, sym, ap, subst, ◌∙◌, arith}
+use Rattle.std.proofs.Common.{◌≡◌, ℕ, zero, suc, ◌+◌, ◌<◌, ◌≤◌, Bool, true, false, not, inl, inr, List, [], ◌∷◌, ◌++◌, map, refl, sym, ap, subst, ◌∙◌, arith}
 use Rattle.std.specs.Prelude.{◌||◌, ◌&&◌, nat_eq, nat_le, nat_lt}
 use Rattle.std.specs.List.{flat_map, list_any, range_with_len}
 use Rattle.std.proofs.lemmas.Bool.{false≢true, and_parts, and_from, eqb-true, eq-eqb, leb-true, le-leb, ltb-true, lt-ltb}
@@ -11,7 +11,6 @@ use Rattle.lrs_measure.specs.Texts.{Name}
 use Rattle.lrs_element.specs.declared.link.Link.{Link}
 use Rattle.lrs_element.specs.Course.{Millimetre}
 use Rattle.lrs_position.specs.Locations.{Alignment}
-use Rattle.lrs_events.specs.declared.class.Asset.{Asset}
 use Rattle.lrs_events.specs.declared.class.Kind.{Kind}
 use Rattle.lrs_events.specs.declared.side.LinkSide.TheVariants.{Left, Right}
 use Rattle.lrs_events.specs.declared.side.Side.{Side}
@@ -96,16 +95,24 @@ module _ (s t : State) (asset : ℕ) (p : Place) where
   abbrev gives_here : Item → Bool
   gives_here x = gives x asset p
 
+  stretch_holds : (a : AssetFacts) (link : ℕ × ℕ) (u : Run Side) → In u (canonical_rows (holds_only s t a.number) (course_of_link link)) → gives_here (holds_item a link.0 u) ≡ true → holds_only s t asset p ≡ true
+  stretch_holds a link u m h =
+      let g = given a link.0 u.from u.to u.value asset p h in
+      (λ i. holds_only s t (sym g.of_asset i) (record { link = sym g.on_link i; mm = p.mm; side = p.side }))
+      ∙ row_holds (holds_only s t a.number) link.0 link.1 u m p.mm p.side g.low g.high g.on_side
+
+  stretch_in : (a : AssetFacts) (link : ℕ × ℕ) (x : Item) → In x (stretches_on s t a link) → gives_here x ≡ true → holds_only s t asset p ≡ true
+  stretch_in a link x m h =
+      let u = map_found (holds_item a link.0) x (canonical_rows (holds_only s t a.number) (course_of_link link)) m in
+      stretch_holds a link u.0 u.1 (subst (λ y. gives_here y ≡ true) u.2 h)
+
   -- the stretches give only what the first state alone holds
   pub stretches_hold : list_any gives_here (stretches s t) ≡ true → holds_only s t asset p ≡ true
   stretches_hold h =
       let x = any_found gives_here (stretches s t) h in
       let a = flat_map_found (λ a. flat_map (stretches_on s t a) (entries s.links)) x.0 (facts_in s) x.1 in
       let link = flat_map_found (stretches_on s t a.0) x.0 (entries s.links) a.2 in
-      let u = map_found (holds_item a.0 link.0.0) x.0 (canonical_rows (holds_only s t a.0.number) (course_of_link link.0)) link.2 in
-      let g = given a.0 link.0.0 u.0.from u.0.to u.0.value asset p (ap gives_here (sym u.2) ∙ x.2) in
-      let here = row_holds (holds_only s t a.0.number) link.0.0 link.0.1 u.0 u.1 p.mm p.side g.low g.high g.on_side in
-      (λ i. holds_only s t (sym g.of_asset i) (record { link = sym g.on_link i; mm = p.mm; side = p.side })) ∙ here
+      stretch_in a.0 link.0 x.0 link.2 x.2
 
   -- ... and all of it that is of a known asset and on a known link
   pub stretches_give : (a : AssetFacts) (link : ℕ × ℕ) → In a (facts_in s) → In link (entries s.links) → a.number ≡ asset → link.0 ≡ p.link → p.mm < link.1 → holds_only s t asset p ≡ true

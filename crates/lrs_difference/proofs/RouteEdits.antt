@@ -1,21 +1,19 @@
 -- Route edits are told by no line of an asset.
-use Rattle.std.proofs.Common.{◌≡◌, ℕ, Bool, true, false, not, List, [], map, refl, sym, ap, subst, ◌∙◌}
+use Rattle.std.proofs.Common.{◌≡◌, ℕ, false, not, [], map, refl, sym, ap, ◌∙◌}
 use Rattle.std.specs.Prelude.{◌&&◌}
 use Rattle.std.specs.List.{list_any}
 use Rattle.lrs_events.specs.Places.{Place}
 use Rattle.lrs_machine.specs.declared.image.Image.{Image}
 use Rattle.lrs_machine.specs.Image.{state_of}
-use Rattle.lrs_machine.specs.Machine.{step}
 use Rattle.lrs_machine.proofs.Keeping.{route_edits_keep}
-use Rattle.lrs_difference.specs.declared.line.AssetFacts.{AssetFacts}
 use Rattle.lrs_difference.specs.declared.line.Item.TheVariants as item
 use Rattle.lrs_difference.specs.declared.line.Sign.TheVariants.{Removed, Added}
-use Rattle.lrs_difference.specs.Difference.{difference, facts_in, facts_of, holds_only, lacking, only_in}
+use Rattle.lrs_difference.specs.Difference.{difference, facts_in, facts_of, lacking, only_in}
 use Rattle.lrs_difference.specs.Items.{same_asset}
 use Rattle.lrs_difference.specs.Laws.{RouteEditsTellNoAsset, is_of_assets, items_of}
 use Rattle.lrs_difference.proofs.Given.{of_stretches}
 use Rattle.lrs_difference.proofs.Itself.{not_both}
-use Rattle.lrs_difference.proofs.Lacking.{lacks_nothing_of_itself}
+use Rattle.lrs_difference.proofs.Lacking.{lacks_nothing}
 use Rattle.lrs_difference.proofs.Same as decided
 use Rattle.lrs_difference.proofs.Signs.{added_between, removed_between}
 use Rattle.lrs_difference.proofs.Stretches.{no_stretches}
@@ -32,7 +30,7 @@ none_of_assets : (a b : Image) → SameHolders a b → list_any is_of_assets (on
 none_of_assets a b h =
     let s = state_of a in
     let t = state_of b in
-    let none : lacking same_asset (facts_in s) (facts_in t) ≡ [] = (λ i. lacking same_asset (facts_in s) (sym h.assets i)) ∙ lacks_nothing_of_itself same_asset decided.assets (facts_in s) in
+    let none : lacking same_asset (facts_in s) (facts_in t) ≡ [] = lacks_nothing same_asset decided.assets (facts_in s) (facts_in t) h.assets in
     of_stretches is_of_assets a b (λ x. refl) (λ x. refl) (λ x. refl) (λ x. refl) (ap (λ xs. list_any is_of_assets (map item.Asset xs)) none)
     ∙ ap (list_any is_of_assets) (no_stretches s t (λ asset p. ap (λ b. s.holds asset p && not b) (sym (h.holds asset p)) ∙ not_both (s.holds asset p)))
 

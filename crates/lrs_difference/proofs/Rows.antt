@@ -63,7 +63,7 @@ sides_decided = record { itself = itself; equal = equal }
 abbrev whole : Run Side → Run (Option Side)
 whole u = record { from = u.from; to = u.to; value = Some u.value }
 
-held_in : (u : Run Side) (rs : List (Run (Option Side))) → In u (filter_map held_run rs) → In (whole u) rs
+pub held_in : (u : Run Side) (rs : List (Run (Option Side))) → In u (filter_map held_run rs) → In (whole u) rs
 held_in u [] m = absurd m
 held_in u (r ∷ rs) m = by r.value refl m (held_in u rs)
   where
@@ -81,6 +81,10 @@ in_held u (r ∷ rs) (inr m) = by r.value (in_held u rs m)
     by : (o : Option Side) → In u (filter_map held_run rs) → In u (filter_map held_run (record { from = r.from; to = r.to; value = o } ∷ rs))
     by None k = k
     by (Some s) k = inr k
+
+-- a run of one side
+held_as : (r : Run (Option Side)) (side : Side) (rs : List (Run (Option Side))) → r.value ≡ Some side → In r rs → In (record { from = r.from; to = r.to; value = side }) (filter_map held_run rs)
+held_as r side rs is m = in_held (record { from = r.from; to = r.to; value = side }) rs (subst (λ (q : Run (Option Side)). In q rs) (λ i. record { from = r.from; to = r.to; value = is i }) m)
 
 -- ---- sides
 
@@ -139,7 +143,7 @@ module _ (held : Place → Bool) (number len : ℕ) where
   abbrev runs : List (Run (Option Side))
   runs = runs_of (same_option same_side) sides
 
-  are_runs : AreRuns (Option Side) (same_option same_side) 0 sides runs
+  pub are_runs : AreRuns (Option Side) (same_option same_side) 0 sides runs
   are_runs = (runs_are_one (Option Side) (same_option same_side) sides_decided sides runs).1 refl
 
   -- what the sides read
@@ -164,7 +168,4 @@ module _ (held : Place → Bool) (number len : ℕ) where
       let r = run_over 0 (0 + length sides) runs are_runs.cover k (omega arith) (omega (arith, within, long)) in
       let side = holds_side (held (beside (ground k) Left)) (held (beside (ground k) Right)) s (one_beside held (ground k) s ∙ h) in
       let is : side_held held (ground k) ≡ r.0.value = side_read k r.0.value (value_at sides r.0 runs are_runs.values r.1 k r.2 r.3) in
-      let value : r.0.value ≡ Some side.0 = sym is ∙ side.1 in
-      let u : Run Side = record { from = r.0.from; to = r.0.to; value = side.0 } in
-      let same : whole u ≡ r.0 = λ i. record { from = r.0.from; to = r.0.to; value = sym value i } in
-      (u, in_held u runs (subst (λ (q : Run (Option Side)). In q runs) (sym same) r.1), r.2, r.3, side.2)
+      (record { from = r.0.from; to = r.0.to; value = side.0 }, held_as r.0 side.0 runs (sym is ∙ side.1) r.1, r.2, r.3, side.2)

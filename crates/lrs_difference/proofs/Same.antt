@@ -1,17 +1,11 @@
 -- What the tests of items decide.
-use Rattle.std.proofs.Common.{◌≡◌, ℕ, Bool, true, false, List, refl, sym, ap, ◌∙◌}
+use Rattle.std.proofs.Common.{◌≡◌, Bool, true, false, refl, sym, ap}
 use Rattle.std.specs.Prelude.{◌&&◌, nat_eq, Decides}
 use Rattle.std.specs.Cmp.Lexicographic.{bytes_decides, pointwise, pointwise_decides}
 use Rattle.std.proofs.lemmas.Bool.{false≢true, and_parts, and_from, eqb-true, eq-eqb}
 use Rattle.lrs_measure.specs.Lists.{same_bool}
-use Rattle.lrs_measure.specs.Texts.{Name, same_name}
-use Rattle.lrs_element.specs.declared.link.Ground.{Ground}
-use Rattle.lrs_element.specs.declared.marks.Mark.{Mark}
-use Rattle.lrs_element.specs.Course.{Millimetre}
-use Rattle.lrs_position.specs.Locations.{Alignment}
-use Rattle.lrs_events.specs.declared.class.Kind.{Kind}
+use Rattle.lrs_measure.specs.Texts.{same_name}
 use Rattle.lrs_events.specs.declared.class.Kind.TheVariants.{Point, Stretch, Exclusive}
-use Rattle.lrs_difference.specs.declared.line.AssetFacts.{AssetFacts}
 use Rattle.lrs_difference.specs.Items.{same_alignment, same_asset, same_class, same_ground, same_kind, same_link, same_mark, same_millimetre, same_referent, same_route}
 
 -- the test tells which two are equal

@@ -1,5 +1,5 @@
 -- The difference of two inventories: the items that the one has and the other has not in the same way, and what their assets hold in the one alone.
-use Rattle.std.specs.Prelude.{ℕ, Bool, true, false, ◌&&◌, not, List, [], ◌∷◌, ◌++◌, map, take, drop}
+use Rattle.std.specs.Prelude.{ℕ, Bool, true, ◌&&◌, not, List, [], ◌∷◌, ◌++◌, map, take, drop}
 use Rattle.std.specs.List.{filter, flat_map, list_any, prefix_len, range_with_len}
 use Rattle.lrs_measure.specs.OrderedLists.{insert_all}
 use Rattle.lrs_measure.specs.Runs.{Run}

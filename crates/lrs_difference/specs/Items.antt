@@ -1,8 +1,9 @@
 -- The items of a difference: which two say the same, and which of two stands first.
-use Rattle.std.specs.Prelude.{ℕ, Bool, true, false, ◌||◌, ◌&&◌, nat_eq, nat_lt}
-use Rattle.std.specs.Cmp.Lexicographic.{pointwise}
+use Rattle.std.specs.Prelude.{ℕ, Bool, true, false, ◌&&◌, nat_eq, List, [], ◌∷◌}
+use Rattle.std.specs.Ordering.{is_lt, nat_cmp}
+use Rattle.std.specs.Cmp.Lexicographic.{pointwise, slice_cmp}
 use Rattle.lrs_measure.specs.Lists.{same_bool}
-use Rattle.lrs_measure.specs.Texts.{Name, name_before, same_name}
+use Rattle.lrs_measure.specs.Texts.{Name, same_name}
 use Rattle.lrs_element.specs.declared.link.Ground.{Ground}
 use Rattle.lrs_element.specs.declared.marks.Mark.{Mark}
 use Rattle.lrs_element.specs.Course.{Millimetre}
@@ -55,22 +56,14 @@ same_asset a b = nat_eq a.number b.number && same_name a.class b.class && same_n
 
 -- ---- their order
 
--- links, classes, routes, referents, assets, and what assets hold
-abbrev pub group : Item → ℕ
-group (Link number length) = 0
-group (Class name kind) = 1
-group (Route name course marks) = 2
-group (Referent name link mm) = 3
-group (Asset asset) = 4
-group (Holds asset link from to side) = 5
+-- links, classes, routes, referents, assets, and what assets hold: by number or name, what assets hold by asset, link and start
+abbrev pub item_key : Item → List ℕ
+item_key (Link number length) = 0 ∷ number ∷ []
+item_key (Class name kind) = 1 ∷ name
+item_key (Route name course marks) = 2 ∷ name
+item_key (Referent name link mm) = 3 ∷ name
+item_key (Asset asset) = 4 ∷ asset.number ∷ []
+item_key (Holds asset link from to side) = 5 ∷ asset.number ∷ link ∷ from ∷ []
 
--- by group, and then by number or name; what assets hold by asset, link and start
 abbrev pub item_before : Item → Item → Bool
-item_before (Link number length) (Link other _) = nat_lt number other
-item_before (Class name kind) (Class other _) = name_before name other
-item_before (Route name course marks) (Route other _ _) = name_before name other
-item_before (Referent name link mm) (Referent other _ _) = name_before name other
-item_before (Asset a) (Asset b) = nat_lt a.number b.number
-item_before (Holds a link from _ _) (Holds b other start _ _) =
-    nat_lt a.number b.number || (nat_eq a.number b.number && (nat_lt link other || (nat_eq link other && nat_lt from start)))
-item_before x y = nat_lt (group x) (group y)
+item_before x y = is_lt (slice_cmp nat_cmp (item_key x) (item_key y))

@@ -1,8 +1,8 @@
 -- Laws of the difference of two inventories.
 use Rattle.std.specs.Prelude.{◌≡◌, ◌↔◌, ℕ, Bool, true, false, ◌||◌, ◌&&◌, not, nat_eq, nat_le, nat_lt, List, [], map}
 use Rattle.std.specs.List.{filter, list_any}
+use Rattle.lrs_measure.specs.Lists.{each_two}
 use Rattle.lrs_measure.specs.Texts.{Name}
-use Rattle.lrs_events.specs.declared.side.Side.{Side}
 use Rattle.lrs_events.specs.Members.{has_side}
 use Rattle.lrs_events.specs.Places.{Place}
 use Rattle.lrs_machine.specs.declared.answer.Limits.{Limits}
@@ -12,13 +12,13 @@ use Rattle.lrs_machine.specs.Image.{state_of}
 use Rattle.lrs_machine.specs.Laws.{is_route_edit}
 use Rattle.lrs_machine.specs.Machine.{step}
 use Rattle.lrs_machine.specs.Sound.{IsSound}
-use Rattle.lrs_machine.specs.State.{State}
 use Rattle.lrs_difference.specs.declared.line.Item.{Item}
 use Rattle.lrs_difference.specs.declared.line.Item.TheVariants.{Link, Class, Route, Referent, Asset, Holds}
 use Rattle.lrs_difference.specs.declared.line.Line.{Line}
 use Rattle.lrs_difference.specs.declared.line.Sign.{Sign}
 use Rattle.lrs_difference.specs.declared.line.Sign.TheVariants.{Removed, Added}
 use Rattle.lrs_difference.specs.Difference.{difference, facts_in}
+use Rattle.lrs_difference.specs.Items.{item_before}
 
 -- No inventory differs from itself.
 abbrev pub NothingDiffersFromItself : Type 0
@@ -42,13 +42,21 @@ same_sign Removed Removed = true
 same_sign Added Added = true
 same_sign _ _ = false
 
-abbrev pub other_sign : Sign → Sign
-other_sign Removed = Added
-other_sign Added = Removed
+-- the first line stands before the second: by its item, and of two with one key the removed one
+abbrev pub line_before : Line → Line → Bool
+line_before l m = item_before l.item m.item || (not (item_before m.item l.item) && same_sign l.sign Removed && same_sign m.sign Added)
+
+-- Each two lines stand in this order.
+abbrev pub LinesAreInOrder : Type 0
+LinesAreInOrder = (a b : Image) → IsSound a → IsSound b → each_two line_before (difference a b) ≡ true
 
 -- the items of the lines of one sign, in their order
 abbrev pub items_of : Sign → List Line → List Item
 items_of sign lines = map (λ l. l.item) (filter (λ l. same_sign l.sign sign) lines)
+
+abbrev pub other_sign : Sign → Sign
+other_sign Removed = Added
+other_sign Added = Removed
 
 -- Where the two are exchanged, the signs are exchanged: what is removed the one way is added the other way, item by item.
 abbrev pub SignsAreExchanged : Type 0

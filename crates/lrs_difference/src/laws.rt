@@ -1,10 +1,16 @@
 //! Laws of the difference of two inventories.
 
-ghost use Rattle.lrs_difference.specs.Laws.{NothingDiffersFromItself, NoLineWhereTheyAgree, SignsAreExchanged, LinesLeadToTheOther, RouteEditsTellNoAsset};
+ghost use Rattle.lrs_difference.specs.Laws.{NothingDiffersFromItself, NoLineWhereTheyAgree, SignsAreExchanged, LinesAreInOrder, LinesLeadToTheOther, RouteEditsTellNoAsset};
 
 /// No inventory differs from itself.
 pub fn nothing_differs_from_itself()
     ensures { NothingDiffersFromItself }
+{}
+
+/// Each two lines of the difference of two sound inventories stand in the order of their items, and of two with one key
+/// the removed one stands first.
+pub fn lines_are_in_order()
+    ensures { LinesAreInOrder }
 {}
 
 /// Where two inventories are exchanged, the signs are exchanged: what is removed the one way is added the other way, in
