@@ -16,8 +16,8 @@ pub mod Rising
 pub mod Ordered
 pub mod Steps
 pub mod Passing
-pub mod SpacedWords
 pub mod Sections
 pub mod ByKey
 pub mod SamePieces
 pub mod Listed
+pub mod Words

@@ -17,7 +17,8 @@ use Rattle.lrs_difference.specs.declared.line.Item.TheVariants as item
 use Rattle.lrs_difference.specs.Difference.{class_item, facts_in, facts_of, in_order, lacking, link_item, route_item}
 use Rattle.lrs_difference.specs.Items.{same_asset, same_class, same_link, same_route}
 use Rattle.lrs_difference.specs.Merging.{IsByKey, lines_between}
-use Rattle.lrs_difference.specs.Text.{DifferenceIsItsGroups, difference_text, group_text, line_text}
+use Rattle.lrs_difference.specs.Lines.{line_text}
+use Rattle.lrs_difference.specs.Text.{DifferenceIsItsGroups, difference_text, group_text}
 use Rattle.lrs_difference.proofs.ByKey.{by_key, lines_said, names_one_way, names_onward}
 use Rattle.lrs_difference.proofs.Same as decided
 use Rattle.lrs_difference.proofs.Sections.{the_assets, the_classes, the_links, the_routes, whole}

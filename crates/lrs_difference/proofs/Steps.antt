@@ -13,7 +13,7 @@ use Rattle.lrs_difference.specs.declared.line.Sign.TheVariants.{Removed, Added}
 use Rattle.lrs_difference.specs.Difference.{added, in_order, lacking, removed}
 use Rattle.lrs_difference.specs.Items.{item_before}
 use Rattle.lrs_difference.specs.Merging.{IsByKey, first_is, lines_between}
-use Rattle.lrs_difference.specs.Text.{line_text}
+use Rattle.lrs_difference.specs.Lines.{line_text}
 
 -- ---- the first entries that pass a test, and those behind them
 

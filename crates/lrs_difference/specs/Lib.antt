@@ -3,3 +3,4 @@ pub mod Difference
 pub mod Merging
 pub mod Text
 pub mod Laws
+pub mod Lines

@@ -2,13 +2,14 @@
 
 ghost use Rattle.std.specs.Prelude.{◌≡◌};
 ghost use Rattle.std.specs.Cmp.Lexicographic.{pointwise};
-ghost use Rattle.lrs_machine.specs.Image.{route_entry};
+ghost use Rattle.lrs_machine.specs.Image.{asset_entry};
+ghost use Rattle.lrs_difference.specs.Difference.{facts_of};
 ghost use Rattle.lrs_difference.specs.Merging.{same_piece};
-ghost use Rattle.lrs_difference.specs.Items.{same_alignment, same_ground, same_kind, same_mark};
+ghost use Rattle.lrs_difference.specs.Items.{same_ground, same_kind, same_mark};
 
-use crate::line::Sign;
-use crate::lines::{write_asset, write_class, write_link, write_route};
+use crate::line::{AssetFacts, Sign};
 use crate::merging::Entry;
+use crate::text::{write_asset, write_class, write_link, write_route, write_sign};
 use lrs_element::{Course, Link, Mark, Piece};
 use lrs_events::{Asset, Class, Kind};
 use lrs_machine::RouteRow;
@@ -29,7 +30,8 @@ impl Entry for Link {
     }
 
     fn write<W: Write>(&self, writer: &mut W, sign: Sign) -> io::Result<()> {
-        write_link(writer, sign, self)
+        write_sign(writer, sign)?;
+        write_link(writer, self.number, self.length)
     }
 }
 
@@ -52,7 +54,8 @@ impl Entry for Class {
     }
 
     fn write<W: Write>(&self, writer: &mut W, sign: Sign) -> io::Result<()> {
-        write_class(writer, sign, self)
+        write_sign(writer, sign)?;
+        write_class(writer, self.name, self.kind)
     }
 }
 
@@ -92,7 +95,21 @@ impl Entry for RouteRow {
     }
 
     fn write<W: Write>(&self, writer: &mut W, sign: Sign) -> io::Result<()> {
-        write_route(writer, sign, self)
+        let route = &self.route;
+        write_sign(writer, sign)?;
+        write_route(writer, &route.name, &route.course, &route.marks)
+    }
+}
+
+/// What a difference tells of an asset.
+fn facts_of(asset: &Asset) -> AssetFacts
+    ensures { result ≡ facts_of (asset_entry asset.now) }
+{
+    AssetFacts {
+        number: asset.number,
+        class: asset.class,
+        value: asset.value,
+        lateral: asset.lateral,
     }
 }
 
@@ -114,6 +131,7 @@ impl Entry for Asset {
     }
 
     fn write<W: Write>(&self, writer: &mut W, sign: Sign) -> io::Result<()> {
-        write_asset(writer, sign, self)
+        write_sign(writer, sign)?;
+        write_asset(writer, &facts_of(self))
     }
 }

@@ -5,8 +5,9 @@ pub mod laws;
 mod entries;
 mod groups;
 mod line;
-mod lines;
 mod merging;
+mod text;
 
 pub use groups::{a_difference_is_its_groups, write_listed_differences};
 pub use line::{AssetFacts, Item, Line, Sign};
+pub use text::{sign_text, write_line, write_lines};

@@ -7,7 +7,7 @@ ghost use Rattle.std.specs.Option.{option_copied};
 ghost use Rattle.lrs_measure.specs.Lists.{each_two};
 ghost use Rattle.lrs_difference.specs.declared.line.Sign.TheVariants as sign;
 ghost use Rattle.lrs_difference.specs.Merging.{IsByKey, first_is, lines_between};
-ghost use Rattle.lrs_difference.specs.Text.{line_text};
+ghost use Rattle.lrs_difference.specs.Lines.{line_text};
 
 use crate::line::Sign;
 use lrs_measure::Ordered;

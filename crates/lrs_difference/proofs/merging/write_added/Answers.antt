@@ -2,7 +2,7 @@ use Rattle.std.proofs.Common.{List, ap, sym, ◌∙◌}
 use Rattle.std.specs.List.{flat_map}
 use Rattle.std.specs.Option.{option_copied}
 use Rattle.lrs_difference.specs.declared.line.Sign.TheVariants.{Added}
-use Rattle.lrs_difference.specs.Text.{line_text}
+use Rattle.lrs_difference.specs.Lines.{line_text}
 use Rattle.lrs_report_lists.proofs.Writing.{leads_end}
 use Rattle.lrs_difference.proofs.Passing.{head_none}
 use Rattle.lrs_difference.proofs.merging.write_added.Goals as goal

@@ -2,7 +2,7 @@ use Rattle.std.proofs.Common.{◌≡◌, ℕ, Bool, true, false, List, ap, sym, 
 use Rattle.std.specs.List.{flat_map}
 use Rattle.std.specs.Option.{option_copied}
 use Rattle.lrs_difference.specs.declared.line.Sign.TheVariants.{Added}
-use Rattle.lrs_difference.specs.Text.{line_text}
+use Rattle.lrs_difference.specs.Lines.{line_text}
 use Rattle.lrs_report_lists.proofs.Writing.{leads_end, leads_next}
 use Rattle.lrs_difference.proofs.Steps.{front}
 use Rattle.lrs_difference.proofs.Passing.{behind_next, front_at, front_next, head_none}
