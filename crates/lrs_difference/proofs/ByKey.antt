@@ -2,11 +2,11 @@
 use Rattle.std.proofs.Common.{◌≡◌, ℕ, Bool, true, false, cond, not, List, [], ◌∷◌, map, filter, refl, sym, ap, ap₂, ◌∙◌, arith}
 use Rattle.std.specs.Prelude.{nat_lt}
 use Rattle.std.specs.List.{flat_map, list_any}
-use Rattle.std.specs.Ordering.{is_lt, nat_cmp, ordering_reverse}
+use Rattle.std.specs.Ordering.{is_lt, nat_cmp, ordering_reverse, ordering_then}
 use Rattle.std.specs.declared.cmp.Ordering.{Ordering}
 use Rattle.std.specs.declared.cmp.Ordering.TheVariants.{Less, Equal, Greater}
 use Rattle.std.specs.Cmp.{IsTotalOrder, nat_cmp_total, tied_itself}
-use Rattle.std.specs.Cmp.Lexicographic.{nat_list_cmp_total}
+use Rattle.std.specs.Cmp.Lexicographic.{nat_list_cmp_total, slice_cmp}
 use Rattle.std.proofs.lemmas.Bool.{both_ways, false_from_ne_true}
 use Rattle.lrs_measure.specs.KeyOrder.{key_after, numbers_agree}
 use Rattle.lrs_measure.specs.Texts.{Name, name_before, name_cmp}
@@ -106,3 +106,14 @@ module _ {A B : Type 0} (says : A → B) (same : B → B → Bool) (item : B →
       let one = ap (map item) (lacking_said xs ys) ∙ mapped_twice (lacking (λ a b. same (says a) (says b)) xs ys) in
       let two = ap (map item) (lacking_said ys xs) ∙ mapped_twice (lacking (λ a b. same (says a) (says b)) ys xs) in
       sym (λ i. in_order (one i) (two i))
+
+-- ---- the order of items
+
+one_number : (o : Ordering) → is_lt (ordering_then o Equal) ≡ is_lt o
+one_number Less = refl
+one_number Equal = refl
+one_number Greater = refl
+
+-- keys of one number
+pub by_number : (m n : ℕ) → is_lt (slice_cmp nat_cmp (m ∷ []) (n ∷ [])) ≡ nat_lt m n
+by_number m n = one_number (nat_cmp m n) ∙ sym (numbers_agree m n)

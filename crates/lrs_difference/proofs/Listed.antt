@@ -1,5 +1,6 @@
 -- The text of the groups that are lists of an image.
 use Rattle.std.proofs.Common.{◌≡◌, ℕ, List, [], ◌∷◌, ◌++◌, map, refl, sym, ap, ◌∙◌, append_assoc, append-nil}
+use Rattle.std.specs.Prelude.{nat_lt}
 use Rattle.std.specs.List.{flat_map}
 use Rattle.lrs_measure.specs.Texts.{Name, name_before}
 use Rattle.lrs_element.specs.declared.link.Link.{Link as LinkValue}
@@ -19,7 +20,7 @@ use Rattle.lrs_difference.specs.Items.{same_asset, same_class, same_link, same_r
 use Rattle.lrs_difference.specs.Merging.{IsByKey, lines_between}
 use Rattle.lrs_difference.specs.Lines.{line_text}
 use Rattle.lrs_difference.specs.Text.{DifferenceIsItsGroups, difference_text, group_text}
-use Rattle.lrs_difference.proofs.ByKey.{by_key, lines_said, names_one_way, names_onward}
+use Rattle.lrs_difference.proofs.ByKey.{by_key, by_number, lines_said, names_one_way, names_onward, numbers_one_way, numbers_onward}
 use Rattle.lrs_difference.proofs.Same as decided
 use Rattle.lrs_difference.proofs.Sections.{the_assets, the_classes, the_links, the_routes, whole}
 
@@ -72,3 +73,9 @@ all_groups a b =
 
 pub listed_groups : (p q r s : List ℕ) → ((p ++ q) ++ r) ++ s ≡ p ++ (q ++ (r ++ (s ++ [])))
 listed_groups p q r s = append_assoc (p ++ q) r s ∙ append_assoc p q (r ++ s) ∙ ap (λ t. p ++ (q ++ (r ++ t))) (sym (append-nil s))
+
+pub links_by_key : IsByKey (λ x y. nat_lt x.number y.number) (λ x y. same_link (link_entry x) (link_entry y)) (λ x. link_item (link_entry x))
+links_by_key = by_key link_entry (λ e. e.0) nat_lt numbers_one_way numbers_onward same_link decided.links (λ x. link_item (link_entry x)) (λ a b. by_number a.number b.number)
+
+pub assets_by_key : IsByKey (λ x y. nat_lt x.number y.number) (λ x y. same_asset (asset_facts x) (asset_facts y)) (λ x. item.Asset (asset_facts x))
+assets_by_key = by_key asset_facts (λ f. f.number) nat_lt numbers_one_way numbers_onward same_asset decided.assets (λ x. item.Asset (asset_facts x)) (λ a b. by_number a.number b.number)

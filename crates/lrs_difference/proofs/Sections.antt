@@ -18,9 +18,9 @@ use Rattle.lrs_difference.specs.declared.line.Item.{Item}
 use Rattle.lrs_difference.specs.declared.line.Item.TheVariants.{Link, Class, Route, Referent, Asset, Holds}
 use Rattle.lrs_difference.specs.declared.line.Line.{Line}
 use Rattle.lrs_difference.specs.Difference.{added, class_item, difference, facts_in, holds_item, in_order, lacking, link_item, only_in, referent_item, referents_in, removed, route_item, stretches, stretches_on}
-use Rattle.lrs_difference.specs.Items.{group, item_before, same_asset, same_class, same_link, same_referent, same_route}
+use Rattle.lrs_difference.specs.Items.{item_before, same_asset, same_class, same_link, same_referent, same_route}
 use Rattle.lrs_difference.specs.Lines.{line_text}
-use Rattle.lrs_difference.specs.Text.{difference_text, group_text}
+use Rattle.lrs_difference.specs.Text.{difference_text, group, group_text}
 
 -- items of two groups are in the order of these
 by_group : (x y : Item) → nat_eq (group x) (group y) ≡ false → item_before x y ≡ nat_lt (group x) (group y)

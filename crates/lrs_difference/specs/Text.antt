@@ -1,17 +1,22 @@
 -- The text of a difference, and of its groups.
-use Rattle.std.specs.Prelude.{◌≡◌, ℕ, nat_eq, List, [], ◌∷◌}
+use Rattle.std.specs.Prelude.{◌≡◌, ℕ, nat_eq, List, [], ◌∷◌, slice_index_or}
 use Rattle.std.specs.List.{filter, flat_map}
 use Rattle.lrs_machine.specs.Lines.{Text}
 use Rattle.lrs_machine.specs.declared.image.Image.{Image}
+use Rattle.lrs_difference.specs.declared.line.Item.{Item}
 use Rattle.lrs_difference.specs.Difference.{difference}
-use Rattle.lrs_difference.specs.Items.{group}
+use Rattle.lrs_difference.specs.Items.{item_key}
 use Rattle.lrs_difference.specs.Lines.{lines_text}
 
 -- The difference of two inventories as text.
 abbrev pub difference_text : Image → Image → Text
 difference_text before after = lines_text (difference before after)
 
--- its lines of one group alone
+-- links, classes, routes, referents, assets, and what assets hold: the first number of the key
+abbrev pub group : Item → ℕ
+group x = slice_index_or (item_key x) 0 0
+
+-- the lines of one group alone
 abbrev pub group_text : ℕ → Image → Image → Text
 group_text g before after = lines_text (filter (λ l. nat_eq (group l.item) g) (difference before after))
 

@@ -5,8 +5,11 @@ use Rattle.lrs_image.proofs.Tables.{assets_in_order}
 use Rattle.lrs_report_lists.proofs.Writing.{as_text}
 use Rattle.lrs_difference.specs.Lines.{line_text}
 use Rattle.lrs_difference.specs.Text.{group_text}
-use Rattle.lrs_difference.proofs.Listed.{assets_text}
+use Rattle.lrs_difference.proofs.Listed.{assets_by_key, assets_text}
 use Rattle.lrs_difference.proofs.groups.write_assets.Goals as goal
+
+pub write_between-requires-clause-by_key : goal.write_between-requires-clause-by_key
+write_between-requires-clause-by_key g c = assets_by_key
 
 pub write_between-requires-clause-left : goal.write_between-requires-clause-left
 write_between-requires-clause-left g c = assets_in_order (image_of c.args.before.now) c.requires.before
