@@ -21,3 +21,4 @@ pub mod ByKey
 pub mod SamePieces
 pub mod Listed
 pub mod Words
+pub mod Gathered

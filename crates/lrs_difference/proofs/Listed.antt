@@ -15,14 +15,16 @@ use Rattle.lrs_machine.specs.State as state
 use Rattle.lrs_machine.specs.Sound.{route_before}
 use Rattle.lrs_difference.specs.declared.line.AssetFacts.{AssetFacts}
 use Rattle.lrs_difference.specs.declared.line.Item.TheVariants as item
-use Rattle.lrs_difference.specs.Difference.{class_item, facts_in, facts_of, in_order, lacking, link_item, route_item}
-use Rattle.lrs_difference.specs.Items.{same_asset, same_class, same_link, same_route}
+use Rattle.lrs_difference.specs.declared.referent_list.PlacedReferent.{PlacedReferent}
+use Rattle.lrs_difference.specs.Placed.{entry_of, named_before}
+use Rattle.lrs_difference.specs.Difference.{class_item, facts_in, facts_of, in_order, lacking, link_item, referent_item, referents_in, route_item}
+use Rattle.lrs_difference.specs.Items.{same_asset, same_class, same_link, same_referent, same_route}
 use Rattle.lrs_difference.specs.Merging.{IsByKey, lines_between}
 use Rattle.lrs_difference.specs.Lines.{line_text}
 use Rattle.lrs_difference.specs.Text.{DifferenceIsItsGroups, difference_text, group_text}
 use Rattle.lrs_difference.proofs.ByKey.{by_key, by_number, lines_said, names_one_way, names_onward, numbers_one_way, numbers_onward}
 use Rattle.lrs_difference.proofs.Same as decided
-use Rattle.lrs_difference.proofs.Sections.{the_assets, the_classes, the_links, the_routes, whole}
+use Rattle.lrs_difference.proofs.Sections.{the_assets, the_classes, the_links, the_referents, the_routes, whole}
 
 abbrev pub class_entry : ClassValue → Name × Kind
 class_entry c = (c.name, c.kind)
@@ -79,3 +81,14 @@ links_by_key = by_key link_entry (λ e. e.0) nat_lt numbers_one_way numbers_onwa
 
 pub assets_by_key : IsByKey (λ x y. nat_lt x.number y.number) (λ x y. same_asset (asset_facts x) (asset_facts y)) (λ x. item.Asset (asset_facts x))
 assets_by_key = by_key asset_facts (λ f. f.number) nat_lt numbers_one_way numbers_onward same_asset decided.assets (λ x. item.Asset (asset_facts x)) (λ a b. by_number a.number b.number)
+
+pub referents_by_key : IsByKey named_before (λ x y. same_referent (entry_of x) (entry_of y)) (λ x. referent_item (entry_of x))
+referents_by_key = by_key entry_of (λ e. e.0) name_before names_one_way names_onward same_referent decided.referents (λ x. referent_item (entry_of x)) (λ a b. refl)
+
+pub referents_text : (a b : Image) (xs ys : List PlacedReferent) → map entry_of xs ≡ referents_in a → map entry_of ys ≡ referents_in b
+    → flat_map line_text (lines_between (λ x y. same_referent (entry_of x) (entry_of y)) (λ x. referent_item (entry_of x)) xs ys) ≡ group_text 3 a b
+referents_text a b xs ys f g =
+    ap (flat_map line_text)
+    (lines_said entry_of same_referent referent_item xs ys
+    ∙ (λ i. in_order (map referent_item (lacking same_referent (f i) (g i))) (map referent_item (lacking same_referent (g i) (f i))))
+    ∙ sym (the_referents a b))

@@ -7,7 +7,9 @@ ghost use Rattle.lrs_image.specs.OpenLists.{image_of};
 ghost use Rattle.lrs_difference.specs.Text.{DifferenceIsItsGroups, group_text, groups_text, listed_groups};
 
 use crate::merging::write_between;
+use crate::referent_list::referents_by_name;
 use lrs_image::ImageLists;
+use std::alloc::Global;
 use std::io;
 use std::io::Write;
 
@@ -51,6 +53,23 @@ pub(crate) fn write_routes<W: Write>(
         (group_text 2 (image_of before.now) (image_of after.now))) }
 {
     write_between(writer, &before.routes, &after.routes)
+}
+
+/// Writes the lines of referents. It takes memory for the referents of both, and gives it back.
+pub(crate) fn write_referents<W: Write>(
+    alloc: Global,
+    writer: &mut W,
+    before: &ImageLists,
+    after: &ImageLists,
+) -> io::Result<()>
+    requires before { IsSound (image_of before.now) }
+    requires after { IsSound (image_of after.now) }
+    ensures { OnOk result (Appends (W.contents writer.old) (W.contents writer.new)
+        (group_text 3 (image_of before.now) (image_of after.now))) }
+{
+    let left = referents_by_name(alloc, before)?;
+    let right = referents_by_name(alloc, after)?;
+    write_between(writer, &left, &right)
 }
 
 /// Writes the lines of assets.

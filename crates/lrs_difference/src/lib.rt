@@ -6,6 +6,7 @@ mod entries;
 mod groups;
 mod line;
 mod merging;
+mod referent_list;
 mod text;
 
 pub use groups::{a_difference_is_its_groups, write_listed_differences};
