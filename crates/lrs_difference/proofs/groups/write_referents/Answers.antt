@@ -10,14 +10,14 @@ pub write_between-requires-clause-by_key : goal.write_between-requires-clause-by
 write_between-requires-clause-by_key g c = referents_by_key
 
 pub write_between-requires-clause-left : goal.write_between-requires-clause-left
-write_between-requires-clause-left g c = in_order (image_of c.args.before.now) c.requires.before c.in_ok-referents_by_name.field-0.rows c.in_ok-referents_by_name.ensures
+write_between-requires-clause-left g c = in_order (image_of c.args.before.now) c.requires.before _ c.in_ok-left.ensures
 
 pub write_between-requires-clause-right : goal.write_between-requires-clause-right
-write_between-requires-clause-right g c = in_order (image_of c.args.after.now) c.requires.after c.in_ok-referents_by_name-2.field-0.rows c.in_ok-referents_by_name-2.ensures
+write_between-requires-clause-right g c = in_order (image_of c.args.after.now) c.requires.after _ c.in_ok-right.ensures
 
 pub returns : goal.returns
 returns g c =
     let a = image_of c.args.before.now in
     let b = image_of c.args.after.now in
     as_text c.write_between.result _ _ _ (group_text 3 a b) c.write_between.ensures
-    (referents_text a b c.in_ok-referents_by_name.field-0.rows c.in_ok-referents_by_name-2.field-0.rows c.in_ok-referents_by_name.ensures c.in_ok-referents_by_name-2.ensures)
+    (referents_text a b _ _ c.in_ok-left.ensures c.in_ok-right.ensures)

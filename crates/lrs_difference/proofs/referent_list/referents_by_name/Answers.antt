@@ -5,8 +5,8 @@ use Rattle.lrs_difference.proofs.Gathered.{chunks_as, have_names, listed}
 use Rattle.lrs_difference.proofs.referent_list.referents_by_name.Goals as goal
 
 pub sort-requires : goal.sort-requires
-sort-requires c = have_names (image_of c.args.kept.now) c.requires.sound c.in_ok-gathered.field-0.items c.in_ok-gathered.ensures
+sort-requires c = have_names (image_of c.args.kept.now) c.requires.sound _ c.in_ok-entries.ensures
 
 pub returns : goal.returns
 returns c =
-    chunks_as c.in_chunks.result c.sort.new.entries.items _ c.in_chunks.ensures (ap (map entry_of) c.sort.ensures ∙ listed (image_of c.args.kept.now) c.in_ok-gathered.field-0.items c.in_ok-gathered.ensures)
+    chunks_as c.in_chunks.result c.sort.new.entries.items _ c.in_chunks.ensures (ap (map entry_of) c.sort.ensures ∙ listed (image_of c.args.kept.now) _ c.in_ok-entries.ensures)
