@@ -92,6 +92,7 @@ module _ {A B : Type 0} (says : A → B) (same : B → B → Bool) (item : B →
     where
       kept : List A
       kept = lacking (λ a b. same (says a) (says b)) xs ys
+
       by : (b : Bool) → lacking same (map says xs) (map says ys) ≡ map says kept → cond (not b) (says x ∷ lacking same (map says xs) (map says ys)) (lacking same (map says xs) (map says ys)) ≡ map says (cond (not b) (x ∷ kept) kept)
       by true rest = rest
       by false rest = ap (λ zs. says x ∷ zs) rest

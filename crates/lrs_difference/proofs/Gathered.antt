@@ -1,11 +1,12 @@
 -- Referents that are gathered and sorted are those of the inventory, by name.
-use Rattle.std.proofs.Common.{◌≡◌, ◌≤◌, ℕ, zero, suc, Bool, true, false, cond, Option, Some, None, Result, Ok, Err, List, [], ◌∷◌, ◌++◌, map, append-nil, IsPermutation, length, refl, sym, ap, subst, ◌∙◌, arith}
-use Rattle.std.specs.Prelude.{◌||◌, ◌&&◌, IfOk, OnOk, slice_get}
+use Rattle.std.proofs.Common.{◌≡◌, ◌≤◌, ℕ, Bool, true, false, cond, Option, Some, None, Result, Ok, Err, List, [], ◌∷◌, ◌++◌, map, append-nil, IsPermutation, length, refl, sym, ap, subst, ◌∙◌}
+use Rattle.std.specs.Prelude.{◌||◌, ◌&&◌, IfOk, OnOk}
 use Rattle.std.specs.List.{cons_option, filter_map, flat_map, list_all}
 use Rattle.std.specs.List.Sorted.{IsSortedBy}
 use Rattle.std.specs.Option.{option_map}
 use Rattle.std.specs.Cmp.{IsStrictWeakOrder}
 use Rattle.std.specs.Cmp.Lexicographic.{nat_list_cmp_total}
+use Rattle.std.proofs.lemmas.Option.{slice_get_past}
 use Rattle.std.proofs.lemmas.List.Sorted.{ranks_by, sum_by-IsPermutation}
 use Rattle.lrs_measure.specs.Lists.{each_two}
 use Rattle.lrs_measure.specs.OrderedLists.{insert_all, insert_by}
@@ -39,14 +40,9 @@ each_entry course (r ∷ rs) = by (referent_entry course r) (each_entry course r
     by None h = h
     by (Some x) h = ap (λ xs. x ∷ xs) h
 
-none_past : (course : List Ground) (at : ℕ) → length course ≤ at → slice_get course at ≡ None
-none_past [] at h = refl
-none_past (g ∷ gs) zero h = absurd (omega (arith, h))
-none_past (g ∷ gs) (suc at) h = none_past gs at (omega (arith, h))
-
 -- a referent that stands on no millimetre of the course has no entry
 pub no_entry : (course : List Ground) (r : Referent) (es : List (Name × Millimetre)) → length course ≤ r.at → es ≡ es ++ entry_on course r
-no_entry course r es h = sym (append-nil es) ∙ ap (λ o. es ++ cons_option (option_map (λ m. (r.name, m)) (option_map (λ g. (g.link, g.mm)) o)) []) (sym (none_past course r.at h))
+no_entry course r es h = sym (append-nil es) ∙ ap (λ o. es ++ cons_option (option_map (λ m. (r.name, m)) (option_map (λ g. (g.link, g.mm)) o)) []) (sym (slice_get_past course r.at h))
 
 -- ---- sorted
 

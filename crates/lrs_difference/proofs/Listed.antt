@@ -73,8 +73,11 @@ all_groups a b =
     sym (whole a b)
     ∙ ap (λ t. group_text 0 a b ++ (group_text 1 a b ++ (group_text 2 a b ++ (group_text 3 a b ++ (group_text 4 a b ++ t))))) (sym (append-nil (group_text 5 a b)))
 
-pub listed_groups : (p q r s : List ℕ) → ((p ++ q) ++ r) ++ s ≡ p ++ (q ++ (r ++ (s ++ [])))
-listed_groups p q r s = append_assoc (p ++ q) r s ∙ append_assoc p q (r ++ s) ∙ ap (λ t. p ++ (q ++ (r ++ t))) (sym (append-nil s))
+regrouped : (p q r s t : List ℕ) → p ++ q ++ r ++ s ++ t ≡ p ++ (q ++ (r ++ (s ++ t)))
+regrouped p q r s t = simp append_assoc
+
+pub listed_groups : (p q r s t : List ℕ) → p ++ q ++ r ++ s ++ t ≡ p ++ (q ++ (r ++ (s ++ (t ++ []))))
+listed_groups p q r s t = regrouped p q r s t ∙ ap (λ u. p ++ (q ++ (r ++ (s ++ u)))) (sym (append-nil t))
 
 pub links_by_key : IsByKey (λ x y. nat_lt x.number y.number) (λ x y. same_link (link_entry x) (link_entry y)) (λ x. link_item (link_entry x))
 links_by_key = by_key link_entry (λ e. e.0) nat_lt numbers_one_way numbers_onward same_link decided.links (λ x. link_item (link_entry x)) (λ a b. by_number a.number b.number)

@@ -235,6 +235,7 @@ line_of l (x ∷ xs) ys m = by (In-append_cases l (map added (take n ys)) (remov
   where
     n : ℕ
     n = prefix_len (λ w. item_before w x) ys
+
     by : In l (map added (take n ys)) ⊎ In l (removed x ∷ in_order xs (drop n ys)) → (In l (in_order xs (drop n ys)) → In l.item xs ⊎ In l.item (drop n ys)) → In l.item (x ∷ xs) ⊎ In l.item ys
     by (inl t) rest = let found = map_found added l (take n ys) t in inr (In-take l.item n ys (subst (λ z. In z (take n ys)) (sym (ap (λ (k : Line). k.item) found.2)) found.1))
     by (inr (inl e)) rest = inl (inl (ap (λ (k : Line). k.item) e))

@@ -140,9 +140,11 @@ module _ {A : Type 0} (before same : A → A → Bool) (item : A → Item) (k : 
         where
           beyond : list_all (before y) ys ≡ true
           beyond = (and_parts (list_all (before y) ys) (each_two before ys) right).0
+
           above : (z : A) → In z (y ∷ ys) → before z x ≡ false
           above z (inl e) = ap (λ w. before w x) e ∙ h
           above z (inr m) = k.one_way x z (k.onward x y z h (all_at (before y) z ys beyond m))
+
           others : (z : A) → In z (y ∷ ys) → same x z ≡ false
           others z (inl e) = ap (same x) e ∙ s
           others z (inr m) = k.apart x z (k.onward x y z h (all_at (before y) z ys beyond m))
@@ -154,8 +156,10 @@ module _ {A : Type 0} (before same : A → A → Bool) (item : A → Item) (k : 
     where
       n : ℕ
       n = prefix_len (λ z. before z x) ys
+
       at : ℕ → Type 0
       at m = Step x xs (y ∷ ys) (take m (y ∷ ys)) (drop m (y ∷ ys))
+
       by : (b : Bool) → before y x ≡ b → Step x xs ys (take n ys) (drop n ys) → at (cond b (1 + n) 0)
       by false h rest = at_first x y xs ys left right h
       by true h rest =
@@ -168,6 +172,7 @@ module _ {A : Type 0} (before same : A → A → Bool) (item : A → Item) (k : 
     where
       others : List A
       others = behind (λ y. before y x) ys
+
       by : (b : Bool) → each_two before others ≡ true → each_two before (cond b (drop 1 others) others) ≡ true
       by true o = two_drop before 1 others o
       by false o = o

@@ -28,6 +28,6 @@ groups_text groups before after = flat_map (λ g. group_text g before after) gro
 abbrev pub DifferenceIsItsGroups : Type 0
 DifferenceIsItsGroups = (before after : Image) → difference_text before after ≡ groups_text (0 ∷ 1 ∷ 2 ∷ 3 ∷ 4 ∷ 5 ∷ []) before after
 
--- links, classes, routes and assets
+-- all but what assets hold
 abbrev pub listed_groups : List ℕ
-listed_groups = 0 ∷ 1 ∷ 2 ∷ 4 ∷ []
+listed_groups = 0 ∷ 1 ∷ 2 ∷ 3 ∷ 4 ∷ []

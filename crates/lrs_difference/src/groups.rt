@@ -86,14 +86,15 @@ pub(crate) fn write_assets<W: Write>(
     write_between(writer, &before.assets, &after.assets)
 }
 
-/// Writes the lines of the difference of two inventories that tell of links, classes, routes and assets, each with its
-/// sign, `-` where the item is only before and `+` where it is only after, its kind, and its fields: by kind in this
-/// order, then by number or name, and of two with one key the removed one first. It takes no memory beyond the
-/// writer's, and does not flush the writer.
+/// Writes the lines of the difference of two inventories that tell of links, classes, routes, referents and assets, and not
+/// those of what assets hold: by kind in this order, then by number or name, and of two with one key the removed one first.
+///
+/// It takes memory for the referents of both, and gives it back. It does not flush the writer.
 ///
 /// # Errors
-/// That of the writer. Part of the lines may be written then.
+/// That of the writer, and `OutOfMemory` when memory runs out. Part of the lines may be written then.
 pub fn write_listed_differences<W: Write>(
+    alloc: Global,
     writer: &mut W,
     before: &ImageLists,
     after: &ImageLists,
@@ -106,6 +107,7 @@ pub fn write_listed_differences<W: Write>(
     write_links(writer, before, after)?;
     write_classes(writer, before, after)?;
     write_routes(writer, before, after)?;
+    write_referents(alloc, writer, before, after)?;
     write_assets(writer, before, after)
 }
 

@@ -1,9 +1,9 @@
 //! The difference of two inventories: what the one says and the other does not, line by line.
 #![tactic(auto)]
 
-pub mod laws;
 mod entries;
 mod groups;
+pub mod laws;
 mod line;
 mod merging;
 mod referent_list;

@@ -110,10 +110,7 @@ fn push_route(entries: &mut Vec<PlacedReferent>, row: &RouteRow) -> Result<(), A
 }
 
 /// The referents of routes, one route behind the other.
-fn gathered(
-    alloc: Global,
-    routes: &Chunked<RouteRow>,
-) -> Result<Vec<PlacedReferent>, AllocError>
+fn gathered(alloc: Global, routes: &Chunked<RouteRow>) -> Result<Vec<PlacedReferent>, AllocError>
     ensures { IfOk result (λ entries. map entry_of entries.items
         ≡ flat_map referents_on routes.now.rows) }
 {

@@ -126,7 +126,12 @@ pub(crate) fn write_route<W: Write>(
     writer.write_all(b"\n")
 }
 
-pub(crate) fn write_referent<W: Write>(writer: &mut W, name: &RefName, link: u32, mm: u32) -> io::Result<()>
+pub(crate) fn write_referent<W: Write>(
+    writer: &mut W,
+    name: &RefName,
+    link: u32,
+    mm: u32,
+) -> io::Result<()>
     ensures { OnOk result (Appends (W.contents writer.old) (W.contents writer.new)
         (csv_line (item_fields (item.Referent name.now link mm)))) }
 {

@@ -14,5 +14,7 @@ returns g c =
     let routes = g.W.Write.contents c.write_routes.new.writer in
     let one = appends_more start links classes _ _ c.in_ok-write_links.ensures c.in_ok-write_classes.ensures in
     let two = appends_more start classes routes _ _ one c.in_ok-write_routes.ensures in
-    appends_last c.write_assets.result start routes (g.W.Write.contents c.write_assets.new.writer) _ _ (groups_text listed_groups a b) two c.write_assets.ensures
-    (listed.listed_groups (group_text 0 a b) (group_text 1 a b) (group_text 2 a b) (group_text 4 a b))
+    let referents = g.W.Write.contents c.write_referents.new.writer in
+    let three = appends_more start routes referents _ _ two c.in_ok-write_referents.ensures in
+    appends_last c.write_assets.result start referents (g.W.Write.contents c.write_assets.new.writer) _ _ (groups_text listed_groups a b) three c.write_assets.ensures
+    (listed.listed_groups (group_text 0 a b) (group_text 1 a b) (group_text 2 a b) (group_text 3 a b) (group_text 4 a b))
