@@ -1,6 +1,6 @@
 -- Referents that are gathered and sorted are those of the inventory, by name.
-use Rattle.std.proofs.Common.{◌≡◌, ◌≤◌, ℕ, Bool, true, false, cond, Option, Some, None, Result, Ok, Err, List, [], ◌∷◌, ◌++◌, map, append-nil, IsPermutation, length, refl, sym, ap, subst, ◌∙◌}
-use Rattle.std.specs.Prelude.{◌||◌, ◌&&◌, IfOk, OnOk}
+use Rattle.std.proofs.Common.{◌≡◌, ◌≤◌, Bool, true, false, cond, Option, Some, None, Result, Ok, Err, List, [], ◌∷◌, ◌++◌, map, append-nil, IsPermutation, length, refl, sym, ap, subst, ◌∙◌}
+use Rattle.std.specs.Prelude.{IfOk, OnOk}
 use Rattle.std.specs.List.{cons_option, filter_map, flat_map, list_all}
 use Rattle.std.specs.List.Sorted.{IsSortedBy}
 use Rattle.std.specs.Option.{option_map}
@@ -11,7 +11,6 @@ use Rattle.std.proofs.lemmas.List.Sorted.{ranks_by, sum_by-IsPermutation}
 use Rattle.lrs_measure.specs.Lists.{each_two}
 use Rattle.lrs_measure.specs.OrderedLists.{insert_all, insert_by}
 use Rattle.lrs_measure.specs.Texts.{Name}
-use Rattle.lrs_measure.proofs.EachTwo.{two_passing}
 use Rattle.lrs_measure.proofs.Members.{all_of}
 use Rattle.lrs_element.specs.declared.link.Ground.{Ground}
 use Rattle.lrs_element.specs.Course.{Millimetre}
@@ -19,7 +18,6 @@ use Rattle.lrs_position.specs.declared.route.Referent.{Referent}
 use Rattle.lrs_events.proofs.LaneLists.Inserted.{IsPermutation-insert_all, differs, each_two-insert_all}
 use Rattle.lrs_events.proofs.LaneLists.Strict.{same_sorted, sorted_two}
 use Rattle.lrs_machine.specs.declared.image.Image.{Image}
-use Rattle.lrs_machine.specs.declared.image.RouteRow.{RouteRow}
 use Rattle.lrs_machine.specs.Image.{referent_entry, referents_on}
 use Rattle.lrs_machine.specs.Sound.{IsSound}
 use Rattle.lrs_machine.proofs.Pairs.{each_two-map}

@@ -3,15 +3,11 @@ use Rattle.std.proofs.Common.{◌≡◌, ℕ, List, [], ◌∷◌, ◌++◌, map
 use Rattle.std.specs.Prelude.{nat_lt}
 use Rattle.std.specs.List.{flat_map}
 use Rattle.lrs_measure.specs.Texts.{Name, name_before}
-use Rattle.lrs_element.specs.declared.link.Link.{Link as LinkValue}
 use Rattle.lrs_events.specs.declared.class.Asset.{Asset as AssetValue}
 use Rattle.lrs_events.specs.declared.class.Class.{Class as ClassValue}
 use Rattle.lrs_events.specs.declared.class.Kind.{Kind}
 use Rattle.lrs_machine.specs.declared.image.Image.{Image}
-use Rattle.lrs_machine.specs.declared.image.RouteRow.{RouteRow}
 use Rattle.lrs_machine.specs.Image.{asset_entry, link_entry, route_entry, state_of}
-use Rattle.lrs_machine.specs.Register.{entries}
-use Rattle.lrs_machine.specs.State as state
 use Rattle.lrs_machine.specs.Sound.{route_before}
 use Rattle.lrs_difference.specs.declared.line.AssetFacts.{AssetFacts}
 use Rattle.lrs_difference.specs.declared.line.Item.TheVariants as item
@@ -21,7 +17,7 @@ use Rattle.lrs_difference.specs.Difference.{class_item, facts_in, facts_of, in_o
 use Rattle.lrs_difference.specs.Items.{same_asset, same_class, same_link, same_referent, same_route}
 use Rattle.lrs_difference.specs.Merging.{IsByKey, lines_between}
 use Rattle.lrs_difference.specs.Lines.{line_text}
-use Rattle.lrs_difference.specs.Text.{DifferenceIsItsGroups, difference_text, group_text}
+use Rattle.lrs_difference.specs.Text.{DifferenceIsItsGroups, group_text}
 use Rattle.lrs_difference.proofs.ByKey.{by_key, by_number, lines_said, names_one_way, names_onward, numbers_one_way, numbers_onward}
 use Rattle.lrs_difference.proofs.Same as decided
 use Rattle.lrs_difference.proofs.Sections.{the_assets, the_classes, the_links, the_referents, the_routes, whole}

@@ -1,10 +1,9 @@
 -- Pieces that are compared.
-use Rattle.std.proofs.Common.{◌≡◌, Bool, true, sym, ap, ◌∙◌}
+use Rattle.std.proofs.Common.{◌≡◌, Bool, true, ap, ◌∙◌}
 use Rattle.std.specs.Prelude.{◌&&◌, Decides, nat_eq}
 use Rattle.std.specs.Cmp as cmp
 use Rattle.std.proofs.lemmas.Bool.{and_parts, and_from, eqb-true, eq-eqb}
 use Rattle.lrs_measure.specs.Lists.{same_bool}
-use Rattle.lrs_element.specs.declared.link.Piece.{Piece}
 use Rattle.lrs_difference.specs.Merging.{same_piece}
 use Rattle.lrs_difference.proofs.Same.{Tells, bools}
 

@@ -1,4 +1,3 @@
-use Rattle.std.proofs.Common.{ap, ◌∙◌}
 use Rattle.lrs_image.specs.OpenLists.{image_of}
 use Rattle.lrs_report_lists.proofs.Writing.{as_text}
 use Rattle.lrs_difference.specs.Text.{group_text}

@@ -1,9 +1,6 @@
-use Rattle.std.proofs.Common.{List, ap, sym, ◌∙◌}
-use Rattle.std.specs.List.{flat_map}
 use Rattle.lrs_image.specs.OpenLists.{image_of}
 use Rattle.lrs_image.proofs.Tables.{routes_in_order}
 use Rattle.lrs_report_lists.proofs.Writing.{as_text}
-use Rattle.lrs_difference.specs.Lines.{line_text}
 use Rattle.lrs_difference.specs.Text.{group_text}
 use Rattle.lrs_difference.proofs.Listed.{routes_by_key, routes_text}
 use Rattle.lrs_difference.proofs.groups.write_routes.Goals as goal
