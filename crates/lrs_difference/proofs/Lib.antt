@@ -22,3 +22,4 @@ pub mod SamePieces
 pub mod Listed
 pub mod Words
 pub mod Gathered
+pub mod Grouped

@@ -19,10 +19,10 @@ use Rattle.lrs_difference.proofs.Keys.{item_trans}
 -- ---- a front whose members pass, and the rest
 
 module _ {X : Type 0} (p : X → Bool) where
-  one_more : (y : X) (ys : List X) → p y ≡ true → prefix_len p (y ∷ ys) ≡ suc (prefix_len p ys)
+  pub one_more : (y : X) (ys : List X) → p y ≡ true → prefix_len p (y ∷ ys) ≡ suc (prefix_len p ys)
   one_more y ys h = let e : 1 + prefix_len p ys ≡ suc (prefix_len p ys) = omega arith in ap (λ b. cond b (1 + prefix_len p ys) 0) h ∙ e
 
-  no_more : (y : X) (ys : List X) → p y ≡ false → prefix_len p (y ∷ ys) ≡ 0
+  pub no_more : (y : X) (ys : List X) → p y ≡ false → prefix_len p (y ∷ ys) ≡ 0
   no_more y ys h = ap (λ b. cond b (1 + prefix_len p ys) 0) h
 
   front_passes : (xs : List X) (x : X) → In x (take (prefix_len p xs) xs) → p x ≡ true
@@ -60,7 +60,7 @@ by_sign : (x y : Item) → item_before y x ≡ false → line_before (removed x)
 by_sign x y h = or_right (item_before x y) (not (item_before y x) && true && true) (ap (λ b. not b && true && true) h)
 
 -- how many added items come before a removed one
-abbrev ahead : Item → List Item → ℕ
+abbrev pub ahead : Item → List Item → ℕ
 ahead x ys = prefix_len (λ y. item_before y x) ys
 
 -- a line is of a removed item or of an added one

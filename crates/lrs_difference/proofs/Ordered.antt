@@ -106,7 +106,7 @@ module _ (s t : State) where
       each_given (λ a b. nat_lt a.number b.number) item_before of_asset (facts_in s) facts
       (λ a. each_given (λ l k. nat_lt l.0 k.0) item_before (stretches_on s t a) (entries s.links) links (on_link a) (across_links a)) across_assets
 
-  held_group : (x : Item) → In x (stretches s t) → group x ≡ 5
+  pub held_group : (x : Item) → In x (stretches s t) → group x ≡ 5
   held_group x m =
       let a = flat_map_found of_asset x (facts_in s) m in
       ap group (held_item a.0 x a.2).4

@@ -1,5 +1,5 @@
 -- Laws of the difference of two inventories.
-use Rattle.std.specs.Prelude.{◌≡◌, ◌↔◌, ℕ, Bool, true, false, ◌||◌, ◌&&◌, not, nat_eq, nat_le, nat_lt, List, [], map}
+use Rattle.std.specs.Prelude.{◌≡◌, ◌↔◌, ℕ, Bool, true, false, ◌||◌, ◌&&◌, not, nat_eq, nat_le, nat_lt, List, [], ◌++◌, map}
 use Rattle.std.specs.List.{filter, list_any}
 use Rattle.lrs_measure.specs.Lists.{each_two}
 use Rattle.lrs_measure.specs.Texts.{Name}
@@ -11,14 +11,15 @@ use Rattle.lrs_machine.specs.declared.image.Image.{Image}
 use Rattle.lrs_machine.specs.Image.{state_of}
 use Rattle.lrs_machine.specs.Laws.{is_route_edit}
 use Rattle.lrs_machine.specs.Machine.{step}
+use Rattle.lrs_machine.specs.Register.{entries}
 use Rattle.lrs_machine.specs.Sound.{IsSound}
 use Rattle.lrs_difference.specs.declared.line.Item.{Item}
 use Rattle.lrs_difference.specs.declared.line.Item.TheVariants.{Link, Class, Route, Referent, Asset, Holds}
 use Rattle.lrs_difference.specs.declared.line.Line.{Line}
 use Rattle.lrs_difference.specs.declared.line.Sign.{Sign}
 use Rattle.lrs_difference.specs.declared.line.Sign.TheVariants.{Removed, Added}
-use Rattle.lrs_difference.specs.Difference.{difference, facts_in}
-use Rattle.lrs_difference.specs.Items.{item_before}
+use Rattle.lrs_difference.specs.Difference.{class_item, difference, facts_in, in_order, lacking, link_item, referent_item, referents_in, route_item, stretches}
+use Rattle.lrs_difference.specs.Items.{item_before, same_asset, same_class, same_link, same_referent, same_route}
 
 -- No inventory differs from itself.
 abbrev pub NothingDiffersFromItself : Type 0
@@ -49,6 +50,21 @@ line_before l m = item_before l.item m.item || (not (item_before m.item l.item) 
 -- Each two lines stand in this order.
 abbrev pub LinesAreInOrder : Type 0
 LinesAreInOrder = (a b : Image) → IsSound a → IsSound b → each_two line_before (difference a b) ≡ true
+
+-- the lines of one kind
+abbrev pub lines_of : {A : Type 0} → (A → Item) → (A → A → Bool) → List A → List A → List Line
+lines_of item same xs ys = in_order (map item (lacking same xs ys)) (map item (lacking same ys xs))
+
+-- Each kind is told by itself, one after another.
+abbrev pub KindsAreToldByThemselves : Type 0
+KindsAreToldByThemselves = (a b : Image)
+    → difference a b
+    ≡ lines_of link_item same_link (entries (state_of a).links) (entries (state_of b).links)
+    ++ lines_of class_item same_class (entries (state_of a).classes) (entries (state_of b).classes)
+    ++ lines_of route_item same_route (entries (state_of a).routes) (entries (state_of b).routes)
+    ++ lines_of referent_item same_referent (referents_in a) (referents_in b)
+    ++ lines_of Asset same_asset (facts_in (state_of a)) (facts_in (state_of b))
+    ++ in_order (stretches (state_of a) (state_of b)) (stretches (state_of b) (state_of a))
 
 -- the items of the lines of one sign, in their order
 abbrev pub items_of : Sign → List Line → List Item

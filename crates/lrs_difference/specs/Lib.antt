@@ -5,3 +5,4 @@ pub mod Placed
 pub mod Text
 pub mod Laws
 pub mod Lines
+pub mod Examples

@@ -1,6 +1,13 @@
 //! Laws of the difference of two inventories.
 
-ghost use Rattle.lrs_difference.specs.Laws.{NothingDiffersFromItself, NoLineWhereTheyAgree, SignsAreExchanged, LinesAreInOrder, LinesLeadToTheOther, RouteEditsTellNoAsset};
+ghost use Rattle.lrs_difference.specs.Laws.{KindsAreToldByThemselves, NothingDiffersFromItself, NoLineWhereTheyAgree, SignsAreExchanged, LinesAreInOrder, LinesLeadToTheOther, RouteEditsTellNoAsset};
+ghost use Rattle.lrs_difference.specs.Examples.{ShorterLimitIsTold};
+
+/// An example: where a speed limit becomes shorter and is taken from one side, the stretches that it no longer has are told,
+/// and so is a link that is added.
+pub fn shorter_limit_is_told()
+    ensures { ShorterLimitIsTold }
+{}
 
 /// No inventory differs from itself.
 pub fn nothing_differs_from_itself()
@@ -11,6 +18,12 @@ pub fn nothing_differs_from_itself()
 /// the removed one stands first.
 pub fn lines_are_in_order()
     ensures { LinesAreInOrder }
+{}
+
+/// The lines of a difference are those of each kind by itself: links, classes, routes, referents, assets, and what assets
+/// hold.
+pub fn kinds_are_told_by_themselves()
+    ensures { KindsAreToldByThemselves }
 {}
 
 /// Where two inventories are exchanged, the signs are exchanged: what is removed the one way is added the other way, in
