@@ -23,3 +23,4 @@ pub mod Listed
 pub mod Words
 pub mod Gathered
 pub mod Grouped
+pub mod HeldPieces

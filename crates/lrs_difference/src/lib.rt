@@ -3,6 +3,7 @@
 
 mod entries;
 mod groups;
+mod held;
 pub mod laws;
 mod line;
 mod merging;
@@ -10,5 +11,6 @@ mod referent_list;
 mod text;
 
 pub use groups::{a_difference_is_its_groups, write_listed_differences};
+pub use held::{HeldStretch, held_stretches};
 pub use line::{AssetFacts, Item, Line, Sign};
 pub use text::{sign_text, write_line, write_lines};
