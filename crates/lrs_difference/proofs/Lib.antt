@@ -14,5 +14,13 @@ pub mod Keys
 pub mod Merged
 pub mod Rising
 pub mod Ordered
+pub mod Steps
+pub mod Passing
+pub mod Sections
+pub mod ByKey
+pub mod SamePieces
+pub mod Listed
 pub mod Words
+pub mod Gathered
 pub mod Grouped
+pub mod HeldPieces

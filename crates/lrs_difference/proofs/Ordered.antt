@@ -52,11 +52,14 @@ one_first m n h = by (name_cases m n)
     by (same e) = absurd (both_ways (same_name m n) (not-true (same_name m n) h) ((bytes_decides m n).1 e))
     by (behind k) = or_right (name_before m n) (name_before n m) k
 
-referents_in_order : (i : Image) → IsSound i → each_two referent_before (referents_in i) ≡ true
+pub referents_differ : (i : Image) → IsSound i → each_two (differs referent_before) (flat_map referents_on i.routes) ≡ true
+referents_differ i sound = two_passing apart (differs referent_before) (λ x y h. one_first x.0 y.0 h) (flat_map referents_on i.routes) (all_apart i.routes (refs_apart i sound))
+
+pub referents_in_order : (i : Image) → IsSound i → each_two referent_before (referents_in i) ≡ true
 referents_in_order i sound =
     let xs = flat_map referents_on i.routes in
     each_two-insert_all referent_before (ranks_by nat_list_cmp_total (λ (x : Entry). x.0)) xs []
-    (two_passing apart (differs referent_before) (λ x y h. one_first x.0 y.0 h) xs (all_apart i.routes (refs_apart i sound)))
+    (referents_differ i sound)
     (all_of (λ x. list_all (differs referent_before x) []) xs (λ x m. refl)) refl
 
 -- ---- what assets hold

@@ -12,13 +12,13 @@ use Rattle.lrs_difference.specs.Items.{same_alignment, same_asset, same_class, s
 abbrev pub Tells : {A : Type 0} → (A → A → Bool) → Type 0
 Tells {A = A} same = (x y : A) → Decides (same x y) (x ≡ y)
 
-numbers : Tells nat_eq
+pub numbers : Tells nat_eq
 numbers x y = (eqb-true x y, eq-eqb x y)
 
 names : Tells same_name
 names x y = bytes_decides x y
 
-bools : Tells same_bool
+pub bools : Tells same_bool
 bools true true = ((λ h. refl), λ e. refl)
 bools true false = ((λ h. absurd (false≢true h)), λ e. sym e)
 bools false true = ((λ h. absurd (false≢true h)), λ e. e)
@@ -52,7 +52,7 @@ links = pairs nat_eq nat_eq numbers numbers
 pub classes : Tells same_class
 classes = pairs same_name same_kind names kinds
 
-grounds : Tells same_ground
+pub grounds : Tells same_ground
 grounds g h = (
   (λ t.
       let one = and_parts (nat_eq g.link h.link && nat_eq g.mm h.mm) (same_bool g.forward h.forward) t in

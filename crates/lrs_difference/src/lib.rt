@@ -1,9 +1,16 @@
 //! The difference of two inventories: what the one says and the other does not, line by line.
 #![tactic(auto)]
 
+mod entries;
+mod groups;
+mod held;
 pub mod laws;
 mod line;
+mod merging;
+mod referent_list;
 mod text;
 
+pub use groups::{a_difference_is_its_groups, write_listed_differences};
+pub use held::{HeldStretch, held_stretches};
 pub use line::{AssetFacts, Item, Line, Sign};
 pub use text::{sign_text, write_line, write_lines};

@@ -26,14 +26,14 @@ pub fn sign_text(sign: Sign) -> &'static str
     }
 }
 
-fn write_link<W: Write>(writer: &mut W, number: u32, length: u32) -> io::Result<()>
+pub(crate) fn write_link<W: Write>(writer: &mut W, number: u32, length: u32) -> io::Result<()>
     ensures { OnOk result (Appends (W.contents writer.old) (W.contents writer.new)
         (csv_line (item_fields (item.Link number length)))) }
 {
     writeln!(writer, "link,{number},{length}")
 }
 
-fn write_class<W: Write>(writer: &mut W, name: ClassName, kind: Kind) -> io::Result<()>
+pub(crate) fn write_class<W: Write>(writer: &mut W, name: ClassName, kind: Kind) -> io::Result<()>
     ensures { OnOk result (Appends (W.contents writer.old) (W.contents writer.new)
         (csv_line (item_fields (item.Class name kind)))) }
 {
@@ -110,7 +110,7 @@ fn write_route_head<W: Write>(writer: &mut W, name: &RouteName) -> io::Result<()
     writer.write_all(b",")
 }
 
-fn write_route<W: Write>(
+pub(crate) fn write_route<W: Write>(
     writer: &mut W,
     name: &RouteName,
     course: &Course,
@@ -126,7 +126,12 @@ fn write_route<W: Write>(
     writer.write_all(b"\n")
 }
 
-fn write_referent<W: Write>(writer: &mut W, name: &RefName, link: u32, mm: u32) -> io::Result<()>
+pub(crate) fn write_referent<W: Write>(
+    writer: &mut W,
+    name: &RefName,
+    link: u32,
+    mm: u32,
+) -> io::Result<()>
     ensures { OnOk result (Appends (W.contents writer.old) (W.contents writer.new)
         (csv_line (item_fields (item.Referent name.now link mm)))) }
 {
@@ -149,7 +154,7 @@ fn write_facts<W: Write>(writer: &mut W, asset: &AssetFacts) -> io::Result<()>
     write!(writer, "{number},{class},{value},{lateral}")
 }
 
-fn write_asset<W: Write>(writer: &mut W, asset: &AssetFacts) -> io::Result<()>
+pub(crate) fn write_asset<W: Write>(writer: &mut W, asset: &AssetFacts) -> io::Result<()>
     ensures { OnOk result (Appends (W.contents writer.old) (W.contents writer.new)
         (csv_line (item_fields (item.Asset asset.now)))) }
 {
@@ -198,7 +203,7 @@ fn write_item<W: Write>(writer: &mut W, item: &Item) -> io::Result<()>
     }
 }
 
-fn write_sign<W: Write>(writer: &mut W, sign: Sign) -> io::Result<()>
+pub(crate) fn write_sign<W: Write>(writer: &mut W, sign: Sign) -> io::Result<()>
     ensures { OnOk result (Appends (W.contents writer.old) (W.contents writer.new)
         (spec.sign_text sign ++ 44 ∷ [])) }
 {

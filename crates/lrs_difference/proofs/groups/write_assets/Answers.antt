@@ -1,0 +1,21 @@
+use Rattle.lrs_image.specs.OpenLists.{image_of}
+use Rattle.lrs_image.proofs.Tables.{assets_in_order}
+use Rattle.lrs_report_lists.proofs.Writing.{as_text}
+use Rattle.lrs_difference.specs.Text.{group_text}
+use Rattle.lrs_difference.proofs.Listed.{assets_by_key, assets_text}
+use Rattle.lrs_difference.proofs.groups.write_assets.Goals as goal
+
+pub write_between-requires-clause-by_key : goal.write_between-requires-clause-by_key
+write_between-requires-clause-by_key g c = assets_by_key
+
+pub write_between-requires-clause-left : goal.write_between-requires-clause-left
+write_between-requires-clause-left g c = assets_in_order (image_of c.args.before.now) c.requires.before
+
+pub write_between-requires-clause-right : goal.write_between-requires-clause-right
+write_between-requires-clause-right g c = assets_in_order (image_of c.args.after.now) c.requires.after
+
+pub returns : goal.returns
+returns g c =
+    let a = image_of c.args.before.now in
+    let b = image_of c.args.after.now in
+    as_text c.write_between.result _ _ _ (group_text 4 a b) c.write_between.ensures (assets_text a b)
