@@ -35,7 +35,6 @@ use Rattle.lrs_report_answers.specs.ToldAnswers.{IsNamedRoute, Tells, length_on}
 use Rattle.lrs_report_answers.specs.Totals.{totals_of}
 use Rattle.lrs_report_answers.specs.declared.combinations.Combination.{Combination}
 use Rattle.lrs_report_answers.specs.declared.fault.AskFault.{AskFault}
-use Rattle.lrs_report_answers.specs.declared.fault.AskFault.TheVariants as why
 use Rattle.lrs_report_answers.specs.declared.told.Told.{Told}
 use Rattle.lrs_report_answers.specs.declared.told.Told.TheVariants as told
 use Rattle.lrs_machine.specs.PlaceTexts.{SaysPlace}

@@ -2,7 +2,7 @@
 use Rattle.std.proofs.Common.{◌≡◌, List, [], ◌∷◌, Option, Some, None, refl, sym, ap, ◌∙◌}
 use Rattle.lrs_machine.specs.Lines.{Text}
 use Rattle.lrs_web_requests.specs.Text.{Answer}
-use Rattle.lrs_web_replies.specs.Pages.{CannotPage, GivesPage, SaysClassValue, SaysFields, SaysKey, SaysNumberValue, SaysRouteValue, SaysSideValue, SaysValue, fields_behind, first_field}
+use Rattle.lrs_web_replies.specs.Pages.{CannotPage, GivesPage, SaysClassValue, SaysFields, SaysKey, SaysNumberValue, SaysReferentValue, SaysRouteValue, SaysSideValue, SaysValue, fields_behind, first_field}
 use Rattle.lrs_web_replies.specs.Replies.{unpaged}
 use Rattle.lrs_web_replies.specs.declared.pages.KeyField.{KeyField}
 use Rattle.lrs_web_replies.specs.declared.pages.KeyMember.{KeyMember}
@@ -19,42 +19,62 @@ one_number_value text (value.Number n) (value.Number k) h g = ap value.Number (o
 one_number_value text (value.Number n) (value.Route r) h g = absurd g
 one_number_value text (value.Number n) (value.Class c) h g = absurd g
 one_number_value text (value.Number n) (value.Side s) h g = absurd g
+one_number_value text (value.Number n) (value.Referent f) h g = absurd g
 one_number_value text (value.Route r) w h g = absurd h
 one_number_value text (value.Class c) w h g = absurd h
 one_number_value text (value.Side s) w h g = absurd h
+one_number_value text (value.Referent f) w h g = absurd h
 
 one_route_value : (text : Text) (v w : KeyValue) → SaysRouteValue text v → SaysRouteValue text w → v ≡ w
 one_route_value text (value.Route r) (value.Route q) h g = ap value.Route (one_route text r q h g)
 one_route_value text (value.Route r) (value.Number n) h g = absurd g
 one_route_value text (value.Route r) (value.Class c) h g = absurd g
 one_route_value text (value.Route r) (value.Side s) h g = absurd g
+one_route_value text (value.Route r) (value.Referent f) h g = absurd g
 one_route_value text (value.Number n) w h g = absurd h
 one_route_value text (value.Class c) w h g = absurd h
 one_route_value text (value.Side s) w h g = absurd h
+one_route_value text (value.Referent f) w h g = absurd h
 
 one_class_value : (text : Text) (v w : KeyValue) → SaysClassValue text v → SaysClassValue text w → v ≡ w
 one_class_value text (value.Class c) (value.Class d) h g = ap value.Class (one_class text c d h g)
 one_class_value text (value.Class c) (value.Number n) h g = absurd g
 one_class_value text (value.Class c) (value.Route r) h g = absurd g
 one_class_value text (value.Class c) (value.Side s) h g = absurd g
+one_class_value text (value.Class c) (value.Referent f) h g = absurd g
 one_class_value text (value.Number n) w h g = absurd h
 one_class_value text (value.Route r) w h g = absurd h
 one_class_value text (value.Side s) w h g = absurd h
+one_class_value text (value.Referent f) w h g = absurd h
 
 one_side_value : (text : Text) (v w : KeyValue) → SaysSideValue text v → SaysSideValue text w → v ≡ w
 one_side_value text (value.Side s) (value.Side t) h g = ap value.Side (one_side text s t h g)
 one_side_value text (value.Side s) (value.Number n) h g = absurd g
 one_side_value text (value.Side s) (value.Route r) h g = absurd g
 one_side_value text (value.Side s) (value.Class c) h g = absurd g
+one_side_value text (value.Side s) (value.Referent f) h g = absurd g
 one_side_value text (value.Number n) w h g = absurd h
 one_side_value text (value.Route r) w h g = absurd h
 one_side_value text (value.Class c) w h g = absurd h
+one_side_value text (value.Referent f) w h g = absurd h
+
+one_referent_value : (text : Text) (v w : KeyValue) → SaysReferentValue text v → SaysReferentValue text w → v ≡ w
+one_referent_value text (value.Referent f) (value.Referent e) h g = ap value.Referent (h.0 ∙ sym g.0)
+one_referent_value text (value.Referent f) (value.Number n) h g = absurd g
+one_referent_value text (value.Referent f) (value.Route r) h g = absurd g
+one_referent_value text (value.Referent f) (value.Class c) h g = absurd g
+one_referent_value text (value.Referent f) (value.Side s) h g = absurd g
+one_referent_value text (value.Number n) w h g = absurd h
+one_referent_value text (value.Route r) w h g = absurd h
+one_referent_value text (value.Class c) w h g = absurd h
+one_referent_value text (value.Side s) w h g = absurd h
 
 one_value : (m : KeyMember) (text : Text) (v w : KeyValue) → SaysValue m text v → SaysValue m text w → v ≡ w
 one_value member.Route = one_route_value
 one_value member.Name = one_route_value
 one_value member.Link = one_number_value
 one_value member.Class = one_class_value
+one_value member.Ref = one_referent_value
 one_value member.Chainage = one_number_value
 one_value member.From = one_number_value
 one_value member.Side = one_side_value

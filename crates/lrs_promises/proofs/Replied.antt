@@ -32,7 +32,7 @@ use Rattle.lrs_report_answers.specs.Overlay.{is_segment_wanted, overlay_header, 
 use Rattle.lrs_report_answers.specs.Stretches.{OnStretch, end_of}
 use Rattle.lrs_report_answers.specs.declared.stretch.End.TheVariants.{From, To}
 use Rattle.lrs_report_answers.specs.AssetStretches.{IsFound, all_rows_of}
-use Rattle.lrs_report_answers.specs.RouteSegments.{IsSegmented, class_list}
+use Rattle.lrs_report_answers.specs.RouteSegments.{IsSegmented, UnlessRefused, class_list}
 use Rattle.lrs_report_answers.specs.ToldAnswers.{IsOnLink, IsTold, IsTranslated, Tells, length_on}
 use Rattle.lrs_report_answers.specs.declared.fault.AskFault.{AskFault}
 use Rattle.lrs_report_answers.specs.declared.fault.AskFault.TheVariants.{Memory}
