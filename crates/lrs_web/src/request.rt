@@ -129,7 +129,8 @@ fn page_reply_to<K: Keeper>(
     }
 }
 
-/// The reply to the question that a resource is asked by parameters that it knows. A page that cannot be read is told first.
+/// The reply to the question that a resource is asked by parameters that it knows. A page that cannot be read is told
+/// first.
 #[tactic(auto, using(crate::proofs::Asking::page_answered, crate::proofs::Asking::page_refused))]
 fn known_reply<K: Keeper>(
     alloc: Global,

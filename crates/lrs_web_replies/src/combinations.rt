@@ -11,7 +11,7 @@ ghost use Rattle.lrs_web_replies.specs.Listings.{in_format, named_list};
 ghost use Rattle.lrs_web_replies.specs.Parts.{item_text};
 
 use crate::bounded::BoundedBytes;
-use crate::held::with_held;
+use crate::class_values::with_held;
 use crate::list_text::{add_item, begin, end};
 use crate::members::{Member, Scalar, members_of};
 use crate::reply::{csv_reply, found_reply};

@@ -3,9 +3,9 @@
 
 mod answers;
 mod bounded;
+mod class_values;
 mod combinations;
 mod entries;
-mod held;
 mod ledgers;
 mod lines;
 mod list;

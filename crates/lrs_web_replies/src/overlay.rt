@@ -13,8 +13,8 @@ ghost use Rattle.lrs_web_replies.specs.Overlay.{overlay_answer, overlay_data, ov
 ghost use Rattle.lrs_web_replies.specs.PagedText.{add_all, add_one};
 
 use crate::bounded::BoundedBytes;
+use crate::class_values::with_held;
 use crate::entries::{decimal_at, measure_at};
-use crate::held::with_held;
 use crate::members::{Member, Scalar, members_of};
 use crate::paged_text::PagedText;
 use crate::pages::Page;

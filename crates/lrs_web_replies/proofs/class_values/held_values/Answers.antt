@@ -5,7 +5,7 @@ use Rattle.serde_json.proofs.Views.{view-Array}
 use Rattle.serde_json.specs.View.{view}
 use Rattle.lrs_web_replies.specs.JsonParts.{list}
 use Rattle.lrs_web_replies.specs.Overlay.{held_data}
-use Rattle.lrs_web_replies.proofs.held.held_values.Goals as goal
+use Rattle.lrs_web_replies.proofs.class_values.held_values.Goals as goal
 
 pub loop-one-preserved : goal.loop-one-preserved
 loop-one-preserved c =
