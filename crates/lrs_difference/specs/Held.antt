@@ -9,7 +9,7 @@ use Rattle.lrs_machine.specs.declared.image.Image.{Image}
 use Rattle.lrs_machine.specs.declared.image.RouteRow.{RouteRow}
 use Rattle.lrs_report_lists.specs.LinkRows.{on_piece}
 use Rattle.lrs_report_lists.specs.PlacedPieces.{placed_pieces}
-use Rattle.lrs_difference.specs.declared.held.HeldStretch.{HeldStretch}
+use Rattle.lrs_difference.specs.declared.link_stretches.HeldStretch.{HeldStretch}
 
 -- what a row has of a piece that begins at a chainage
 abbrev pub held_on_piece : Span → ℕ × Piece → List HeldStretch

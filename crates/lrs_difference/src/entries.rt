@@ -8,7 +8,7 @@ ghost use Rattle.lrs_difference.specs.Merging.{same_piece};
 ghost use Rattle.lrs_difference.specs.Items.{same_ground, same_kind, same_mark};
 
 use crate::line::{AssetFacts, Sign};
-use crate::merging::Entry;
+use crate::merge::Entry;
 use crate::text::{write_asset, write_class, write_link, write_route, write_sign};
 use lrs_element::{Course, Link, Mark, Piece};
 use lrs_events::{Asset, Class, Kind};

@@ -6,7 +6,7 @@ ghost use Rattle.lrs_machine.specs.Sound.{IsSound};
 ghost use Rattle.lrs_image.specs.OpenLists.{image_of};
 ghost use Rattle.lrs_difference.specs.Text.{DifferenceIsItsGroups, group_text, groups_text, listed_groups};
 
-use crate::merging::write_between;
+use crate::merge::write_between;
 use crate::referent_list::referents_by_name;
 use lrs_image::ImageLists;
 use std::alloc::Global;

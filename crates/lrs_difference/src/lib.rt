@@ -3,14 +3,14 @@
 
 mod entries;
 mod groups;
-mod held;
 pub mod laws;
 mod line;
-mod merging;
+mod link_stretches;
+mod merge;
 mod referent_list;
 mod text;
 
 pub use groups::{a_difference_is_its_groups, write_listed_differences};
-pub use held::{HeldStretch, held_stretches};
 pub use line::{AssetFacts, Item, Line, Sign};
+pub use link_stretches::{HeldStretch, held_stretches};
 pub use text::{sign_text, write_line, write_lines};

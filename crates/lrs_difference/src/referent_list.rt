@@ -11,7 +11,7 @@ ghost use Rattle.lrs_difference.specs.Difference.{referents_in};
 ghost use Rattle.lrs_difference.specs.Placed.{HaveNames, entry_of, entry_on, named_before};
 
 use crate::line::Sign;
-use crate::merging::Entry;
+use crate::merge::Entry;
 use crate::text::{write_referent, write_sign};
 use lrs_element::Course;
 use lrs_image::ImageLists;

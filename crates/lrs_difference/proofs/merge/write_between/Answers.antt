@@ -5,7 +5,7 @@ use Rattle.lrs_measure.specs.Lists.{each_two}
 use Rattle.lrs_report_lists.proofs.Writing.{leads_next}
 use Rattle.lrs_difference.proofs.Steps.{added_line, at_end, front, passed, passed_order, step, text_between, unless}
 use Rattle.lrs_difference.proofs.Passing.{leads_last}
-use Rattle.lrs_difference.proofs.merging.write_between.Goals as goal
+use Rattle.lrs_difference.proofs.merge.write_between.Goals as goal
 
 pub loop-entry-preserved : goal.loop-entry-preserved
 loop-entry-preserved g c =

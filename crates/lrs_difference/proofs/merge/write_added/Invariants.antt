@@ -3,7 +3,7 @@ use Rattle.std.specs.List.{flat_map}
 use Rattle.lrs_report_lists.proofs.Writing.{Leads}
 use Rattle.lrs_difference.specs.declared.line.Sign.TheVariants.{Added}
 use Rattle.lrs_difference.specs.Lines.{line_text}
-use Rattle.lrs_difference.proofs.merging.write_added.Given as goal
+use Rattle.lrs_difference.proofs.merge.write_added.Given as goal
 
 abbrev pub invariant-loop-first : goal.invariant-loop-first
 invariant-loop-first g l =

@@ -4,7 +4,7 @@ use Rattle.lrs_measure.specs.Lists.{each_two}
 use Rattle.lrs_report_lists.proofs.Writing.{Leads}
 use Rattle.lrs_difference.specs.Merging.{lines_between}
 use Rattle.lrs_difference.specs.Lines.{line_text}
-use Rattle.lrs_difference.proofs.merging.write_between.Given as goal
+use Rattle.lrs_difference.proofs.merge.write_between.Given as goal
 
 abbrev pub invariant-loop-entry : goal.invariant-loop-entry
 invariant-loop-entry g l = record {

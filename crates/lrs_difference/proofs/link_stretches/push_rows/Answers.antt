@@ -1,6 +1,6 @@
 use Rattle.lrs_report_lists.proofs.Length.Pushed.{pushed_next}
 use Rattle.lrs_difference.specs.Held.{held_by_row}
-use Rattle.lrs_difference.proofs.held.push_rows.Goals as goal
+use Rattle.lrs_difference.proofs.link_stretches.push_rows.Goals as goal
 
 pub loop-row-preserved : goal.loop-row-preserved
 loop-row-preserved c =

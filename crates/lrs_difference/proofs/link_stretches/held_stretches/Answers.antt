@@ -2,7 +2,7 @@ use Rattle.std.proofs.Common.{ap}
 use Rattle.std.specs.List.{flat_map}
 use Rattle.lrs_difference.specs.Held.{held_on}
 use Rattle.lrs_difference.proofs.HeldPieces.{more, none_more}
-use Rattle.lrs_difference.proofs.held.held_stretches.Goals as goal
+use Rattle.lrs_difference.proofs.link_stretches.held_stretches.Goals as goal
 
 pub loop-row-preserved : goal.loop-row-preserved
 loop-row-preserved c =

@@ -6,7 +6,7 @@ use Rattle.lrs_report_lists.proofs.CoursePieces.{are-pieces}
 use Rattle.lrs_report_lists.proofs.Placed.{few_pieces}
 use Rattle.lrs_difference.specs.Held.{held_on_piece}
 use Rattle.lrs_difference.proofs.Gathered.{pushed_as}
-use Rattle.lrs_difference.proofs.held.push_row.Goals as goal
+use Rattle.lrs_difference.proofs.link_stretches.push_row.Goals as goal
 
 pub push_on_pieces-requires : goal.push_on_pieces-requires
 push_on_pieces-requires c = record {

@@ -4,7 +4,7 @@ use Rattle.lrs_element.specs.Pieces.{IsFilled}
 use Rattle.lrs_report_lists.specs.PlacedPieces.{placed_from}
 use Rattle.lrs_difference.specs.Held.{held_on_piece}
 use Rattle.lrs_difference.proofs.HeldPieces.{given_from}
-use Rattle.lrs_difference.proofs.held.push_on_pieces.Given as goal
+use Rattle.lrs_difference.proofs.link_stretches.push_on_pieces.Given as goal
 
 abbrev pub invariant-loop-piece : goal.invariant-loop-piece
 invariant-loop-piece l = record {

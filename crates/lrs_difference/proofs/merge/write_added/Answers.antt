@@ -5,7 +5,7 @@ use Rattle.lrs_difference.specs.declared.line.Sign.TheVariants.{Added}
 use Rattle.lrs_difference.specs.Lines.{line_text}
 use Rattle.lrs_report_lists.proofs.Writing.{leads_end}
 use Rattle.lrs_difference.proofs.Passing.{head_none}
-use Rattle.lrs_difference.proofs.merging.write_added.Goals as goal
+use Rattle.lrs_difference.proofs.merge.write_added.Goals as goal
 
 pub returns : goal.returns
 returns g c =

@@ -6,7 +6,7 @@ use Rattle.lrs_difference.specs.Lines.{line_text}
 use Rattle.lrs_report_lists.proofs.Writing.{leads_end, leads_next}
 use Rattle.lrs_difference.proofs.Steps.{front}
 use Rattle.lrs_difference.proofs.Passing.{behind_next, front_at, front_next, head_none}
-use Rattle.lrs_difference.proofs.merging.write_before.Goals as goal
+use Rattle.lrs_difference.proofs.merge.write_before.Goals as goal
 
 pub returns-then-not-is_before-clause-written : goal.returns-then-not-is_before-clause-written
 returns-then-not-is_before-clause-written g c =

@@ -7,7 +7,7 @@ use Rattle.lrs_report_lists.specs.PlacedPieces.{placed_from}
 use Rattle.lrs_report_lists.proofs.Placed.{filled_next}
 use Rattle.lrs_difference.specs.Held.{held_on_piece}
 use Rattle.lrs_difference.proofs.HeldPieces.{given_end, given_from, given_next, more, none_more}
-use Rattle.lrs_difference.proofs.held.push_on_pieces.Goals as goal
+use Rattle.lrs_difference.proofs.link_stretches.push_on_pieces.Goals as goal
 
 abbrev no_piece : Piece
 no_piece = record { link = 0; from = 0; to = 0; forward = false }
