@@ -26,7 +26,8 @@ KEYS = {
 @pytest.fixture(scope="module")
 def port(tmp_path_factory):
     path = tmp_path_factory.mktemp("pages") / "roads.db"
-    make(path, *MORE)
+    # in another order along the route than by name
+    make(path, *MORE, "r1,ref,KM1,A1,int,3/4", "r2,ref,KM3,A1,int,1/4", "r3,ref,KM0,A2,int,1/2")
     with started(db=path) as server:
         yield server.port
 

@@ -164,10 +164,14 @@ def test_it_makes_no_inventory():
 
 
 def test_nothing_else_is_told_otherwise_beside_it(db):
-    before = [run("lengths", db), run("overlay", db, "SPEED"), run("rows", db)]
+    def others():
+        ended = [run("lengths", db), run("overlay", db, "SPEED"), run("rows", db)]
+        return [(one.status, one.stdout, one.stderr) for one in ended]
+
+    before = others()
     run("lengths", db, "--by", "SPEED,SURFACE")
-    assert [run("lengths", db), run("overlay", db, "SPEED"), run("rows", db)] == before
-    assert before[0].stdout.partition(b"\n")[0] == b"class,value,left,right,length,assets"
+    assert others() == before
+    assert before[0][1].partition(b"\n")[0] == b"class,value,left,right,length,assets"
 
 
 def told(path, *words):

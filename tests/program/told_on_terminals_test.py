@@ -179,7 +179,8 @@ def test_a_check_tells_nothing_of_cuts_where_there_are_none(county):
     of_no_header = said("check", county, "stdin", given=record("x1,split,A38,4200000,A439"))
     assert all(line.startswith("explain: ") for line in of_no_header), of_no_header
     survey = b"key,asset,class,route,side,method,from,to,value,offset\nv1,900,SPEED,A38,B,abs,12000,13000,50,0\n"
-    assert said("check", county, "stdin", "--survey", given=survey) == []
+    lies = "asset 101 (100) lies on A38 from 0.000 m (measure 12000) to 3500.583 m (measure 15500.000), side B"
+    assert said("check", county, "stdin", "--survey", given=survey) == [f"key v1: {lies}"]
 
 
 NEARBY = [
