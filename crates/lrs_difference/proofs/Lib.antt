@@ -24,3 +24,4 @@ pub mod Words
 pub mod Gathered
 pub mod Grouped
 pub mod HeldPieces
+pub mod HeldPlaces
