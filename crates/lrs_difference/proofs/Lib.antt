@@ -25,3 +25,4 @@ pub mod Gathered
 pub mod Grouped
 pub mod HeldPieces
 pub mod HeldPlaces
+pub mod HeldByKey

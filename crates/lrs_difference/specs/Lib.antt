@@ -3,6 +3,7 @@ pub mod Difference
 pub mod Merging
 pub mod Placed
 pub mod Held
+pub mod HeldRows
 pub mod Text
 pub mod Laws
 pub mod Lines

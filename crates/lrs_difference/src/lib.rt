@@ -4,6 +4,7 @@
 mod entries;
 mod groups;
 mod held;
+mod held_rows;
 pub mod laws;
 mod line;
 mod merging;
