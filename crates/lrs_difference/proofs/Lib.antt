@@ -26,3 +26,4 @@ pub mod Grouped
 pub mod HeldPieces
 pub mod HeldPlaces
 pub mod HeldByKey
+pub mod OnlyHeld

@@ -5,7 +5,7 @@ ghost use Rattle.std.specs.List.{flat_map};
 ghost use Rattle.std.specs.Io.KnownBytes.{Appends};
 ghost use Rattle.lrs_measure.specs.Lists.{each_two};
 ghost use Rattle.lrs_difference.specs.Difference.{in_order};
-ghost use Rattle.lrs_difference.specs.HeldRows.{held_item, row_before};
+ghost use Rattle.lrs_difference.specs.HeldRows.{RowsAreStretches, held_item, row_before};
 ghost use Rattle.lrs_difference.specs.Lines.{line_text};
 
 use crate::line::{AssetFacts, Sign};
@@ -90,3 +90,9 @@ pub(crate) fn write_rows<W: Write>(
 {
     write_between(writer, left, right)
 }
+
+/// Rows of known assets that are in order, filled and apart, and have what one inventory holds and another does not, are
+/// the stretches that it holds alone.
+pub fn rows_are_stretches()
+    ensures { RowsAreStretches }
+{}
