@@ -27,3 +27,4 @@ pub mod HeldPieces
 pub mod HeldPlaces
 pub mod HeldByKey
 pub mod OnlyHeld
+pub mod Swept

@@ -4,6 +4,7 @@ pub mod Merging
 pub mod Placed
 pub mod Held
 pub mod HeldRows
+pub mod Sweep
 pub mod Text
 pub mod Laws
 pub mod Lines

@@ -9,6 +9,7 @@ pub mod laws;
 mod line;
 mod merging;
 mod referent_list;
+mod sweep;
 mod text;
 
 pub use groups::{a_difference_is_its_groups, write_listed_differences};
