@@ -28,3 +28,4 @@ pub mod HeldPlaces
 pub mod HeldByKey
 pub mod OnlyHeld
 pub mod Swept
+pub mod SweptEdges

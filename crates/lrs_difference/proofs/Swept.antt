@@ -28,7 +28,7 @@ use Rattle.lrs_difference.specs.Sweep.{AreUpTo, IsStill, LastIsGrown, NoneIsAdde
 
 -- ---- the order of three numbers
 
-data Before (a l m b k n : ℕ) : Type 0 where
+pub data Before (a l m b k n : ℕ) : Type 0 where
   by_asset : a < b → Before a l m b k n
   by_link : a ≡ b → l < k → Before a l m b k n
   by_mm : a ≡ b → l ≡ k → m < n → Before a l m b k n
@@ -41,7 +41,7 @@ first_decides a b xs ys = by (nat_lt a b) (nat_eq a b)
     by false true = refl
     by false false = refl
 
-before_from : (a l m b k n : ℕ) → name_before (a ∷ l ∷ m ∷ []) (b ∷ k ∷ n ∷ []) ≡ true → Before a l m b k n
+pub before_from : (a l m b k n : ℕ) → name_before (a ∷ l ∷ m ∷ []) (b ∷ k ∷ n ∷ []) ≡ true → Before a l m b k n
 before_from a l m b k n h = one (or_cases (nat_lt a b) (nat_eq a b && name_before (l ∷ m ∷ []) (k ∷ n ∷ [])) (sym (first_decides a b (l ∷ m ∷ []) (k ∷ n ∷ [])) ∙ h))
   where
     three : a ≡ b → l ≡ k → (nat_lt m n ≡ true) ⊎ ((nat_eq m n && name_before [] []) ≡ true) → Before a l m b k n
@@ -56,7 +56,7 @@ before_from a l m b k n h = one (or_cases (nat_lt a b) (nat_eq a b && name_befor
     one (inl lt) = by_asset (ltb-true a b lt)
     one (inr g) = let p = and_parts (nat_eq a b) (name_before (l ∷ m ∷ []) (k ∷ n ∷ [])) g in two (eqb-true a b p.0) (or_cases (nat_lt l k) (nat_eq l k && name_before (m ∷ []) (n ∷ [])) (sym (first_decides l k (m ∷ []) (n ∷ [])) ∙ p.1))
 
-before_is : (a l m b k n : ℕ) → Before a l m b k n → name_before (a ∷ l ∷ m ∷ []) (b ∷ k ∷ n ∷ []) ≡ true
+pub before_is : (a l m b k n : ℕ) → Before a l m b k n → name_before (a ∷ l ∷ m ∷ []) (b ∷ k ∷ n ∷ []) ≡ true
 before_is a l m b k n (by_asset h) = first_decides a b (l ∷ m ∷ []) (k ∷ n ∷ []) ∙ or_left _ _ (lt-ltb a b h)
 before_is a l m b k n (by_link e h) =
     first_decides a b (l ∷ m ∷ []) (k ∷ n ∷ []) ∙ or_right (nat_lt a b) _ (and_from (nat_eq a b) _ (eq-eqb a b e) (first_decides l k (m ∷ []) (n ∷ []) ∙ or_left _ _ (lt-ltb l k h)))
@@ -66,11 +66,11 @@ before_is a l m b k n (by_mm e f h) =
     (first_decides l k (m ∷ []) (n ∷ []) ∙ or_right (nat_lt l k) _ (and_from (nat_eq l k) _ (eq-eqb l k f) (first_decides m n [] [] ∙ or_left _ _ (lt-ltb m n h)))))
 
 -- behind what is not before another is not before it
-not_later : (x y z : Name) → name_before x z ≡ false → name_before x y ≡ true → name_before y z ≡ false
+pub not_later : (x y z : Name) → name_before x z ≡ false → name_before x y ≡ true → name_before y z ≡ false
 not_later x y z h k = false_from_ne_true (name_before y z) (λ e. both_ways (name_before x z) h (name_trans x y z k e))
 
 -- what is before one that does not end behind a key is before the key
-before_end : (x y z : Name) → name_before x y ≡ true → name_before z y ≡ false → name_before x z ≡ true
+pub before_end : (x y z : Name) → name_before x y ≡ true → name_before z y ≡ false → name_before x z ≡ true
 before_end x y z h k = by (name_cases x z)
   where
     by : NameCases x z → name_before x z ≡ true
@@ -78,17 +78,17 @@ before_end x y z h k = by (name_cases x z)
     by (same e) = absurd (both_ways (name_before z y) k (subst (λ (w : Name). name_before w y ≡ true) e h))
     by (behind e) = absurd (both_ways (name_before z y) k (name_trans z x y e h))
 
-both_imply : (b c : Bool) → (b ≡ true → c ≡ true) → (c ≡ true → b ≡ true) → b ≡ c
+pub both_imply : (b c : Bool) → (b ≡ true → c ≡ true) → (c ≡ true → b ≡ true) → b ≡ c
 both_imply true c h k = sym (h refl)
 both_imply false true h k = absurd (false≢true (k refl))
 both_imply false false h k = refl
 
-not_from : (b : Bool) → b ≡ false → not b ≡ true
+pub not_from : (b : Bool) → b ≡ false → not b ≡ true
 not_from true h = sym h
 not_from false h = refl
 
 -- the places of a line from the one place up to the other are between their keys
-within : (a l f t : ℕ) (asset : ℕ) (p : Place)
+pub within : (a l f t : ℕ) (asset : ℕ) (p : Place)
     → (nat_eq a asset && nat_eq l p.link && (nat_le f p.mm && nat_lt p.mm t)) ≡ (not (name_before (place_key asset p) (a ∷ l ∷ f ∷ [])) && name_before (place_key asset p) (a ∷ l ∷ t ∷ []))
 within a l f t asset p = both_imply _ _ there back
   where
@@ -132,7 +132,7 @@ regrouped true false b c = refl
 regrouped false k b c = refl
 
 -- what a stretch holds, by keys
-held_by_keys : (r : HeldStretch) (asset : ℕ) (p : Place)
+pub held_by_keys : (r : HeldStretch) (asset : ℕ) (p : Place)
     → holds_place asset p r ≡ ((not (name_before (place_key asset p) (start_key r)) && name_before (place_key asset p) (end_key r)) && has_side r.stretch.side p.side)
 held_by_keys r asset p =
     regrouped (nat_eq r.asset asset) (nat_eq r.stretch.link p.link) (nat_le r.stretch.from p.mm && nat_lt p.mm r.stretch.to) (has_side r.stretch.side p.side)
@@ -246,7 +246,7 @@ module _ (held : ℕ → Place → Bool) (low high : Edge) (still : IsStill held
     end_is : end_key row ≡ edge_key high
     end_is = λ i. line.0 i ∷ line.1 i ∷ high.mm ∷ []
 
-    rises : low.mm < high.mm
+    pub rises : low.mm < high.mm
     rises = by (before_from low.asset low.link low.mm high.asset high.link high.mm still.rises)
       where
         by : Before low.asset low.link low.mm high.asset high.link high.mm → low.mm < high.mm

@@ -1,6 +1,7 @@
 //! The difference of two inventories: what the one says and the other does not, line by line.
 #![tactic(auto)]
 
+mod alone;
 mod entries;
 mod groups;
 mod held;
