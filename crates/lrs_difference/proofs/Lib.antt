@@ -29,3 +29,4 @@ pub mod HeldByKey
 pub mod OnlyHeld
 pub mod Swept
 pub mod SweptEdges
+pub mod AddedRows

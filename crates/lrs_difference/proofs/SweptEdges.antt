@@ -189,7 +189,7 @@ ended_by (r ∷ rs) = by (ended_by rs)
     by (no_rows e) = last_row [] r (ap (λ zs. r ∷ zs) e)
     by (last_row front last e) = last_row (r ∷ front) last (ap (λ zs. r ∷ zs) e)
 
-with_last : (front : List HeldStretch) (last row : HeldStretch) (high : Edge) → with_row (front ++ last ∷ []) row high ≡ front ++ cond (goes_on last row) (grown last high ∷ []) (last ∷ row ∷ [])
+pub with_last : (front : List HeldStretch) (last row : HeldStretch) (high : Edge) → with_row (front ++ last ∷ []) row high ≡ front ++ cond (goes_on last row) (grown last high ∷ []) (last ∷ row ∷ [])
 with_last [] last row high = refl
 with_last (x ∷ []) last row high = refl
 with_last (x ∷ y ∷ zs) last row high = ap (λ ws. x ∷ ws) (with_last (y ∷ zs) last row high)

@@ -5,6 +5,7 @@ ghost use Rattle.std.specs.List.{flat_map, list_any};
 ghost use Rattle.lrs_measure.specs.Lists.{each_two};
 ghost use Rattle.lrs_measure.specs.Texts.{name_before};
 ghost use Rattle.lrs_events.specs.Canonical.{side_of};
+ghost use Rattle.lrs_events.specs.Members.{has_side};
 ghost use Rattle.lrs_events.specs.Spans.{same_side};
 ghost use Rattle.lrs_difference.specs.Held.{holds_place};
 ghost use Rattle.lrs_difference.specs.Sweep.{AreAlone, AreGathered, at_edge, edge_key, first_edge, goes_on, rows_at, side_alone, with_row, with_side, row_between};
@@ -30,7 +31,7 @@ fn is_before(edge: &Edge, other: &Edge) -> bool
 }
 
 fn has_side(side: Side, link_side: LinkSide) -> bool
-    ensures { result ≡ Rattle.lrs_events.specs.Members.has_side side link_side }
+    ensures { result ≡ has_side side link_side }
 {
     match (side, link_side) {
         (Side::L, LinkSide::Left) | (Side::R, LinkSide::Right) | (Side::B, _) => true,
