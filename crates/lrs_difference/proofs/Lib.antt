@@ -30,3 +30,4 @@ pub mod OnlyHeld
 pub mod Swept
 pub mod SweptEdges
 pub mod AddedRows
+pub mod SortedEdges

@@ -150,3 +150,10 @@ RowsEnd = (left right : List HeldStretch) (at : Edge) (rows : List HeldStretch) 
 abbrev pub RowsBegin : Type 0
 RowsBegin = (left right : List HeldStretch) (edges : List Edge) → each_two not_behind edges ≡ true → AreEdged (edge_key first_edge) edges left → AreEdged (edge_key first_edge) edges right
     → AreGathered left right first_edge edges []
+
+-- where a stretch begins and where it ends
+abbrev pub edges_of : HeldStretch → List Edge
+edges_of h = record { asset = h.asset; link = h.stretch.link; mm = h.stretch.from } ∷ record { asset = h.asset; link = h.stretch.link; mm = h.stretch.to } ∷ []
+
+abbrev pub edge_before : Edge → Edge → Bool
+edge_before e f = name_before (edge_key e) (edge_key f)

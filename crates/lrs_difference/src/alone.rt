@@ -2,19 +2,22 @@
 
 ghost use Rattle.std.specs.Prelude.{◌≡◌, ◌∷◌, ◌++◌, [], true, OnOk, IfOk};
 ghost use Rattle.std.specs.List.{flat_map, list_any};
+ghost use Rattle.std.specs.List.Sorted.{IsPermutation};
+ghost use Rattle.std.specs.Ordering.{is_lt};
 ghost use Rattle.lrs_measure.specs.Lists.{each_two};
 ghost use Rattle.lrs_measure.specs.Texts.{name_before};
 ghost use Rattle.lrs_events.specs.Canonical.{side_of};
 ghost use Rattle.lrs_events.specs.Members.{has_side};
 ghost use Rattle.lrs_events.specs.Spans.{same_side};
 ghost use Rattle.lrs_difference.specs.Held.{holds_place};
-ghost use Rattle.lrs_difference.specs.Sweep.{AreAlone, AreGathered, at_edge, edge_key, first_edge, goes_on, rows_at, side_alone, with_row, with_side, row_between};
+ghost use Rattle.lrs_difference.specs.Sweep.{AreAlone, AreGathered, at_edge, edge_before, edge_key, edges_of, first_edge, goes_on, not_behind, rows_at, side_alone, with_row, with_side, row_between};
 
 use crate::held::HeldStretch;
 use crate::sweep::Edge;
 use lrs_events::{LinkSide, Side};
 use lrs_report_lists::LinkStretch;
 use std::alloc::{AllocError, Global};
+use std::cmp::Ordering;
 
 fn key_of(edge: &Edge) -> [u64; 3]
     ensures { result ≡ edge_key edge.now }
@@ -166,4 +169,78 @@ fn rows_over(
         at = *edge;
     }
     Ok(rows)
+}
+
+/// Adds where a stretch begins and where it ends.
+fn push_edges(edges: &mut Vec<Edge>, held: &HeldStretch) -> Result<(), AllocError>
+    ensures { OnOk result (edges.new.items ≡ edges.old.items ++ edges_of held.now) }
+{
+    let asset = held.asset;
+    let LinkStretch { link, from, to, .. } = held.stretch;
+    edges.push(Edge {
+        asset,
+        link,
+        mm: from,
+    })?;
+    edges.push(Edge {
+        asset,
+        link,
+        mm: to,
+    })?;
+    Ok(())
+}
+
+/// Adds where stretches begin and where they end.
+fn push_all_edges(edges: &mut Vec<Edge>, held: &[HeldStretch]) -> Result<(), AllocError>
+    ensures { OnOk result (edges.new.items ≡ edges.old.items ++ flat_map edges_of held.now) }
+{
+    for stretch in held {
+        push_edges(edges, stretch)?;
+    }
+    Ok(())
+}
+
+/// How two edges lie in the order, as a sort asks it.
+fn compare(edge: &Edge, other: &Edge) -> Ordering
+    ensures { is_lt result ≡ edge_before edge.now other.now }
+{
+    let key = key_of(edge);
+    let other = key_of(other);
+    key.as_slice().cmp(other.as_slice())
+}
+
+/// Sorts edges by asset, link and millimetre. It takes no memory.
+fn sort(edges: &mut Vec<Edge>)
+    ensures same { IsPermutation edges.old.items edges.new.items }
+    ensures order { each_two not_behind edges.new.items ≡ true }
+{
+    edges.sort_unstable_by(|edge, other| compare(edge, other));
+}
+
+/// Where stretches begin and end, in order.
+fn edges_in_order(
+    alloc: Global,
+    left: &[HeldStretch],
+    right: &[HeldStretch],
+) -> Result<Vec<Edge>, AllocError>
+    ensures { IfOk result (λ edges.
+        AreGathered left.now right.now first_edge edges.items []) }
+{
+    let mut edges = Vec::new(alloc);
+    push_all_edges(&mut edges, left)?;
+    push_all_edges(&mut edges, right)?;
+    sort(&mut edges);
+    Ok(edges)
+}
+
+/// What left stretches hold and right ones do not, as its longest stretches, by asset, link and start.
+pub(crate) fn held_alone(
+    alloc: Global,
+    left: &[HeldStretch],
+    right: &[HeldStretch],
+) -> Result<Vec<HeldStretch>, AllocError>
+    ensures { IfOk result (λ rows. AreAlone left.now right.now rows.items) }
+{
+    let edges = edges_in_order(alloc, left, right)?;
+    rows_over(alloc, left, right, &edges)
 }
