@@ -31,3 +31,4 @@ pub mod Swept
 pub mod SweptEdges
 pub mod AddedRows
 pub mod SortedEdges
+pub mod KnownRows

@@ -54,12 +54,12 @@ one_member key x y xs order m n e = by (two_at (λ a b. nat_lt (key a) (key b)) 
     by (inr (inr l)) = let k = ltb-true (key y) (key x) l in absurd (omega (arith, k, e))
 
 -- a side that a row is on
-abbrev side_in : Side → LinkSide
+abbrev pub side_in : Side → LinkSide
 side_in L = Left
 side_in R = Right
 side_in B = Left
 
-is_in : (side : Side) → has_side side (side_in side) ≡ true
+pub is_in : (side : Side) → has_side side (side_in side) ≡ true
 is_in L = refl
 is_in R = refl
 is_in B = refl

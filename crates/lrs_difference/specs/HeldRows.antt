@@ -1,17 +1,21 @@
 -- What an asset holds of a link in one inventory alone, as it is gathered.
-use Rattle.std.specs.Prelude.{◌≡◌, ℕ, ◌<◌, Bool, true, ◌||◌, ◌&&◌, not, nat_eq, nat_lt, List, map}
-use Rattle.std.specs.List.{list_any}
+use Rattle.std.specs.Prelude.{◌≡◌, ℕ, ◌<◌, Bool, true, ◌||◌, ◌&&◌, not, nat_eq, nat_lt, List, [], map}
+use Rattle.std.specs.List.{cons_option, list_any}
+use Rattle.std.specs.Option.{option_map}
 use Rattle.lrs_measure.specs.Lists.{In, each_two}
+use Rattle.lrs_events.specs.declared.class.Asset.{Asset}
 use Rattle.lrs_events.specs.Places.{Place}
 use Rattle.lrs_events.specs.Spans.{same_side}
 use Rattle.lrs_machine.specs.declared.image.Image.{Image}
-use Rattle.lrs_machine.specs.Image.{state_of}
+use Rattle.lrs_machine.specs.Image.{asset_entry, state_of}
 use Rattle.lrs_machine.specs.Sound.{IsSound}
 use Rattle.lrs_machine.specs.State.{State}
+use Rattle.lrs_report_lists.specs.Lines.{asset_numbered}
+use Rattle.lrs_difference.specs.declared.held.HeldStretch.{HeldStretch}
 use Rattle.lrs_difference.specs.declared.held_rows.HeldRow.{HeldRow}
 use Rattle.lrs_difference.specs.declared.line.Item.{Item}
 use Rattle.lrs_difference.specs.declared.line.Item.TheVariants.{Holds}
-use Rattle.lrs_difference.specs.Difference.{facts_in, holds_only, stretches}
+use Rattle.lrs_difference.specs.Difference.{facts_in, facts_of, holds_only, stretches}
 use Rattle.lrs_difference.specs.Held.{has_place}
 use Rattle.lrs_difference.specs.Items.{item_before}
 
@@ -45,3 +49,7 @@ pub record AreOnly (s t : State) (rows : List HeldRow) : Type 0 where
 -- Such rows are the stretches that the first of two inventories holds alone.
 abbrev pub RowsAreStretches : Type 0
 RowsAreStretches = (a b : Image) → IsSound a → (rows : List HeldRow) → AreOnly (state_of a) (state_of b) rows → map held_item rows ≡ stretches (state_of a) (state_of b)
+
+-- a stretch with what is known of its asset
+abbrev pub known_row : List Asset → HeldStretch → List HeldRow
+known_row assets h = cons_option (option_map (λ a. record { asset = facts_of (asset_entry a); stretch = h.stretch }) (asset_numbered assets h.asset)) []

@@ -6,6 +6,7 @@ mod entries;
 mod groups;
 mod held;
 mod held_rows;
+mod known_rows;
 pub mod laws;
 mod line;
 mod merging;
@@ -15,5 +16,6 @@ mod text;
 
 pub use groups::{a_difference_is_its_groups, write_listed_differences};
 pub use held::{HeldStretch, held_stretches};
+pub use known_rows::write_difference;
 pub use line::{AssetFacts, Item, Line, Sign};
 pub use text::{sign_text, write_line, write_lines};
