@@ -1,11 +1,11 @@
 -- Stretches with what is known of their assets.
-use Rattle.std.proofs.Common.{◌≡◌, ℕ, ◌+◌, ◌-◌, ◌<◌, ◌≤◌, Bool, true, false, cond, not, Option, Some, None, ◌⊎◌, inl, inr, List, [], ◌∷◌, ◌++◌, map, refl, sym, ap, subst, ◌∙◌, arith}
-use Rattle.std.specs.Prelude.{◌||◌, ◌&&◌, nat_eq, nat_lt}
+use Rattle.std.proofs.Common.{◌≡◌, ℕ, ◌+◌, ◌-◌, ◌<◌, ◌≤◌, Bool, true, false, cond, not, Option, Some, None, Result, Ok, Err, append-nil, ◌⊎◌, inl, inr, List, [], ◌∷◌, ◌++◌, map, refl, sym, ap, subst, ◌∙◌, arith}
+use Rattle.std.specs.Prelude.{◌||◌, ◌&&◌, nat_eq, nat_lt, IfOk}
 use Rattle.std.specs.List.{cons_option, find, flat_map, list_any}
 use Rattle.std.specs.Option.{option_map}
-use Rattle.std.specs.Io.KnownBytes.{Appends}
 use Rattle.std.proofs.lemmas.Bool.{and_from, and_parts, eq-eqb, eqb-true, le-leb, lt-ltb}
 use Rattle.std.proofs.lemmas.List.Folds.{list_any-append}
+use Rattle.std.proofs.lemmas.List.Concat.{flat_map-append}
 use Rattle.lrs_measure.specs.Lists.{In, each_two}
 use Rattle.lrs_measure.specs.Texts.{name_before}
 use Rattle.lrs_measure.proofs.Members.{any_of, flat_map_found, In-map, map_found}
@@ -21,6 +21,7 @@ use Rattle.lrs_machine.specs.declared.image.Image.{Image}
 use Rattle.lrs_machine.specs.Image.{asset_entry, state_of}
 use Rattle.lrs_machine.specs.Sound.{IsSound}
 use Rattle.lrs_machine.proofs.Pairs.{each_two-map}
+use Rattle.lrs_machine.proofs.SoundImages.{sound_is_lawful}
 use Rattle.lrs_report_lists.specs.Lines.{asset_numbered}
 use Rattle.lrs_difference.specs.declared.held.HeldStretch.{HeldStretch}
 use Rattle.lrs_difference.specs.declared.held_rows.HeldRow.{HeldRow}
@@ -31,10 +32,14 @@ use Rattle.lrs_difference.specs.HeldRows.{AreOnly, are_apart, held_item, known_r
 use Rattle.lrs_difference.specs.Items.{item_before}
 use Rattle.lrs_difference.specs.Lines.{line_text}
 use Rattle.lrs_difference.specs.Sweep.{AreAlone, lie_apart, starts_before}
-use Rattle.lrs_difference.specs.Text.{group_text}
+use Rattle.lrs_difference.specs.Text.{difference_text, group_text, groups_text, listed_groups}
+use Rattle.lrs_difference.proofs.Agreeing.{facts_in_order}
 use Rattle.lrs_difference.proofs.Given.{IsPlaced, is_placed}
 use Rattle.lrs_difference.proofs.HeldPlaces.{are_held}
 use Rattle.lrs_difference.proofs.Keys.{behind_first}
+use Rattle.lrs_difference.proofs.Listed.{all_groups}
+use Rattle.lrs_difference.proofs.Ordered.{stretches_in_order}
+use Rattle.lrs_difference.proofs.Sections.{the_stretches}
 use Rattle.lrs_difference.proofs.OnlyHeld.{are_stretches, is_in, side_in}
 use Rattle.lrs_difference.proofs.Rising.{each_given}
 
@@ -144,5 +149,24 @@ module _ (a b : Image) (sound : IsSound a) (rows : List HeldStretch) (h : AreAlo
     places = λ asset p. all_places asset p rows (λ r m. m) ∙ held_only asset p;
   }
 
-  pub only_stretches : (left right : List HeldStretch) (ks : List HeldRow) → ks ≡ flat_map (known_row a.assets) rows → map held_item ks ≡ stretches (state_of a) (state_of b)
-  only_stretches left right ks e = ap (map held_item) e ∙ are_stretches a b sound (flat_map (known_row a.assets) rows) are_only
+  pub only_stretches : (ks : List HeldRow) → ks ≡ flat_map (known_row a.assets) rows → map held_item ks ≡ stretches (state_of a) (state_of b)
+  only_stretches ks e = ap (map held_item) e ∙ are_stretches a b sound (flat_map (known_row a.assets) rows) are_only
+
+pub told_as : {T E : Type 0} (r : Result T E) (P Q : T → Type 0) → ((x : T) → P x → Q x) → IfOk r P → IfOk r Q
+told_as (Ok x) P Q f h = f x h
+told_as (Err x) P Q f h = tt
+
+pub alone_as : (l k r s rows : List HeldStretch) → l ≡ k → r ≡ s → AreAlone l r rows → AreAlone k s rows
+alone_as l k r s rows e f h = subst (λ (z : List HeldStretch). AreAlone k z rows) f (subst (λ (z : List HeldStretch). AreAlone z r rows) e h)
+
+pub rows_in_order : (a b : Image) → IsSound a → (ks : List HeldRow) → map held_item ks ≡ stretches (state_of a) (state_of b) → each_two row_before ks ≡ true
+rows_in_order a b sound ks e =
+    sym (each_two-map item_before held_item ks) ∙ ap (each_two item_before) e ∙ stretches_in_order (state_of a) (state_of b) (sound_is_lawful a sound).grounded.links (facts_in_order a sound)
+
+pub held_text : (a b : Image) (ks ls : List HeldRow) → map held_item ks ≡ stretches (state_of a) (state_of b) → map held_item ls ≡ stretches (state_of b) (state_of a)
+    → flat_map line_text (in_order (map held_item ks) (map held_item ls)) ≡ group_text 5 a b
+held_text a b ks ls e f = ap (flat_map line_text) ((λ i. in_order (e i) (f i)) ∙ sym (the_stretches a b))
+
+pub both_texts : (a b : Image) → groups_text listed_groups a b ++ group_text 5 a b ≡ difference_text a b
+both_texts a b =
+    ap (λ t. groups_text listed_groups a b ++ t) (sym (append-nil (group_text 5 a b))) ∙ sym (flat_map-append (λ g. group_text g a b) listed_groups (5 ∷ [])) ∙ sym (all_groups a b)
