@@ -1,10 +1,9 @@
 -- Rows of what is held are in an order by keys, and none says the same as another.
-use Rattle.std.proofs.Common.{◌≡◌, Bool, true, false, List, [], ◌∷◌, map, refl, ap}
+use Rattle.std.proofs.Common.{◌≡◌, Bool, false, List, [], ◌∷◌, map, refl, ap}
 use Rattle.lrs_measure.proofs.Filters.{filter_all}
 use Rattle.std.specs.Prelude.{not}
 use Rattle.std.specs.List.{list_any}
 use Rattle.lrs_difference.specs.declared.held_rows.HeldRow.{HeldRow}
-use Rattle.lrs_difference.specs.declared.line.Line.{Line}
 use Rattle.lrs_difference.specs.Difference.{in_order, lacking}
 use Rattle.lrs_difference.specs.HeldRows.{held_item, row_before}
 use Rattle.lrs_difference.specs.Items.{item_key}

@@ -1,5 +1,5 @@
 -- What the rows of an inventory hold, and the stretches that they have of links.
-use Rattle.std.proofs.Common.{◌≡◌, ℕ, zero, suc, ◌+◌, ◌-◌, ◌<◌, ◌≤◌, min, Bool, true, false, cond, Option, Some, None, ◌⊎◌, inl, inr, List, [], ◌∷◌, ◌++◌, length, get_or, refl, sym, ap, subst, ◌∙◌, arith}
+use Rattle.std.proofs.Common.{◌≡◌, ℕ, zero, suc, ◌+◌, ◌-◌, ◌<◌, ◌≤◌, min, Bool, true, false, cond, Option, Some, None, ◌⊎◌, inl, inr, List, [], ◌∷◌, ◌++◌, length, get_or, refl, sym, ap, ◌∙◌, arith}
 use Rattle.std.specs.Prelude.{◌||◌, ◌&&◌, nat_eq, nat_le, nat_lt}
 use Rattle.std.specs.List.{cons_option, flat_map, list_any}
 use Rattle.std.specs.Option.{option_map}
@@ -18,18 +18,16 @@ use Rattle.lrs_events.specs.Places.{Place, along_link, beside, same_link_side, s
 use Rattle.lrs_events.specs.Spans.{holds_by_span, holds_by_spans}
 use Rattle.lrs_events.specs.Row.CourseMembers.{is_picked}
 use Rattle.lrs_events.proofs.Row.Picked.{row_holds}
-use Rattle.lrs_machine.specs.declared.image.Image.{Image}
 use Rattle.lrs_machine.specs.declared.image.RouteRow.{RouteRow}
 use Rattle.lrs_machine.specs.Image.{holds_on, state_of}
 use Rattle.lrs_report_lists.specs.declared.link_rows.LinkStretch.{LinkStretch}
 use Rattle.lrs_report_lists.specs.CoursePieces.{pieces_of}
 use Rattle.lrs_report_lists.specs.Laws.{has_mm}
-use Rattle.lrs_report_lists.specs.LinkRows.{on_piece, seen_along, stretch_between}
+use Rattle.lrs_report_lists.specs.LinkRows.{on_piece, stretch_between}
 use Rattle.lrs_report_lists.specs.PlacedPieces.{placed_from}
 use Rattle.lrs_report_lists.proofs.CoursePieces.{pieces_make}
 use Rattle.lrs_report_lists.proofs.LinkLines.{rows_hold_same, sides_seen}
-use Rattle.lrs_difference.specs.declared.held.HeldStretch.{HeldStretch}
-use Rattle.lrs_difference.specs.Held.{StretchesAreHeld, has_place, held_by_row, held_in, held_on, held_on_piece, holds_place}
+use Rattle.lrs_difference.specs.Held.{StretchesAreHeld, held_by_row, held_on, held_on_piece, holds_place}
 
 -- ---- Bool
 

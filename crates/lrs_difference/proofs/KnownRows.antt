@@ -1,5 +1,5 @@
 -- Stretches with what is known of their assets.
-use Rattle.std.proofs.Common.{◌≡◌, ℕ, ◌+◌, ◌-◌, ◌<◌, ◌≤◌, Bool, true, false, cond, not, Option, Some, None, Result, Ok, Err, append-nil, ◌⊎◌, inl, inr, List, [], ◌∷◌, ◌++◌, map, refl, sym, ap, subst, ◌∙◌, arith}
+use Rattle.std.proofs.Common.{◌≡◌, ℕ, ◌<◌, ◌≤◌, Bool, true, false, cond, not, Option, Some, None, Result, Ok, Err, append-nil, inl, inr, List, [], ◌∷◌, ◌++◌, map, refl, sym, ap, subst, ◌∙◌, arith}
 use Rattle.std.specs.Prelude.{◌||◌, ◌&&◌, nat_eq, nat_lt, IfOk}
 use Rattle.std.specs.List.{cons_option, find, flat_map, list_any}
 use Rattle.std.specs.Option.{option_map}
@@ -10,11 +10,6 @@ use Rattle.lrs_measure.specs.Lists.{In, each_two}
 use Rattle.lrs_measure.specs.Texts.{name_before}
 use Rattle.lrs_measure.proofs.Members.{any_of, flat_map_found, In-map, map_found}
 use Rattle.lrs_events.specs.declared.class.Asset.{Asset}
-use Rattle.lrs_events.specs.declared.side.LinkSide.{LinkSide}
-use Rattle.lrs_events.specs.declared.side.LinkSide.TheVariants.{Left, Right}
-use Rattle.lrs_events.specs.declared.side.Side.{Side}
-use Rattle.lrs_events.specs.declared.side.Side.TheVariants.{L, R, B}
-use Rattle.lrs_events.specs.Members.{has_side}
 use Rattle.lrs_events.specs.Places.{Place}
 use Rattle.lrs_events.specs.Spans.{same_side}
 use Rattle.lrs_machine.specs.declared.image.Image.{Image}
@@ -34,7 +29,7 @@ use Rattle.lrs_difference.specs.Lines.{line_text}
 use Rattle.lrs_difference.specs.Sweep.{AreAlone, lie_apart, starts_before}
 use Rattle.lrs_difference.specs.Text.{difference_text, group_text, groups_text, listed_groups}
 use Rattle.lrs_difference.proofs.Agreeing.{facts_in_order}
-use Rattle.lrs_difference.proofs.Given.{IsPlaced, is_placed}
+use Rattle.lrs_difference.proofs.Given.{is_placed}
 use Rattle.lrs_difference.proofs.HeldPlaces.{are_held}
 use Rattle.lrs_difference.proofs.Keys.{behind_first}
 use Rattle.lrs_difference.proofs.Listed.{all_groups}

@@ -1,5 +1,5 @@
 -- Rows that have what one state alone holds are its stretches.
-use Rattle.std.proofs.Common.{◌≡◌, ℕ, ◌+◌, ◌-◌, ◌<◌, ◌≤◌, Bool, true, false, cond, not, ◌⊎◌, inl, inr, List, [], ◌∷◌, map, filter, refl, sym, ap, subst, ◌∙◌, arith}
+use Rattle.std.proofs.Common.{◌≡◌, ℕ, ◌-◌, ◌<◌, ◌≤◌, Bool, true, false, cond, not, ◌⊎◌, inl, inr, List, [], ◌∷◌, map, filter, refl, sym, ap, subst, ◌∙◌, arith}
 use Rattle.std.specs.Prelude.{◌||◌, ◌&&◌, nat_eq, nat_le, nat_lt}
 use Rattle.std.specs.List.{filter_map, flat_map, list_all, list_any, range_with_len}
 use Rattle.std.proofs.lemmas.Bool.{and_from, and_parts, both_ways, eq-eqb, eqb-true, le-leb, leb-true, lt-ltb, ltb-true, not-true, or_cases}
@@ -18,10 +18,10 @@ use Rattle.lrs_events.specs.Canonical.{canonical_rows, held_run, side_held, side
 use Rattle.lrs_events.specs.Members.{between, has_side}
 use Rattle.lrs_events.specs.Places.{Place}
 use Rattle.lrs_events.specs.Spans.{same_side}
-use Rattle.lrs_events.specs.Row.Order.{by_place, Joins}
+use Rattle.lrs_events.specs.Row.Order.{by_place}
 use Rattle.lrs_events.specs.Row.RunLaws.{row_run}
 use Rattle.lrs_events.proofs.Row.Laid.{AreLaid, is_over, laid_runs, side_over}
-use Rattle.lrs_events.proofs.Row.Rows.{AreRows, IsAhead, IsFull, Pairs}
+use Rattle.lrs_events.proofs.Row.Rows.{IsAhead, IsFull, Pairs}
 use Rattle.lrs_events.proofs.Row.Unique.{is_same}
 use Rattle.lrs_machine.specs.declared.image.Image.{Image}
 use Rattle.lrs_machine.specs.Image.{link_entry, state_of}
@@ -35,7 +35,6 @@ use Rattle.lrs_difference.specs.declared.line.AssetFacts.{AssetFacts}
 use Rattle.lrs_difference.specs.declared.line.Item.{Item}
 use Rattle.lrs_difference.specs.declared.line.Item.TheVariants as item
 use Rattle.lrs_difference.specs.Difference.{course_of_link, facts_in, holds_item, holds_only, stretches, stretches_on}
-use Rattle.lrs_difference.specs.Held.{has_place}
 use Rattle.lrs_difference.specs.HeldRows.{AreOnly, RowsAreStretches, are_apart, held_item, row_has, same_line}
 use Rattle.lrs_difference.specs.Items.{item_before}
 use Rattle.lrs_difference.proofs.Agreeing.{facts_in_order}

@@ -1,12 +1,12 @@
 -- Edges of stretches, in order.
-use Rattle.std.proofs.Common.{◌≡◌, ℕ, zero, suc, ◌+◌, ◌<◌, arith, get_or, length, take, Bool, true, inl, inr, Result, Ok, Err, List, [], ◌∷◌, ◌++◌, refl, sym, ap, subst, ◌∙◌}
+use Rattle.std.proofs.Common.{◌≡◌, ℕ, zero, suc, ◌+◌, ◌<◌, arith, get_or, length, take, true, inl, inr, List, [], ◌∷◌, ◌++◌, refl, sym, subst, ◌∙◌}
 use Rattle.std.specs.List.{flat_map, list_any}
 use Rattle.std.specs.List.Sorted.{IsPermutation}
 use Rattle.std.specs.Cmp.{IsStrictWeakOrder}
 use Rattle.std.specs.Cmp.Lexicographic.{bytes_decides, nat_list_cmp_total}
 use Rattle.std.proofs.lemmas.List.Sorted.{list_any-IsPermutation, ranks_by}
 use Rattle.lrs_measure.specs.Lists.{In, each_two}
-use Rattle.lrs_measure.specs.Texts.{Name, same_name}
+use Rattle.lrs_measure.specs.Texts.{same_name}
 use Rattle.lrs_measure.proofs.Members.{any_found, any_of, In-append_left, In-append_right, In-flat_map}
 use Rattle.lrs_difference.specs.declared.held.HeldStretch.{HeldStretch}
 use Rattle.lrs_difference.specs.declared.sweep.Edge.{Edge}

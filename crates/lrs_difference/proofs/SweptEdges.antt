@@ -1,15 +1,13 @@
 -- Rows that are gathered over all edges.
 use Rattle.std.proofs.Common.{◌≡◌, ℕ, ◌<◌, ◌≤◌, Bool, true, false, cond, not, Option, Some, None, ◌⊎◌, inl, inr, List, [], ◌∷◌, ◌++◌, refl, sym, ap, subst, ◌∙◌, arith, append_assoc}
-use Rattle.std.specs.Prelude.{◌||◌, ◌&&◌, nat_eq, nat_le, nat_lt}
+use Rattle.std.specs.Prelude.{◌||◌, ◌&&◌, nat_eq, nat_lt}
 use Rattle.std.specs.List.{list_all, list_any}
-use Rattle.std.proofs.lemmas.Bool.{false≢true, false_from_ne_true, and_from, and_parts, both_ways, cases_Bool, eq-eqb, eqb-true, ltb-true, not-true, or_cases}
+use Rattle.std.proofs.lemmas.Bool.{false_from_ne_true, and_from, and_parts, both_ways, eq-eqb, eqb-true, ltb-true, not-true, or_cases}
 use Rattle.lrs_measure.specs.Lists.{In, each_two}
 use Rattle.lrs_measure.specs.Texts.{Name, name_before}
 use Rattle.lrs_measure.proofs.Members.{all_at, any_found, In-append_right}
 use Rattle.lrs_events.specs.declared.side.LinkSide.{LinkSide}
-use Rattle.lrs_events.specs.declared.side.LinkSide.TheVariants.{Left, Right}
 use Rattle.lrs_events.specs.declared.side.Side.{Side}
-use Rattle.lrs_events.specs.Canonical.{side_of}
 use Rattle.lrs_events.specs.Members.{has_side}
 use Rattle.lrs_events.specs.Places.{Place}
 use Rattle.lrs_events.specs.Spans.{same_side}
@@ -18,7 +16,7 @@ use Rattle.lrs_events.proofs.Row.Unique.{less_one}
 use Rattle.lrs_difference.specs.declared.held.HeldStretch.{HeldStretch}
 use Rattle.lrs_difference.specs.declared.sweep.Edge.{Edge}
 use Rattle.lrs_difference.specs.Held.{holds_place}
-use Rattle.lrs_difference.specs.Sweep.{AreAlone, AreEdged, AreGathered, AreUpTo, IsEdged, IsStill, RowsBegin, RowsEnd, RowsGoOn, alone, at_edge, edge_key, end_key, first_edge, goes_on, grown, lie_apart, not_behind, on_one_line, place_key, row_between, rows_at, side_alone, start_key, starts_before, with_row, with_side}
+use Rattle.lrs_difference.specs.Sweep.{AreEdged, AreUpTo, IsEdged, IsStill, RowsBegin, RowsEnd, RowsGoOn, alone, at_edge, edge_key, end_key, first_edge, goes_on, grown, lie_apart, not_behind, on_one_line, place_key, row_between, side_alone, start_key, starts_before, with_row, with_side}
 use Rattle.lrs_difference.proofs.Swept.{Before, before_end, before_from, before_is, both_imply, by_asset, by_link, by_mm, held_by_keys, last_grown, none_added, not_from, not_later, one_added, within}
 
 -- ---- the numbers of a key
