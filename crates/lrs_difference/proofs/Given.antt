@@ -155,7 +155,7 @@ pub record IsPlaced (s : State) (asset : ℕ) (p : Place) : Type 0 where
   pub on_link : link.0 ≡ p.link
   pub within : p.mm < link.1
 
-is_placed : (i : Image) → IsSound i → (asset : ℕ) (p : Place) → (state_of i).holds asset p ≡ true → IsPlaced (state_of i) asset p
+pub is_placed : (i : Image) → IsSound i → (asset : ℕ) (p : Place) → (state_of i).holds asset p ≡ true → IsPlaced (state_of i) asset p
 unfolding state_of
 is_placed i sound asset p h =
     let at = held_by i (tested i sound) asset p h in

@@ -24,3 +24,11 @@ pub mod Words
 pub mod Gathered
 pub mod Grouped
 pub mod HeldPieces
+pub mod HeldPlaces
+pub mod HeldByKey
+pub mod OnlyHeld
+pub mod Swept
+pub mod SweptEdges
+pub mod AddedRows
+pub mod SortedEdges
+pub mod KnownRows

@@ -101,7 +101,7 @@ module _ (s t : State) where
       let v = held_item b y n in
       (λ i. item_before (u.4 i) (v.4 i)) ∙ behind_first 5 (a.number ∷ u.0 ∷ u.1 ∷ []) (b.number ∷ v.0 ∷ v.1 ∷ []) (lesser_first a.number b.number (u.0 ∷ u.1 ∷ []) (v.0 ∷ v.1 ∷ []) h)
 
-  stretches_in_order : each_two (λ l k. nat_lt l.0 k.0) (entries s.links) ≡ true → each_two (λ a b. nat_lt a.number b.number) (facts_in s) ≡ true → each_two item_before (stretches s t) ≡ true
+  pub stretches_in_order : each_two (λ l k. nat_lt l.0 k.0) (entries s.links) ≡ true → each_two (λ a b. nat_lt a.number b.number) (facts_in s) ≡ true → each_two item_before (stretches s t) ≡ true
   stretches_in_order links facts =
       each_given (λ a b. nat_lt a.number b.number) item_before of_asset (facts_in s) facts
       (λ a. each_given (λ l k. nat_lt l.0 k.0) item_before (stretches_on s t a) (entries s.links) links (on_link a) (across_links a)) across_assets

@@ -3,6 +3,8 @@ pub mod Difference
 pub mod Merging
 pub mod Placed
 pub mod Held
+pub mod HeldRows
+pub mod Sweep
 pub mod Text
 pub mod Laws
 pub mod Lines

@@ -102,7 +102,7 @@ impl Entry for RouteRow {
 }
 
 /// What a difference tells of an asset.
-fn facts_of(asset: &Asset) -> AssetFacts
+pub(crate) fn facts_of(asset: &Asset) -> AssetFacts
     ensures { result ≡ facts_of (asset_entry asset.now) }
 {
     AssetFacts {

@@ -2,6 +2,7 @@
 
 ghost use Rattle.lrs_difference.specs.Laws.{KindsAreToldByThemselves, NothingDiffersFromItself, NoLineWhereTheyAgree, SignsAreExchanged, LinesAreInOrder, LinesLeadToTheOther, RouteEditsTellNoAsset};
 ghost use Rattle.lrs_difference.specs.Examples.{ShorterLimitIsTold};
+ghost use Rattle.lrs_difference.specs.Held.{StretchesAreHeld};
 
 /// An example: where a speed limit becomes shorter and is taken from one side, the stretches that it no longer has are told,
 /// and so is a link that is added.
@@ -47,4 +48,9 @@ pub fn lines_lead_to_the_other()
 /// A split, join, renumber, recalibrate or turn is told by no line of an asset, or of what assets hold.
 pub fn route_edits_tell_no_asset()
     ensures { RouteEditsTellNoAsset }
+{}
+
+/// An asset holds a place of an inventory exactly where a stretch says so of those that its rows have of links.
+pub fn stretches_are_held()
+    ensures { StretchesAreHeld }
 {}

@@ -163,7 +163,7 @@ pub(crate) fn write_asset<W: Write>(writer: &mut W, asset: &AssetFacts) -> io::R
     writer.write_all(b"\n")
 }
 
-fn write_held<W: Write>(
+pub(crate) fn write_held<W: Write>(
     writer: &mut W,
     asset: &AssetFacts,
     link: u32,
