@@ -12,6 +12,7 @@ pub mod Referents
 pub mod Agreeing
 pub mod Keys
 pub mod Merged
+pub mod NearStretches
 pub mod Rising
 pub mod Ordered
 pub mod Steps

@@ -157,3 +157,21 @@ edges_of h = record { asset = h.asset; link = h.stretch.link; mm = h.stretch.fro
 
 abbrev pub edge_before : Edge → Edge → Bool
 edge_before e f = name_before (edge_key e) (edge_key f)
+
+-- ---- stretches in order
+
+-- the first place of the asset and link of an edge
+abbrev pub line_key : Edge → List ℕ
+line_key e = e.asset ∷ e.link ∷ 0 ∷ []
+
+-- the stretch comes before all of the asset and link of the edge
+abbrev pub is_ahead : Edge → HeldStretch → Bool
+is_ahead e h = name_before (start_key h) (line_key e)
+
+-- the stretch begins at the edge or comes before it
+abbrev pub is_begun : Edge → HeldStretch → Bool
+is_begun e h = not (name_before (edge_key e) (start_key h))
+
+-- The last of these lists holds at the edge what the first one does.
+abbrev pub AreNear : Edge → List HeldStretch → List HeldStretch → Type 0
+AreNear e held near = (side : LinkSide) → list_any (holds_place e.asset (at_edge e side)) near ≡ list_any (holds_place e.asset (at_edge e side)) held

@@ -1,8 +1,8 @@
 //! What some stretches hold and others do not.
 
-ghost use Rattle.std.specs.Prelude.{◌≡◌, ◌∷◌, ◌++◌, [], true, OnOk, IfOk};
+ghost use Rattle.std.specs.Prelude.{◌≡◌, ◌≤◌, ◌∷◌, ◌++◌, [], true, false, length, OnOk, IfOk};
 ghost use Rattle.std.specs.List.{flat_map, list_any};
-ghost use Rattle.std.specs.List.Sorted.{IsPermutation};
+ghost use Rattle.std.specs.List.Sorted.{IsPartitionPoint, IsPermutation, IsSortedBy};
 ghost use Rattle.std.specs.Ordering.{is_lt};
 ghost use Rattle.lrs_measure.specs.Lists.{each_two};
 ghost use Rattle.lrs_measure.specs.Texts.{name_before};
@@ -10,7 +10,7 @@ ghost use Rattle.lrs_events.specs.Canonical.{side_of};
 ghost use Rattle.lrs_events.specs.Members.{has_side};
 ghost use Rattle.lrs_events.specs.Spans.{same_side};
 ghost use Rattle.lrs_difference.specs.Held.{holds_place};
-ghost use Rattle.lrs_difference.specs.Sweep.{AreAlone, AreGathered, at_edge, edge_before, edge_key, edges_of, first_edge, goes_on, not_behind, rows_at, side_alone, with_row, with_side, row_between};
+ghost use Rattle.lrs_difference.specs.Sweep.{AreAlone, AreGathered, AreNear, at_edge, edge_before, edge_key, edges_of, first_edge, goes_on, is_ahead, is_begun, not_behind, rows_at, side_alone, start_key, starts_before, with_row, with_side, row_between};
 
 use crate::link_stretches::HeldStretch;
 use crate::sweep::Edge;
@@ -72,12 +72,82 @@ fn side_of(left: bool, right: bool) -> Option<Side>
 }
 
 /// On which side or sides the place at an edge is held by left stretches and not by right ones.
-fn side_alone(left: &[HeldStretch], right: &[HeldStretch], edge: &Edge) -> Option<Side>
+fn side_of_near(left: &[HeldStretch], right: &[HeldStretch], edge: &Edge) -> Option<Side>
     ensures { result ≡ side_alone left.now right.now edge.now }
 {
     let on_left = is_held(left, edge, LinkSide::Left) && !is_held(right, edge, LinkSide::Left);
     let on_right = is_held(left, edge, LinkSide::Right) && !is_held(right, edge, LinkSide::Right);
     side_of(on_left, on_right)
+}
+
+fn start_key_of(held: &HeldStretch) -> [u64; 3]
+    ensures { result ≡ start_key held.now }
+{
+    let stretch = &held.stretch;
+    [held.asset, u64::from(stretch.link), u64::from(stretch.from)]
+}
+
+/// Whether a stretch comes before all of the asset and link of an edge.
+fn is_ahead(held: &HeldStretch, edge: &Edge) -> bool
+    ensures { result ≡ is_ahead edge.now held.now }
+{
+    let key = start_key_of(held);
+    let line = [edge.asset, u64::from(edge.link), 0];
+    key.as_slice().cmp(line.as_slice()).is_lt()
+}
+
+/// Whether a stretch begins at an edge or comes before it.
+fn is_begun(held: &HeldStretch, edge: &Edge) -> bool
+    ensures { result ≡ is_begun edge.now held.now }
+{
+    let key = key_of(edge);
+    let start = start_key_of(held);
+    !key.as_slice().cmp(start.as_slice()).is_lt()
+}
+
+/// How many stretches come before all of the asset and link of an edge.
+fn count_ahead(held: &[HeldStretch], edge: &Edge) -> usize
+    requires { IsSortedBy starts_before held.now }
+    ensures within { result ≤ length held.now }
+    ensures point { IsPartitionPoint (λ h. is_ahead edge.now h ≡ true) (λ h.
+        is_ahead edge.now h ≡ false) held.now result }
+{
+    held.partition_point(|stretch| is_ahead(stretch, edge))
+}
+
+/// How many stretches begin at an edge or come before it.
+fn count_begun(held: &[HeldStretch], edge: &Edge) -> usize
+    requires { IsSortedBy starts_before held.now }
+    ensures within { result ≤ length held.now }
+    ensures point { IsPartitionPoint (λ h. is_begun edge.now h ≡ true) (λ h.
+        is_begun edge.now h ≡ false) held.now result }
+{
+    held.partition_point(|stretch| is_begun(stretch, edge))
+}
+
+/// The stretches of the asset and link of an edge that begin there or before.
+fn near<'a>(held: &'a [HeldStretch], edge: &Edge) -> &'a [HeldStretch]
+    requires { IsSortedBy starts_before held.now }
+    ensures { AreNear edge.now held.now result.now }
+{
+    let start = count_ahead(held, edge);
+    let end = count_begun(held, edge);
+    if start < end {
+        &held[start..end]
+    } else {
+        &held[..0]
+    }
+}
+
+/// The same of stretches in order. It looks only at those of the asset and link of the edge.
+fn side_alone(left: &[HeldStretch], right: &[HeldStretch], edge: &Edge) -> Option<Side>
+    requires left { IsSortedBy starts_before left.now }
+    requires right { IsSortedBy starts_before right.now }
+    ensures { result ≡ side_alone left.now right.now edge.now }
+{
+    let near_left = near(left, edge);
+    let near_right = near(right, edge);
+    side_of_near(near_left, near_right, edge)
 }
 
 fn is_same_side(side: Side, other: Side) -> bool
@@ -127,6 +197,8 @@ fn go_on(
     low: &Edge,
     high: &Edge,
 ) -> Result<(), AllocError>
+    requires left { IsSortedBy starts_before left.now }
+    requires right { IsSortedBy starts_before right.now }
     ensures { OnOk result (rows.new.items
         ≡ rows_at left.now right.now low.now high.now rows.old.items) }
 {
@@ -155,7 +227,9 @@ fn rows_over(
     right: &[HeldStretch],
     edges: &[Edge],
 ) -> Result<Vec<HeldStretch>, AllocError>
-    requires { AreGathered left.now right.now first_edge edges.now [] }
+    requires left { IsSortedBy starts_before left.now }
+    requires right { IsSortedBy starts_before right.now }
+    requires gathered { AreGathered left.now right.now first_edge edges.now [] }
     ensures { IfOk result (λ rows. AreAlone left.now right.now rows.items) }
 {
     let mut rows = Vec::new(alloc);
@@ -233,6 +307,47 @@ fn edges_in_order(
     Ok(edges)
 }
 
+/// How two stretches lie in the order, as a sort asks it.
+fn compare_starts(held: &HeldStretch, other: &HeldStretch) -> Ordering
+    ensures { is_lt result ≡ starts_before held.now other.now }
+{
+    let key = start_key_of(held);
+    let other = start_key_of(other);
+    key.as_slice().cmp(other.as_slice())
+}
+
+/// Sorts stretches by asset, link and start. It takes no memory.
+fn sort_by_start(held: &mut Vec<HeldStretch>)
+    ensures same { IsPermutation held.old.items held.new.items }
+    ensures order { IsSortedBy starts_before held.new.items }
+{
+    held.sort_unstable_by(|stretch, other| compare_starts(stretch, other));
+}
+
+/// A copy of stretches, by asset, link and start.
+fn by_start(alloc: Global, held: &[HeldStretch]) -> Result<Vec<HeldStretch>, AllocError>
+    ensures same { IfOk result (λ copy. IsPermutation held.now copy.items) }
+    ensures order { IfOk result (λ copy. IsSortedBy starts_before copy.items) }
+{
+    let mut copy = Vec::from_slice(alloc, held)?;
+    sort_by_start(&mut copy);
+    Ok(copy)
+}
+
+/// What left stretches in order hold and right ones do not.
+fn sorted_alone(
+    alloc: Global,
+    left: &[HeldStretch],
+    right: &[HeldStretch],
+) -> Result<Vec<HeldStretch>, AllocError>
+    requires left { IsSortedBy starts_before left.now }
+    requires right { IsSortedBy starts_before right.now }
+    ensures { IfOk result (λ rows. AreAlone left.now right.now rows.items) }
+{
+    let edges = edges_in_order(alloc, left, right)?;
+    rows_over(alloc, left, right, &edges)
+}
+
 /// What left stretches hold and right ones do not, as its longest stretches, by asset, link and start.
 pub(crate) fn held_alone(
     alloc: Global,
@@ -241,6 +356,7 @@ pub(crate) fn held_alone(
 ) -> Result<Vec<HeldStretch>, AllocError>
     ensures { IfOk result (λ rows. AreAlone left.now right.now rows.items) }
 {
-    let edges = edges_in_order(alloc, left, right)?;
-    rows_over(alloc, left, right, &edges)
+    let sorted_left = by_start(alloc, left)?;
+    let sorted_right = by_start(alloc, right)?;
+    sorted_alone(alloc, &sorted_left, &sorted_right)
 }
