@@ -2,7 +2,7 @@
 //! disks in memory, which are closed then; and over these files again. Each word names a call and the file that it
 //! reads, as `edits:first.csv`, or a position to translate and back, as `trip:int:1/3:abs` on route A1. What each writes
 //! is printed, and then how many edits there are. `strip:A1:L:SPEED` prints a strip, and `asks:A1:SPEED:10` what the single
-//! questions of a desk find; `meets:`, `covers:`, `link:` and `measure:` ask routes. What was made in memory is copied, its
+//! questions of a desk find; `differs:edits:first.csv` what two inventories differ in; `meets:`, `covers:`, `link:` and `measure:` ask routes. What was made in memory is copied, its
 //! totals are counted over its lists, and all is done over the copy too; then `lost:` calls, over a keeper of it whose first
 //! commit fails.
 //!
@@ -15,6 +15,7 @@
 //! fails, and `acts:` what commands are answered by each call of a desk that does them.
 #![tactic(auto)]
 
+mod differences;
 mod door;
 mod ends;
 mod failure;
@@ -26,6 +27,7 @@ mod services;
 mod steps;
 mod words;
 
+use differences::show_differences;
 use ends::run_ends;
 use failure::{run_failing, run_lost};
 use ground::{show_covers, show_link, show_located, show_meets};
@@ -68,6 +70,7 @@ fn ask<K: Keeper>(rt: &HostRuntime, desk: &Desk<K>, word: &str) -> Option<()> {
         "covers" => show_covers(rt, desk, rest),
         "link" => show_link(rt, desk, rest),
         "measure" => show_located(rt, desk, rest),
+        "differs" => show_differences(rt, desk, rest),
         _ => Some(()),
     }
 }
