@@ -19,6 +19,8 @@ declare -gA _roadlrs_words=(
     [page]="folder"
     [help]="topic"
     [check]="db sheet"
+    [diff]="db db none+"
+    [draft]="drafted db none+"
     [tidy]="sheet"
     [list]="db listed"
     [rows]="db"
@@ -37,11 +39,13 @@ declare -g _roadlrs_verbs="link class route ref unref enter retire supersede spl
 
 # the options of each command besides --help and those; one that wants a value ends in =
 declare -gA _roadlrs_options=(
-    [edit]="--sums --resume --all --whole"
-    [survey]="--sums --resume --all --whole"
+    [edit]="--sums --resume --all --whole --ask"
+    [survey]="--sums --resume --all --whole --ask"
     [serve]="--sums --log --end-on-fault --most-reply= --page"
     [diagram]="--from= --to="
-    [check]="--survey"
+    [check]="--survey --diff"
+    [diff]="--since="
+    [draft]="--number= --key="
     [tidy]="--survey"
     [lengths]="--route= --by= --text --columns="
     [list]="--route= --exact --text --columns="
@@ -78,6 +82,7 @@ _roadlrs_word() {
             _roadlrs_reply -W 'abs int rel: link' -- "$cur" ;;
         side) _roadlrs_reply -W 'L R' -- "$cur" ;;
         listed) _roadlrs_reply -W 'routes links classes refs marks pieces' -- "$cur" ;;
+        drafted) _roadlrs_reply -W 'split bypass retire replace move merge undo' -- "$cur" ;;
         place) _roadlrs_reply -W 'link' -- "$cur" ;;
         command) _roadlrs_reply -W "${!_roadlrs_words[*]}" -- "$cur" ;;
         topic) _roadlrs_reply -W "${!_roadlrs_words[*]} $_roadlrs_verbs" -- "$cur" ;;

@@ -1,10 +1,11 @@
-// Sheets: looked at, then sent, in parts where they are long, and the lines of their replies.
+// Sheets: looked at and tried, then sent, in parts where they are long, and the lines of their replies.
 
 import { $, attempt, leaving, make, offer, rowOf, say, tableOf } from "./parts.js";
 import { send } from "./requests.js";
 import { GO_ON, STATUSES, reason, sentence } from "./words.js";
-import { counted } from "./numbers.js";
+import { counted, metres } from "./numbers.js";
 
+const MOST_ADVICE = 20, MOST_NAMES = 10;
 const MOST_LINES = 500, MOST_BYTES = 1000000, FIRST_RECORDS = 6, MOST_SHOWN = 2000;
 const PATHS = {
   "key,verb,a,b,c,d,e,f,g,h,i": ["v1/edits", "an edit sheet"],
@@ -54,10 +55,59 @@ function kindOf(bytes, name) {
   throw new Error(`${name} is no edit sheet and no survey: its first line is not the header of either. Nothing was sent.`);
 }
 
+// ---- tried
+// What a sheet would be answered and what it would change; undefined where the program does not tell it.
+async function trialOf(path, body) {
+  const settings = { method: "POST", headers: { "Content-Type": "text/csv" }, body };
+  const { status, text } = await send(`${path}/check`, settings).catch(() => ({}));
+  return status === 200 || status === 422 ? JSON.parse(text) : undefined;
+}
+
+function named(word, names) {
+  if (!names.length) return [];
+  const more = names.length > MOST_NAMES ? ` and ${names.length - MOST_NAMES} more` : "";
+  return [`${word} ${names.slice(0, MOST_NAMES).join(", ")}${more}`];
+}
+
+// The lines of a difference in a sentence: how much assets give up and get, and what else is another.
+function changesOf(lines) {
+  const fields = lines.map(line => line.split(",")), those = (sign, kind) => fields.filter(line => line[0] === sign && line[1] === kind);
+  const names = (sign, kind) => [...new Set(those(sign, kind).map(line => line[2]))], both = kind => [...new Set([...names("-", kind), ...names("+", kind)])];
+  const lengthOf = line => (line[8] - line[7]) * (line[9] === "B" ? 2 : 1);
+  const moved = (sign, word, way) => {
+    const count = names(sign, "holds").length, sum = those(sign, "holds").reduce((length, line) => length + lengthOf(line), 0);
+    return count ? [`${word} ${metres(sum)} m of sides ${way} ${counted(count, "asset")}`] : [];
+  };
+  return [
+    ...moved("-", "takes", "from"), ...moved("+", "gives", "to"), ...named("enters asset", names("+", "asset")),
+    ...named("removes referent", names("-", "ref")), ...named("sets referent", names("+", "ref")), ...named("changes route", both("route")),
+    ...named("adds link", names("+", "link")), ...named("adds class", names("+", "class")),
+  ].join("; ");
+}
+
+function shownTrial(trial) {
+  const { fault, replies, advice, difference } = trial, changes = changesOf(difference);
+  const count = word => `${replies.filter(line => line.split(",")[1] === word).length} ${word}`, counts = ["done", "again", "refused"].map(count).join(", ");
+  const shown = [make("p", `It would be: ${counts}${fault ? `, and then ${sentence(fault)}` : ""}.`, { className: "trial" })];
+  if (advice.length) {
+    const list = make("ul");
+    list.append(...advice.slice(0, MOST_ADVICE).map(line => make("li", line)));
+    shown.push(list);
+  }
+  shown.push(make("p", changes ? `It ${changes}.` : "It changes nothing of the network or its assets.", { className: "changes" }));
+  if (difference.length) {
+    const rest = difference.length > MOST_LINES ? `\n${difference.length - MOST_LINES} lines more are not shown here: check --diff prints them.` : "", details = make("details");
+    details.append(make("summary", `What changes, in ${counted(difference.length, "line")}`), make("pre", difference.slice(0, MOST_LINES).join("\n") + rest, { tabIndex: 0 }));
+    shown.push(details);
+  }
+  return shown;
+}
+
 // ---- looked at
 let ready = [], stopped;
 
 export async function lookAt(files) {
+  const shown = [];
   ready = [];
   $("preview").hidden = true;
   $("looked").replaceChildren();
@@ -66,8 +116,11 @@ export async function lookAt(files) {
     const bytes = new Uint8Array(await file.arrayBuffer()), [path, kind] = kindOf(bytes, file.name), { count, first } = recordsIn(bytes);
     const bodies = bodiesOf(bytes), parts = bodies.length > 1 ? `, in ${bodies.length} parts` : "";
     ready.push({ name: file.name, path, bodies, at: 0, resumes: false });
-    $("looked").append(make("p", `${file.name}: ${kind} of ${counted(count, "record")}, ${bytes.length} bytes${parts}. It begins:`), make("pre", first, { tabIndex: 0 }));
+    shown.push(make("p", `${file.name}: ${kind} of ${counted(count, "record")}, ${bytes.length} bytes${parts}. It begins:`), make("pre", first, { tabIndex: 0 }));
+    const trial = bodies.length > 1 ? undefined : await trialOf(path, bodies[0]);
+    if (trial) shown.push(...shownTrial(trial));
   }
+  $("looked").replaceChildren(...shown);
   $("preview").hidden = !ready.length;
   $("send").focus();
 }

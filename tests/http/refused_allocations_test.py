@@ -9,7 +9,7 @@ import re
 import subprocess
 
 from program import BUILT, TOP, lines, sheet_of
-from refusing import RUNS, Refusal, allocations_of_an_opening, fault_of, greatest, with_each_refused
+from refusing import RUNS, Refusal, allocations_of_an_opening, greatest, with_each_refused
 from serving import answer, free_port, reply, request, sheet_reply, started
 from stores import MORE, make, settle
 
@@ -271,7 +271,9 @@ def test_a_check_of_a_file_bears_a_refused_growth(tmp_path):
         said = ended(refusal)
         found[said.stdout] += 1
         assert replied.startswith(said.stdout), (refusal.number, said)
-        assert said.stdout == replied if said.status == 0 else fault_of(said) == "Memory", (refusal.number, said)
+        # what would change is told before the program ends
+        last = said.stderr.splitlines()[-1:]
+        assert said.stdout == replied if said.status == 0 else (said.status, last) == (3, [b"roadlrs: fault Memory"]), (refusal.number, said)
 
     with_each_refused("ALLOCATION", test, greatest(is_reached) - LAST)
     assert found[b""] > 100, found

@@ -45,7 +45,7 @@ def table(name):
 def test_the_page_describes_each_command_with_its_words():
     plain = re.sub(r"\\f[BIR]", "", PAGE).replace("\\-", "-")
     synopsis = plain.partition(".SH SYNOPSIS")[2].partition(".SH DESCRIPTION")[0]
-    described = re.findall(r'^\.BI (\w+) " (?:DB|DIR|FILE)', plain.partition(".SH COMMANDS")[2].partition(".SH OPTIONS")[0], re.M)
+    described = re.findall(r'^\.BI (\w+) " (?:DB|DIR|FILE|WHAT)', plain.partition(".SH COMMANDS")[2].partition(".SH OPTIONS")[0], re.M)
     assert sorted(described) == sorted(commands())
     for command in commands():
         line = re.search(rf"^roadlrs {command} ((?:.*)(?:\n +.*)?)$", synopsis, re.M)
@@ -95,9 +95,11 @@ def completed(line):
         ("roadlrs list roads.db r", ["routes", "refs"]),
         ("roadlrs at roads.db A1 ", ["abs", "rel", "int"]),
         ("roadlrs rows roads.db --c", ["--class", "--columns"]),
-        ("roadlrs edit roads.db first.csv --", ["--sums", "--resume", "--all", "--whole", *GENERAL, "--help"]),
+        ("roadlrs edit roads.db first.csv --", ["--sums", "--resume", "--all", "--whole", "--ask", *GENERAL, "--help"]),
         ("roadlrs edit :m", [":memory:"]),
         ("roadlrs where roads.db l", ["link"]),
+        ("roadlrs draft re", ["retire", "replace"]),
+        ("roadlrs diff roads.db :m", [":memory:"]),
         ("roadlrs help re", ["ref", "retire", "renumber", "recalibrate", "realign"]),
         ("roadlrs serve roads.db 8080 5 --e", ["--end-on-fault", "--existing", "--explain", "--expect"]),
         ("roadlrs --wait 5 ch", ["check"]),

@@ -19,7 +19,7 @@ for (const name of ["dragover", "drop"])
 
 def sent(page):
     """The requests that sent a sheet."""
-    return [name for name in page.requests() if "/v1/edits" in name or "/v1/surveys" in name]
+    return [name for name in page.requests() if re.search(r"/v1/(edits|surveys)(\?|$)", name)]
 
 
 def test_a_sheet_is_looked_at_sent_and_its_lines_are_shown(page):
@@ -27,7 +27,7 @@ def test_a_sheet_is_looked_at_sent_and_its_lines_are_shown(page):
     page.opens_route("A1")
     sheet = sheet_of("s1,link,1,5000", "q1,class,WIDTH,exclusive", "q2,enter,10,WIDTH,A1,B,abs,0,9000,7,0", "q3,enter,20,SPEED,A1,B,abs,3000,4000,7,0")
     page.looks_at(page.file("roads.csv", sheet))
-    assert browser.text("#looked p") == f"roads.csv: an edit sheet of 4 records, {len(sheet)} bytes. It begins:"
+    assert browser.text("#looked p:first-child") == f"roads.csv: an edit sheet of 4 records, {len(sheet)} bytes. It begins:"
     assert browser.runs("return document.querySelector('#looked pre').textContent") == sheet.decode()
     assert browser.runs("return document.activeElement.id") == "send" and sent(page) == []
     page.pictured("a_look")
@@ -56,6 +56,21 @@ def test_a_sheet_that_is_not_wanted_is_not_sent(page):
     browser.clicks("#forget")
     browser.shows("#sheet-said", "Nothing was sent.")
     assert browser.runs("return document.querySelector('#preview').hidden") and sent(page) == []
+
+
+def test_what_a_sheet_would_change_is_shown_before_it_is_sent(page):
+    browser = page.browser
+    page.opens()
+    page.looks_at(page.file("roads.csv", sheet_of("q1,class,WIDTH,exclusive", "q2,close,NONE", "q3,enter,900,WIDTH,A1,B,abs,1000,2000,7,0", "q4,close,A1")))
+    assert browser.text("#looked .trial") == "It would be: 3 done, 0 again, 1 refused."
+    said = browser.text("#looked .changes")
+    assert "enters asset 900" in said and "adds class WIDTH" in said and "changes route A1" in said and "m of sides from" in said, said
+    assert "q2" in browser.text("#looked li") and "-,route,A1," in browser.runs("return document.querySelector('#looked details pre').textContent")
+    assert sent(page) == []
+    page.pictured("a_trial")
+    browser.clicks("#forget")
+    page.looks_at(page.file("none.csv", HEADER))
+    assert browser.text("#looked .changes") == "It changes nothing of the network or its assets."
 
 
 def test_two_sheets_are_looked_at_and_sent_one_after_the_other(page):

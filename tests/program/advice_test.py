@@ -61,7 +61,7 @@ def test_there_are_cases():
 
 def test_a_sheet_that_would_be_done_has_a_summary(db):
     ended = run("check", str(db), "stdin", given=sheet_of("n1,link,77,5", "b8,link,3,1000"))
-    assert (ended.stdout, ended.status, ended.stderr) == (b"n1,done,10\nb8,again,8\n", 0, b"2 records: 1 would be done, 1 again, 0 refused\n"), ended
+    assert (ended.stdout, ended.status, ended.stderr) == (b"n1,done,10\nb8,again,8\n", 0, b"2 records: 1 would be done, 1 again, 0 refused\nchanges: adds 1 link\n"), ended
 
 
 def test_all_says_what_keeps_a_sheet_from_being_done(db):
@@ -69,5 +69,5 @@ def test_all_says_what_keeps_a_sheet_from_being_done(db):
     sheet = sheet_of("b8,link,3,1000", "n1,link,77,5", "n2,close,A9")
     ended = run("edit", str(db), "stdin", "--all", "--resume", given=sheet)
     advice = b"line 4, key n2: column C (a, the route): no route has this name: mend it, or put the record that makes the route before this one\n"
-    said = b"resumes behind record 1, key b8\n" + advice + b"2 records: 1 would be done, 0 again, 1 refused\n"
+    said = b"resumes behind record 1, key b8\n" + advice + b"2 records: 1 would be done, 0 again, 1 refused\nchanges: adds 1 link\n"
     assert (ended.stdout, ended.status, ended.stderr) == (b"", 1, said), ended

@@ -93,7 +93,7 @@ def test_all_or_nothing(top):
     make(db)
     before = rows_of(db)
     ended = run("edit", db, "stdin", "--all", given=sheet_of("n1,link,77,5", "n2,close,B9", "n3,link,78,5"))
-    assert (ended.stdout, ended.status) == (b"", 1) and ended.stderr.endswith(b"3 records: 2 would be done, 0 again, 1 refused\n"), ended
+    assert (ended.stdout, ended.status) == (b"", 1) and ended.stderr.endswith(b"3 records: 2 would be done, 0 again, 1 refused\nchanges: adds 2 links\n"), ended
     assert rows_of(db) == before
     ends(run("edit", db, "stdin", "--all", given=sheet_of("n1,link,77,5", "n3,link,78,5")), b"n1,done,8\nn3,done,9\n", 0)
     ends(run("edit", db, "stdin", "--all", given=sheet_of("n1,link,77,5", "n3,link,78,5")), b"n1,again,8\nn3,again,9\n", 0)

@@ -130,7 +130,7 @@ def test_a_sheet_that_is_gone_on_with_shows_the_pace_of_what_is_left(top, sheet)
 def test_a_check_shows_how_far_it_is(long):
     ended, shown = run_slowly(["stderr"], "check", ":memory:", long, is_enough=has_shown(rb"tried " + COUNT + rb" lines", WHOLE_PACE))
     ends(ended, LONG_REPLIES, 0)
-    said = rb"60000 records: 60000 would be done, 0 again, 0 refused\r\n"
+    said = rb"60000 records: 60000 would be done, 0 again, 0 refused\r\nchanges: adds 60000 links\r\n"
     assert re.fullmatch(rb"(?:" + line(rb"tried " + COUNT + rb" lines") + rb")+" + TAKEN_AWAY + said, shown), shown[-500:]
 
 

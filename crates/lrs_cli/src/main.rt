@@ -6,5 +6,10 @@ use lrs_cli_jobs::{SystemSheets, run};
 use std::process::ExitCode;
 
 fn main(rt: HostRuntime) -> ExitCode {
-    run(&rt, SystemFiles::new(), &SystemSheets::new(&rt))
+    run(
+        &rt,
+        SystemFiles::new(),
+        SystemFiles::new(),
+        &SystemSheets::new(&rt),
+    )
 }

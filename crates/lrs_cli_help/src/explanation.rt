@@ -5,8 +5,8 @@ use crate::flaw::{tell_flaw, tell_last_line, tell_tidying};
 use crate::holder::Holder;
 use crate::inspection::{Found, inspect};
 use crate::job_texts::{
-    does_records, folder_of, has_questions, inventory_of, is_in_memory, makes_inventory, port_of,
-    sheet_kind, sheet_of, tries_sheet, wanted_header,
+    does_records, files_of, folder_of, has_questions, inventory_of, is_in_memory, makes_inventory,
+    port_of, sheet_kind, sheet_of, tries_sheet, wanted_header,
 };
 use crate::lines::{say, say_of};
 use crate::rules::{BrokenRow, broken_row, rules_of};
@@ -189,28 +189,72 @@ fn tell_cure(rt: &HostRuntime, job: &Job<'_>, existing: bool, db: &str, found: &
     }
 }
 
-/// The inventory cannot be opened: what is found at its path. With `existing` none was to be made.
-pub fn explain_open(rt: &HostRuntime, job: &Job<'_>, existing: bool) {
-    let db = inventory_of(job).unwrap_or("");
-    let found = inspect(rt, db);
-    tell_found(rt, job, existing, db, &found);
-    tell_cure(rt, job, existing, db, &found);
+// Whether what is found at a path is an inventory in order.
+fn is_in_order(found: &Found) -> bool {
+    matches!(found, Found::Database(Contents::Inventory))
 }
 
-/// What is kept is unsound: this table is.
+// Says what stands at the path of an inventory that cannot be opened, and what to do about it. It is another one where
+// this one is in order, and there are two: then nothing is said.
+fn tell_unopened(
+    rt: &HostRuntime,
+    job: &Job<'_>,
+    existing: bool,
+    db: &str,
+    has_other: bool,
+) -> bool {
+    let found = inspect(rt, db);
+    if has_other && is_in_order(&found) {
+        return false;
+    }
+    tell_found(rt, job, existing, db, &found);
+    tell_cure(rt, job, existing, db, &found);
+    true
+}
+
+/// The inventory cannot be opened, or one of two: what is found at its path. With `existing` none was to be made.
+pub fn explain_open(rt: &HostRuntime, job: &Job<'_>, existing: bool) {
+    let (db, other) = files_of(job);
+    if !tell_unopened(rt, job, existing, db.unwrap_or(""), other.is_some()) {
+        let _ = tell_unopened(rt, job, existing, other.unwrap_or(""), false);
+    }
+}
+
+// Says which row of a table is unsound, where that is seen.
+fn tell_broken_row(rt: &HostRuntime, db: &str, table: &str) -> bool {
+    let Some(broken) = broken_row(rt, db, table) else {
+        return false;
+    };
+    let BrokenRow { row, flaw } = broken;
+    let _ = eprintln!(rt; "explain: {db}: Unsound:{table}: the row {row}: {flaw}");
+    true
+}
+
+// The same in the one or the other of two inventories.
+fn tell_broken_rows(rt: &HostRuntime, db: &str, other: Option<&str>, table: &str) -> bool {
+    if tell_broken_row(rt, db, table) {
+        return true;
+    }
+    match other {
+        Some(other) => tell_broken_row(rt, other, table),
+        None => false,
+    }
+}
+
+/// What is kept is unsound, in the inventory or in one of two: this table is.
 pub fn explain_unsound(rt: &HostRuntime, job: &Job<'_>, table: &str) {
-    let db = inventory_of(job).unwrap_or("");
-    match broken_row(rt, db, table) {
-        Some(broken) => {
-            let BrokenRow { row, flaw } = broken;
-            let _ = eprintln!(rt; "explain: {db}: Unsound:{table}: the row {row}: {flaw}");
-        }
-        None => {
-            let rules = rules_of(table);
-            let _ = eprintln!(rt;
-                "explain: {db}: Unsound:{table}: a rule of its rows is broken: {rules}"
-            );
-        }
+    let (db, other) = files_of(job);
+    let db = db.unwrap_or("");
+    if !tell_broken_rows(rt, db, other, table) {
+        let rules = rules_of(table);
+        let which = if other.is_some() {
+            ", or the other"
+        } else {
+            ""
+        };
+        let _ = eprintln!(rt;
+            "explain: {db}{which}: Unsound:{table}: a rule of its rows is broken: {rules}"
+        );
     }
     say(
         rt,
@@ -391,7 +435,7 @@ pub fn explain_header(rt: &HostRuntime, job: &Job<'_>) {
 fn state_before_record(job: &Job<'_>) -> &'static str {
     if has_questions(job) {
         "the questions before it are answered; mend the sheet and ask again"
-    } else if tries_sheet(job) {
+    } else if tries_sheet(job) || !does_records(job) {
         "nothing was done; mend the sheet and give it again"
     } else if is_in_memory(job) {
         "the records before it were done in memory alone; mend the sheet and give it again"

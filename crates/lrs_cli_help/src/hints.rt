@@ -53,6 +53,11 @@ fn wanted(word: BadWord, method: Option<&str>) -> &'static str {
         BadWord::Max => "no number of connections; a whole number from 0 to 1000000",
         BadWord::MostReply =>
             "no length of a reply; a whole number of bytes from 1 to 1000000000000",
+        BadWord::Compared => {
+            "the last of words that are no two inventories; diff old.db new.db, diff roads.db :log log.csv, diff roads.db --since 40"
+        }
+        BadWord::Draft => "no word of a draft",
+        BadWord::AskOfStdin => "where yes is read from; name a file that has the sheet",
     }
 }
 

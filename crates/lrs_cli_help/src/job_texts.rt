@@ -1,6 +1,6 @@
 //! The words of a job that readers of words look at.
 
-use lrs_cli_words::{BadWord, Job};
+use lrs_cli_words::{BadWord, Compared, Job, Source, compared_of};
 use lrs_events::ClassName;
 use lrs_sheet_records::Sheet;
 
@@ -106,6 +106,14 @@ fn columns_in<'a>(job: &Job<'a>) -> Option<&'a str> {
     }
 }
 
+// The last of these words.
+fn last_of<'a>(first: &'a str, others: &[&'a str]) -> &'a str {
+    match others.last() {
+        Some(word) => *word,
+        None => first,
+    }
+}
+
 // Words that only one kind of job has.
 fn other_in<'a>(job: &Job<'a>, word: BadWord) -> Option<&'a str> {
     match (job, word) {
@@ -117,7 +125,9 @@ fn other_in<'a>(job: &Job<'a>, word: BadWord) -> Option<&'a str> {
         }
         (Job::Rows { .. }, BadWord::TwoForms) => Some("--on-links"),
         (Job::Gone { edit, .. }, BadWord::Edit) => *edit,
-        (Job::Gone { since, .. }, BadWord::Since) => *since,
+        (Job::Gone { since, .. } | Job::Diff { since, .. }, BadWord::Since) => *since,
+        (Job::Diff { db, others, .. }, BadWord::Compared) => Some(last_of(db, others.as_slice())),
+        (Job::Edit { sheet, .. } | Job::Survey { sheet, .. }, BadWord::AskOfStdin) => Some(sheet),
         (Job::Gone { until, .. } | Job::Log { until, .. }, BadWord::Until) => *until,
         (Job::Log { until, .. }, BadWord::UntilBesideKey | BadWord::UntilBesideSum) => *until,
         (Job::Log { from, .. }, BadWord::Number | BadWord::FromBesideKey) => *from,
@@ -159,7 +169,10 @@ pub(crate) fn given<'a>(job: &Job<'a>, word: BadWord) -> Option<&'a str> {
         | BadWord::UntilBesideSum
         | BadWord::Port
         | BadWord::Max
-        | BadWord::MostReply => other_in(job, word),
+        | BadWord::MostReply
+        | BadWord::Compared
+        | BadWord::Draft
+        | BadWord::AskOfStdin => other_in(job, word),
     }
 }
 
@@ -168,7 +181,34 @@ pub(crate) fn method_given<'a>(job: &Job<'a>) -> Option<&'a str> {
     Some(position_in(job)?.0)
 }
 
-/// The inventory of a job: none for the page, and to tidy a sheet.
+// The two that a job compares, if it is a difference of two.
+fn sources_in<'a>(job: &Job<'a>) -> Option<(Source<'a>, Source<'a>)> {
+    let Job::Diff { db, others, since } = job else {
+        return None;
+    };
+    match compared_of(db, others.as_slice(), *since) {
+        Ok(Compared::Inventories { before, after }) => Some((before, after)),
+        _ => None,
+    }
+}
+
+// The file of an inventory, if it is in one.
+fn file_in<'a>(source: Source<'a>) -> Option<&'a str> {
+    match source {
+        Source::Inventory(db) if db != ":memory:" => Some(db),
+        _ => None,
+    }
+}
+
+// The file of a log, if an inventory is made by one.
+fn log_in<'a>(source: Source<'a>) -> Option<&'a str> {
+    match source {
+        Source::Log(file) => Some(file),
+        Source::Inventory(_) => None,
+    }
+}
+
+/// The inventory of a job, of two the first: none for the page, and to tidy a sheet.
 pub(crate) fn inventory_of<'a>(job: &Job<'a>) -> Option<&'a str> {
     match job {
         Job::Edit { db, .. }
@@ -190,13 +230,38 @@ pub(crate) fn inventory_of<'a>(job: &Job<'a>) -> Option<&'a str> {
         | Job::Gone { db, .. }
         | Job::History { db, .. }
         | Job::Log { db, .. }
+        | Job::Draft { db, .. }
         | Job::Audit { db }
         | Job::Serve { db, .. } => Some(db),
+        Job::Diff { db, .. } => match sources_in(job) {
+            Some((Source::Log(file), _)) => Some(file),
+            _ => Some(db),
+        },
         Job::Page { .. } | Job::Tidy { .. } => None,
     }
 }
 
-/// The sheet of a job, if it has one.
+/// The files that a job opens: that of its inventory; or of two those that are not in memory or made by a log.
+pub(crate) fn files_of<'a>(job: &Job<'a>) -> (Option<&'a str>, Option<&'a str>) {
+    match sources_in(job) {
+        Some((before, after)) => match (file_in(before), file_in(after)) {
+            (None, other) => (other, None),
+            both => both,
+        },
+        None => (inventory_of(job), None),
+    }
+}
+
+// The log of a job that compares what a log makes, of two the first.
+fn log_of<'a>(job: &Job<'a>) -> Option<&'a str> {
+    let (before, after) = sources_in(job)?;
+    match log_in(before) {
+        Some(file) => Some(file),
+        None => log_in(after),
+    }
+}
+
+/// The sheet of a job, if it has one. A log is one.
 pub(crate) fn sheet_of<'a>(job: &Job<'a>) -> Option<&'a str> {
     match job {
         Job::Edit { sheet, .. } | Job::Survey { sheet, .. } | Job::Check { sheet, .. } => {
@@ -204,6 +269,7 @@ pub(crate) fn sheet_of<'a>(job: &Job<'a>) -> Option<&'a str> {
         }
         Job::Ask { questions, .. } => Some(questions),
         Job::Tidy { file, .. } => Some(file),
+        Job::Diff { .. } => log_of(job),
         _ => None,
     }
 }
@@ -217,7 +283,7 @@ pub(crate) fn has_questions(job: &Job<'_>) -> bool {
 pub(crate) fn sheet_kind(job: &Job<'_>) -> Option<Sheet> {
     match job {
         Job::Survey { .. } | Job::Check { survey: true, .. } => Some(Sheet::Survey),
-        Job::Edit { .. } | Job::Check { .. } => Some(Sheet::Edits),
+        Job::Edit { .. } | Job::Check { .. } | Job::Diff { .. } => Some(Sheet::Edits),
         _ => None,
     }
 }
@@ -233,10 +299,11 @@ pub(crate) fn wanted_header(job: &Job<'_>) -> &'static str {
 
 /// Whether a job tries its sheet before it does anything: so standard error says already where it cannot be read.
 pub(crate) fn tries_sheet(job: &Job<'_>) -> bool {
-    matches!(
-        job,
-        Job::Check { .. } | Job::Edit { all: true, .. } | Job::Survey { all: true, .. }
-    )
+    match job {
+        Job::Check { .. } => true,
+        Job::Edit { all, ask, .. } | Job::Survey { all, ask, .. } => *all || *ask,
+        _ => false,
+    }
 }
 
 /// Whether a job makes its inventory where there is none.

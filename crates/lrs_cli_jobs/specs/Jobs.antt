@@ -9,6 +9,8 @@ use Rattle.lrs_desk.specs.DeskView.{DeskView}
 use Rattle.lrs_desk.specs.declared.desk.OpenFault.{OpenFault}
 use Rattle.lrs_sheet_records.specs.declared.sheet.Sheet.{Sheet}
 use Rattle.lrs_sheet_log.specs.Sums.{identity_of}
+use Rattle.lrs_cli_words.specs.declared.comparison.Source.{Source}
+use Rattle.lrs_cli_words.specs.declared.comparison.Source.TheVariants as source
 use Rattle.lrs_cli_words.specs.declared.job.Job.{Job}
 use Rattle.lrs_cli_words.specs.declared.question.QuestionFault.{QuestionFault}
 use Rattle.lrs_cli_words.specs.declared.question.QuestionFault.TheVariants as unread
@@ -16,7 +18,9 @@ use Rattle.lrs_cli_tasks.specs.Questions.{HasAnswered}
 use Rattle.lrs_cli_tasks.specs.Sums.{EndsSum}
 use Rattle.lrs_cli_sheets.specs.Sheets.{IsUnwritten}
 use Rattle.lrs_cli_sheets.specs.QuestionSheets.{EndsQuestions}
-use Rattle.lrs_cli_sheets.specs.Trials.{EndsCheck, EndsRecords, IsAfterCommands}
+use Rattle.lrs_cli_sheets.specs.Trials.{EndsCheck, EndsConfirmed, IsAfterCommands}
+use Rattle.lrs_cli_sheets.specs.Differences.{EndsDifference, EndsSince, HasNoInventory, IsMadeByLog}
+use Rattle.lrs_cli_sheets.specs.Drafts.{EndsDraft}
 use Rattle.lrs_cli_sheets.specs.Audits.{EndsAudit}
 use Rattle.lrs_cli_sheets.specs.Tidyings.{EndsTidy}
 use Rattle.lrs_cli_tasks.specs.Faults.{fault_of_open}
@@ -58,14 +62,18 @@ IsExpected None found = ⊤
 IsExpected (Some identity) found = found ≡ Some identity
 
 module _ {K : Type 0} (holds : K → Result Image Table → Type 0) (text_of : Text → Option Text) where
-  -- a sheet was done at the desk, or as a whole or not at all; or a question, a sheet of them, a sum, a check or an audit was answered, which leaves the desk as it was; or it was served
+  -- a sheet was done at the desk, or as a whole or not at all; or a question, a sheet of them, a sum, a check, a difference, a draft or an audit was answered, which leaves the desk as it was; or it was served
   abbrev pub HasWorked : Work → DeskView K → DeskView K → Option Text → Printed → Type 0
-  HasWorked (work.Sheet kind from resumes all whole) before after old (Ok done) =
-      EndsRecords holds kind resumes all whole (text_of from.now) before after old done.0 done.1 × IsAfterCommands before.limits (state_of before.image) (state_of after.image)
-  HasWorked (work.Sheet kind from resumes all whole) before after old (Err fault) =
+  HasWorked (work.Sheet kind from resumes all whole asks) before after old (Ok done) =
+      EndsConfirmed holds (text_of (codes "stdin")) asks kind resumes all whole (text_of from.now) before after old done.0 done.1 × IsAfterCommands before.limits (state_of before.image) (state_of after.image)
+  HasWorked (work.Sheet kind from resumes all whole asks) before after old (Err fault) =
       IsUnwritten holds before after fault × IsAfterCommands before.limits (state_of before.image) (state_of after.image)
-  HasWorked (work.Check kind from) before after old (Ok done) = (after ≡ before) × EndsCheck kind (text_of from.now) before.image old done.0 done.1
-  HasWorked (work.Check kind from) before after old (Err fault) = (after ≡ before) × (fault ≡ Write)
+  HasWorked (work.Check kind from differs) before after old (Ok done) = (after ≡ before) × EndsCheck kind differs (text_of from.now) before.image old done.0 done.1
+  HasWorked (work.Check kind from differs) before after old (Err fault) = (after ≡ before) × (fault ≡ Write)
+  HasWorked (work.Since edit) before after old (Ok done) = (after ≡ before) × EndsSince edit before.image old done.0 done.1
+  HasWorked (work.Since edit) before after old (Err fault) = (after ≡ before) × (fault ≡ Write)
+  HasWorked (work.Draft words) before after old (Ok done) = (after ≡ before) × EndsDraft before.image words old done.0 done.1
+  HasWorked (work.Draft words) before after old (Err fault) = (after ≡ before) × (fault ≡ Write)
   HasWorked work.Audit before after old (Ok done) = (after ≡ before) × EndsAudit before.image old done.0 done.1
   HasWorked work.Audit before after old (Err fault) = (after ≡ before) × (fault ≡ Write)
   HasWorked (work.Sum up_to) before after old (Ok done) = (after ≡ before) × EndsSum before.image up_to old done.0 done.1
@@ -110,17 +118,19 @@ FindsKept holds desk finds = (c : Result Image Table) → finds c → holds desk
 abbrev pub IsNotOpened : Option Text → Printed → Type 0
 IsNotOpened old given = (why : OpenFault) × EndsSilent old given (Stopped (fault_of_open why))
 
--- a question, or a sheet of them, or the sum of the log, or a sheet that is only tried
+-- a question, or a sheet of them, or the sum of the log, or a sheet that is only tried, a difference or a draft
 abbrev pub Looks : Work → Type 0
 Looks (work.Sum up_to) = ⊤
 Looks (work.Question question form) = ⊤
 Looks (work.Questions from) = ⊤
-Looks (work.Check kind from) = ⊤
+Looks (work.Check kind from differs) = ⊤
+Looks (work.Since edit) = ⊤
+Looks (work.Draft words) = ⊤
 Looks w = ⊥
 
 -- a sheet that is only tried
 abbrev pub Tries : Work → Type 0
-Tries (work.Check kind from) = ⊤
+Tries (work.Check kind from differs) = ⊤
 Tries w = ⊥
 
 -- the page was written, or there was no memory for it, or it was not written
@@ -147,6 +157,25 @@ module _ (text_of : Text → Option Text) (expected : Option Text) where
   EndsWithLog file has_opened finds w old given =
       IsNotOpened old given ⊎ ((it : HasWorkedFrom file text_of expected (ActsOnFound file has_opened) w old given) × FindsKept file it.after finds)
 
+-- a desk acts on this image, which was found
+abbrev pub IsActedOn : {K : Type 0} → (K → Result Image Table → Type 0) → (Result Image Table → Type 0) → Image → Type 0
+IsActedOn {K} holds was_found i = (desk : DeskView K) × ActsOnFound holds was_found desk × (i ≡ desk.image)
+
+module _ {F Q : Type 0} (file : F → Result Image Table → Type 0) (looked : Q → Result Image Table → Type 0) (has_opened has_read : Result Image Table → Type 0) (text_of : Text → Option Text) where
+  -- the inventory of a source: an empty one in memory; or what was found in the file at the path, looked at or opened; or what a log makes
+  abbrev pub IsSourceOf : Source → Image → Type 0
+  IsSourceOf (source.Inventory db) i =
+      ((db.now ≡ codes ":memory:") × (i ≡ nothing)) ⊎ ((db.now ≡ codes ":memory:" → ⊥) × (IsActedOn looked has_read i ⊎ IsActedOn file has_opened i))
+  IsSourceOf (source.Log from) i = IsMadeByLog (text_of from.now) i
+
+-- The two inventories are such, the first is expected, and their difference is told; or one of them is not had, and nothing is written; or not all was written.
+abbrev pub EndsCompared : (Image → Type 0) → (Image → Type 0) → Option Text → Option Text → Printed → Type 0
+EndsCompared IsOne IsOther expected old given =
+    ((before : Image) × (after : Image) × IsOne before × IsOther after × IsExpected expected (identity_at before)
+    × (new : Option Text) × (ending : Ending) × (given ≡ Ok (new, ending)) × EndsDifference before after old new ending)
+    ⊎ ((ending : Ending) × HasNoInventory ending × EndsSilent old given ending)
+    ⊎ (given ≡ Err Write)
+
 module _ {M F Q : Type 0} (memory : M → Result Image Table → Type 0) (file : F → Result Image Table → Type 0) (looked : Q → Result Image Table → Type 0) (has_opened has_read finds : Result Image Table → Type 0) (text_of : Text → Option Text) (expected : Option Text) where
   -- in a file: work was done on what it holds; or what only looks was answered of what it held, or a sheet was tried in an empty inventory; or nothing was opened
   abbrev pub EndsInFile : Work → Option Text → Printed → Type 0
@@ -155,13 +184,16 @@ module _ {M F Q : Type 0} (memory : M → Result Image Table → Type 0) (file :
       ⊎ (Looks w × HasWorkedFrom looked text_of expected (ActsOnFound looked has_read) w old given)
       ⊎ (Tries w × EndsInMemory text_of expected memory w old given)
 
+module _ {M F Q G P : Type 0} (memory : M → Result Image Table → Type 0) (file : F → Result Image Table → Type 0) (looked : Q → Result Image Table → Type 0) (has_opened has_read finds : Result Image Table → Type 0) (other : G → Result Image Table → Type 0) (seen : P → Result Image Table → Type 0) (other_opened other_read : Result Image Table → Type 0) (text_of : Text → Option Text) (expected : Option Text) where
   -- `:memory:` is an inventory in memory, and every other name that of a file
   abbrev pub EndsTask : Task → Option Text → Printed → Type 0
   EndsTask (task.Page dir) old given = EndsPage old given
   EndsTask (task.Tidy kind from) old given = EndsTidied kind (text_of from.now) old given
+  EndsTask (task.Difference before after) old given =
+      EndsCompared (IsSourceOf file looked has_opened has_read text_of before) (IsSourceOf other seen other_opened other_read text_of after) expected old given
   EndsTask (task.Inventory db w) old given =
       ((db.now ≡ codes ":memory:") × EndsInMemory text_of expected memory w old given)
-      ⊎ ((db.now ≡ codes ":memory:" → ⊥) × EndsInFile w old given)
+      ⊎ ((db.now ≡ codes ":memory:" → ⊥) × EndsInFile memory file looked has_opened has_read finds text_of expected w old given)
 
   -- the task of the job was done, or its words cannot be read
   abbrev pub EndsJob : Job → Option Text → Printed → Type 0

@@ -1,13 +1,15 @@
-//! Desks over inventories in files: for all work, or for questions alone.
+//! Desks over inventories in files: for all work, or for questions alone; and which inventory a desk has.
 
-ghost use Rattle.std.specs.Prelude.{◌≡◌, IfErr, IfOk, IfSome, Ok, Result, false};
+ghost use Rattle.std.specs.Prelude.{◌≡◌, ◌↔◌, IfErr, IfOk, IfSome, IsTrue, Ok, Result, false};
 ghost use Rattle.lrs_measure.specs.Limits.{most_assets, most_edits, most_routes};
 ghost use Rattle.lrs_machine.specs.declared.image.Image.{Image as ImageRows};
 ghost use Rattle.lrs_machine.specs.declared.table.Table.{Table as DeclaredTable};
 ghost use Rattle.lrs_image.specs.KeeperCalls.{HoldsOnly};
+ghost use Rattle.lrs_cli_jobs.specs.Jobs.{IsExpected, identity_at};
 
-use lrs_desk::{Desk, Files, OpenFault};
+use lrs_desk::{Desk, Files, Keeper, OpenFault};
 use lrs_machine::Limits;
+use lrs_sheet_log::identity_of_log;
 use std::rt::HostRuntime;
 
 /// Opens a desk with full limits over the inventory in a file, or over a new one where there is none. The desk acts on
@@ -74,5 +76,22 @@ pub(crate) fn open_desk_to_look<F: Files>(
                 fault => Err(fault),
             }
         }
+    }
+}
+
+/// The identity of a desk's inventory.
+pub(crate) fn identity_at<K: Keeper>(desk: &Desk<K>) -> Option<[u8; 16]>
+    ensures { result ≡ identity_at desk.now.image }
+{
+    identity_of_log(desk.inventory().kept())
+}
+
+/// Whether a desk has the inventory that is expected.
+pub(crate) fn is_expected<K: Keeper>(desk: &Desk<K>, expected: Option<[u8; 16]>) -> bool
+    ensures { IsTrue result ↔ IsExpected expected (identity_at desk.now.image) }
+{
+    match expected {
+        Some(_) => identity_at(desk) == expected,
+        None => true,
     }
 }

@@ -2,48 +2,28 @@
 
 ghost use Rattle.std.specs.Prelude.{◌≡◌, ◌↔◌, false, true, IsTrue, length};
 ghost use Rattle.lrs_desk.specs.DeskView.{DeskView};
-ghost use Rattle.lrs_cli_jobs.specs.Jobs.{EndsInFile, EndsInMemory, EndsJob, EndsPage, EndsTask, EndsTidied, EndsWithLog, FindsKept, HasWorked, HasWorkedAt, IsExpected, Looks, identity_at, printed};
+ghost use Rattle.lrs_cli_jobs.specs.Jobs.{EndsInFile, EndsInMemory, EndsJob, EndsPage, EndsTask, EndsTidied, EndsWithLog, FindsKept, HasWorked, HasWorkedAt, Looks, printed};
 
-use crate::desk::{open_desk, open_desk_to_look};
+use crate::comparison::do_comparison;
+use crate::desk::{identity_at, is_expected};
 use crate::question::do_question;
 use crate::service::do_service;
-use lrs_cli_help::{
-    MadeFile, Options, Patience, Purpose, Site, Turn, make_file, remove_file, site_at, take_turn,
-};
+use crate::target::{Target, cleared, look_at_target, open_target, settled_site, turn_at};
+use lrs_cli_help::{MadeFile, Options, Patience, Purpose, Site, make_file, remove_file};
 use lrs_cli_sheets::{
-    Pace, ProgressDisplay, Sheets, World, do_audit, do_check, do_questions, do_records, do_tidy,
+    Pace, ProgressDisplay, Sheets, World, do_audit, do_check, do_confirmed, do_draft, do_questions,
+    do_since, do_tidy,
 };
 use lrs_cli_tasks::{
     Ending, ProgramFault, Task, Work, answer_sum, do_page, is_in_memory, open_in_memory, task_of,
 };
 use lrs_cli_words::{Job, QuestionFault, new_has_sums};
 use lrs_desk::{Desk, Files, Holder, Keeper, OpenFault, Plain};
-use lrs_sheet_log::identity_of_log;
 use lrs_sheet_records::Sheet;
 use std::alloc::Global;
-use std::fs;
 use std::io::Write;
 use std::net::Net;
 use std::rt::{HostRuntime, Runtime};
-
-// A file of so many bytes takes about a second to open.
-const LONG_BYTES: u64 = 4_000_000;
-
-/// The file of an inventory, and how it is opened.
-#[derive(Clone, Copy)]
-struct Target<'a> {
-    path: &'a str,
-    /// A new file gets sums of its pages.
-    new_has_sums: bool,
-    /// None is made.
-    existing: bool,
-    /// How long it is waited for where another program has it.
-    patience: Patience,
-    /// The file that this run has made for it, and takes away again where nothing is done.
-    made: Option<MadeFile>,
-    /// It has this identity, or nothing is done.
-    expected: Option<[u8; 16]>,
-}
 
 // Does what a job asks for at a desk, whatever keeps the inventory, and writes what is said to it. The replies to a
 // sheet in a file go out at the pace `of_file`.
@@ -65,35 +45,27 @@ fn do_work<R: Runtime<A = Global> + Net, S: Sheets, W: Write + Drop, K: Keeper>(
             resumes,
             all,
             whole,
-        } => do_records(world, desk, kind, resumes, all, whole, from, of_file, to),
-        Work::Check { kind, from } => do_check(world, desk, kind, from, to),
+            asks,
+        } => do_confirmed(
+            world, desk, kind, resumes, all, whole, asks, from, of_file, to,
+        ),
+        Work::Check {
+            kind,
+            from,
+            differs,
+        } => do_check(world, desk, kind, differs, from, to),
         Work::Question { question, form } => {
             do_question(world.rt, world.shown, desk, question, &form, to)
         }
         Work::Questions { from } => do_questions(world, desk, from, to),
         Work::Sum { up_to } => answer_sum(world.rt.alloc(), desk, up_to, to),
+        Work::Since { edit } => do_since(world.rt, world.shown, desk, edit, to),
+        Work::Draft(words) => do_draft(world.rt, desk, words, to),
         Work::Audit => do_audit(world.rt, world.shown, desk, to),
         Work::Service(service) => {
             let tells = world.shown != ProgressDisplay::Nowhere;
             do_service(world.rt, desk, service, tells, to)
         }
-    }
-}
-
-// The identity of a desk's inventory.
-fn identity_at<K: Keeper>(desk: &Desk<K>) -> Option<[u8; 16]>
-    ensures { result ≡ identity_at desk.now.image }
-{
-    identity_of_log(desk.inventory().kept())
-}
-
-// Whether a desk has the inventory that is expected.
-fn is_expected<K: Keeper>(desk: &Desk<K>, expected: Option<[u8; 16]>) -> bool
-    ensures { IsTrue result ↔ IsExpected expected (identity_at desk.now.image) }
-{
-    match expected {
-        Some(_) => identity_at(desk) == expected,
-        None => true,
     }
 }
 
@@ -136,39 +108,6 @@ fn do_in_memory<R: Runtime<A = Global> + Net, S: Sheets, W: Write + Drop>(
         }
         Err(fault) => Ok((to, Ending::Stopped(fault))),
     }
-}
-
-// Says on a terminal that a file is opened, where it is so long that this takes a while.
-fn tell_opening(rt: &HostRuntime, path: &str, shown: ProgressDisplay) -> bool {
-    if shown == ProgressDisplay::Nowhere {
-        return false;
-    }
-    match fs::metadata(rt, path) {
-        Ok(found) if LONG_BYTES <= found.len() => {
-            let megabytes = found.len() / 1_000_000;
-            // for edits, on a quiet machine; for questions a third
-            let seconds = megabytes / 12 + 1;
-            let _ = eprint!(rt; "opening {path}, {megabytes} MB, about {seconds} s");
-            true
-        }
-        _ => false,
-    }
-}
-
-// Waits for a turn at a file.
-fn turn_at(rt: &HostRuntime, target: Target<'_>, purpose: Purpose) -> Turn {
-    take_turn(rt, target.path, purpose, target.patience)
-}
-
-// Ends the turn in which something was opened, takes the line away that said so, and hands on what was opened.
-fn cleared<T>(rt: &HostRuntime, turn: Turn, was_said: bool, opened: T) -> T
-    ensures { result ≡ opened }
-{
-    turn.end();
-    if was_said {
-        let _ = eprint!(rt; "\r\x1b[K");
-    }
-    opened
 }
 
 // Takes the file of a new inventory away again, in which nothing is kept: no edit, and none that may be.
@@ -237,14 +176,7 @@ fn do_with_log<F: Files, S: Sheets, W: Write + Drop>(
     ensures { EndsWithLog (S.text_of world.now.sheets.now) target.entry.expected F.Kept.may_hold F.has_opened
         (F.may_find files.new) work.entry (W.contents to) (printed W.contents result) }
 {
-    let turn = turn_at(world.rt, target, Purpose::Change);
-    let was_said = tell_opening(world.rt, target.path, world.shown);
-    match cleared(
-        world.rt,
-        turn,
-        was_said,
-        open_desk(world.rt, files, target.path, target.new_has_sums),
-    ) {
+    match open_target(world.rt, files, target, world.shown) {
         Ok(desk) => do_and_close(world, files, desk, target, work, to),
         Err(fault) => Ok((to, Ending::Stopped(ProgramFault::from(fault)))),
     }
@@ -268,13 +200,18 @@ fn look<F: Files, S: Sheets, W: Write + Drop>(
     given
 }
 
-// Whether work is a question, a sheet of them, the sum of the log, or a sheet that is only tried.
+// Whether work is a question, a sheet of them, the sum of the log, a sheet that is only tried, a difference or a draft.
 fn looks(work: &Work<'_>) -> bool
     ensures { IsTrue result ↔ Looks work.now }
 {
     matches!(
         work,
-        Work::Sum { .. } | Work::Question { .. } | Work::Questions { .. } | Work::Check { .. }
+        Work::Sum { .. }
+            | Work::Question { .. }
+            | Work::Questions { .. }
+            | Work::Check { .. }
+            | Work::Since { .. }
+            | Work::Draft(_)
     )
 }
 
@@ -297,14 +234,7 @@ fn do_in_file<F: Files, S: Sheets, W: Write + Drop>(
     if !looks(&work) {
         return do_with_log(world, files, target, work, to);
     }
-    let turn = turn_at(world.rt, target, Purpose::Look);
-    let was_said = tell_opening(world.rt, target.path, world.shown);
-    match cleared(
-        world.rt,
-        turn,
-        was_said,
-        open_desk_to_look(world.rt, files, target.path),
-    ) {
+    match look_at_target(world.rt, files, target, world.shown) {
         Ok(Some(desk)) => look::<F, S, W>(world, desk, target.expected, work, to),
         Ok(None) => do_with_log(world, files, target, work, to),
         Err(fault) => Ok((to, Ending::Stopped(ProgramFault::from(fault)))),
@@ -354,16 +284,20 @@ fn tell_making(rt: &HostRuntime, path: &str, shown: ProgressDisplay) {
     }
 }
 
-// Whether work is a sheet that is done as a whole or not at all.
-fn is_all_or_nothing(work: &Work<'_>) -> bool {
-    matches!(work, Work::Sheet { all: true, .. })
+// Whether work is a sheet of which nothing may be done: it is done as a whole or not at all, or only where that is
+// confirmed.
+fn may_do_nothing(work: &Work<'_>) -> bool {
+    matches!(
+        work,
+        Work::Sheet { all: true, .. } | Work::Sheet { asks: true, .. }
+    )
 }
 
-// The file that is made at a path where nothing is, if it may be taken away again: only where nothing is to be done
-// unless all is.
+// The file that is made at a path where nothing is, if it may be taken away again: only where it may be that nothing is
+// done.
 fn made_for(rt: &HostRuntime, path: &str, work: &Work<'_>) -> Option<MadeFile> {
     let made = make_file(rt, path);
-    if is_all_or_nothing(work) { made } else { None }
+    if may_do_nothing(work) { made } else { None }
 }
 
 // Makes an inventory, or goes on with one whose making was cut off, and does work in it. What makes none has none; but a
@@ -395,17 +329,6 @@ fn do_in_new<F: Files, S: Sheets, W: Write + Drop>(
         return do_in_memory(world, target.expected, work, to);
     }
     Ok((to, Ending::Stopped(ProgramFault::Open)))
-}
-
-// What stands at a path. Where it is no inventory, it is looked once more when nobody is about to make one.
-fn settled_site(rt: &HostRuntime, target: Target<'_>) -> Site {
-    match site_at(rt, target.path) {
-        Site::Inventory => Site::Inventory,
-        _ => {
-            turn_at(rt, target, Purpose::Look).end();
-            site_at(rt, target.path)
-        }
-    }
 }
 
 // Does work at a path, by what stands there. Where an inventory has to be there, none is made.
@@ -454,22 +377,27 @@ fn give_tidied<S: Sheets, W: Write + Drop>(
     do_tidy(world, kind, from, to)
 }
 
-// Does a task: writes the page, tidies a sheet, or works in the inventory that it names.
-fn do_task<F: Files, S: Sheets, W: Write + Drop>(
+// Does a task: writes the page, tidies a sheet, compares two inventories, or works in the one that it names.
+fn do_task<F: Files, G: Files, S: Sheets, W: Write + Drop>(
     world: &World<'_, HostRuntime, S>,
     files: &mut F,
+    other: &mut G,
     task: Task<'_>,
     new_has_sums: bool,
     options: Options,
     to: W,
 ) -> Result<(W, Ending), ProgramFault>
     ensures { EndsTask ⟦<Plain as Holder>⟧.may_hold F.Kept.may_hold F.Seen.may_hold
-        F.has_opened F.has_read (F.may_find files.new) (S.text_of world.now.sheets.now)
+        F.has_opened F.has_read (F.may_find files.new)
+        G.Kept.may_hold G.Seen.may_hold G.has_opened G.has_read (S.text_of world.now.sheets.now)
         options.expected task.entry (W.contents to) (printed W.contents result) }
 {
     match task {
         Task::Page { dir } => give_page(world.rt, dir, to),
         Task::Tidy { kind, from } => give_tidied(world, kind, from, to),
+        Task::Difference { before, after } => {
+            do_comparison(world, files, other, before, after, options, to)
+        }
         Task::Inventory { db, work } => {
             if is_in_memory(db) {
                 return do_in_memory(world, options.expected, work, to);
@@ -488,25 +416,28 @@ fn do_task<F: Files, S: Sheets, W: Write + Drop>(
     }
 }
 
-/// Reads the words of a job, and then opens its inventory, if it has one, by the options `existing`, `wait` and `expected`. All answers
-/// are written to `to`, replies to the sheets of a file in groups, and it is given back with how the program ends; the page
-/// goes into its folder. `files` has then the files that were closed.
+/// Reads the words of a job, and then opens its inventory, if it has one, by the options `existing`, `wait` and `expected`;
+/// a second one is opened by `other`. All answers are written to `to`, replies to the sheets of a file in groups, and it is
+/// given back with how the program ends; the page goes into its folder. `files` and `other` have then the files that were
+/// closed.
 ///
 /// # Errors
 /// `Write` where not all was written, and `Memory` where there is none for what is to be written.
-pub fn do_job<F: Files, S: Sheets, W: Write + Drop>(
+pub fn do_job<F: Files, G: Files, S: Sheets, W: Write + Drop>(
     world: &World<'_, HostRuntime, S>,
     files: &mut F,
+    other: &mut G,
     job: &Job<'_>,
     options: Options,
     to: W,
 ) -> Result<(W, Ending), ProgramFault>
     ensures { EndsJob ⟦<Plain as Holder>⟧.may_hold F.Kept.may_hold F.Seen.may_hold
-        F.has_opened F.has_read (F.may_find files.new) (S.text_of world.now.sheets.now)
+        F.has_opened F.has_read (F.may_find files.new)
+        G.Kept.may_hold G.Seen.may_hold G.has_opened G.has_read (S.text_of world.now.sheets.now)
         options.expected job.now (W.contents to) (printed W.contents result) }
 {
     match task_of(world.rt.alloc(), job) {
-        Ok(task) => do_task(world, files, task, new_has_sums(job), options, to),
+        Ok(task) => do_task(world, files, other, task, new_has_sums(job), options, to),
         Err(QuestionFault::Unreadable(word)) => Ok((to, Ending::Unreadable(word))),
         Err(QuestionFault::Memory) => Ok((to, Ending::Stopped(ProgramFault::Memory))),
     }

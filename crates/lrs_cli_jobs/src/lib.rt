@@ -1,6 +1,7 @@
 //! What the program does for its words: a job, in memory or in a file, whatever opens its files.
 #![tactic(auto)]
 
+mod comparison;
 mod desk;
 mod explanation;
 mod jobs;
@@ -8,6 +9,7 @@ mod output;
 mod program;
 mod question;
 mod service;
+mod target;
 #[cfg(test)]
 mod tests;
 

@@ -37,16 +37,17 @@ fn is_explained(
 
 // Does a job, and prints its answers. Says what was given for a word that cannot be read, and explains the fault that
 // stops it.
-fn do_explained<F: Files, S: Sheets>(
+fn do_explained<F: Files, G: Files, S: Sheets>(
     world: &World<'_, HostRuntime, S>,
-    mut files: F,
+    files: &mut F,
+    other: &mut G,
     job: &Job<'_>,
     options: Options,
 ) -> Ending {
     let rt = world.rt;
     let failure = Cell::new(None);
     let output = Output::new(rt, &failure);
-    let ending = match do_job(world, &mut files, job, options, output) {
+    let ending = match do_job(world, files, other, job, options, output) {
         Ok((_, ending)) => ending,
         Err(fault) => Ending::Stopped(fault),
     };
@@ -102,9 +103,10 @@ fn answer_words(rt: &HostRuntime, fault: WordsFault) -> Ending {
 }
 
 // Does the job that the words say; or shows the help on a verb.
-fn do_given<F: Files, S: Sheets>(
+fn do_given<F: Files, G: Files, S: Sheets>(
     world: &World<'_, HostRuntime, S>,
-    files: F,
+    files: &mut F,
+    other: &mut G,
     words: &[&str],
     options: Options,
 ) -> Ending {
@@ -113,7 +115,7 @@ fn do_given<F: Files, S: Sheets>(
         return show_text(rt, text);
     }
     match job_of(rt.alloc(), words) {
-        Ok(job) => do_explained(world, files, &job, options),
+        Ok(job) => do_explained(world, files, other, &job, options),
         Err(fault) => answer_words(rt, fault),
     }
 }
@@ -141,9 +143,10 @@ fn refuse_expected(rt: &HostRuntime, given: Option<&[u8]>) -> Ending {
 
 // Does what words say of which the job's and its options are told apart. What may end the program only borrows the words,
 // here and below, so that there is one place where they are dropped.
-fn do_read<F: Files, S: Sheets>(
+fn do_read<F: Files, G: Files, S: Sheets>(
     world: &World<'_, HostRuntime, S>,
-    files: F,
+    files: &mut F,
+    other: &mut G,
     words: &[&str],
     read: &GivenWords<'_>,
 ) -> Ending {
@@ -154,16 +157,17 @@ fn do_read<F: Files, S: Sheets>(
         return refuse_expected(world.rt, read.expected);
     };
     let options = options_of(words, wait, expected);
-    do_given(world, files, read.words.as_slice(), options)
+    do_given(world, files, other, read.words.as_slice(), options)
 }
 
-fn do_words<F: Files, S: Sheets>(
+fn do_words<F: Files, G: Files, S: Sheets>(
     world: &World<'_, HostRuntime, S>,
-    files: F,
+    files: &mut F,
+    other: &mut G,
     words: &[&str],
 ) -> Ending {
     match read_words(world.rt.alloc(), words) {
-        Ok(read) => do_read(world, files, words, &read),
+        Ok(read) => do_read(world, files, other, words, &read),
         Err(AllocError) => Ending::Stopped(ProgramFault::Memory),
     }
 }
@@ -176,14 +180,15 @@ fn push_words<'a>(words: &mut Vec<&'a str>, given: &'a [String]) -> Result<(), A
     Ok(())
 }
 
-fn do_texts<F: Files, S: Sheets>(
+fn do_texts<F: Files, G: Files, S: Sheets>(
     world: &World<'_, HostRuntime, S>,
-    files: F,
+    files: &mut F,
+    other: &mut G,
     given: &[String],
 ) -> Ending {
     let mut words = Vec::new(world.rt.alloc());
     match push_words(&mut words, given) {
-        Ok(()) => do_words(world, files, words.as_slice()),
+        Ok(()) => do_words(world, files, other, words.as_slice()),
         Err(AllocError) => Ending::Stopped(ProgramFault::Memory),
     }
 }
@@ -206,9 +211,13 @@ fn words_given(rt: &HostRuntime) -> Result<Vec<String>, Ending> {
     }
 }
 
-fn do_started<F: Files, S: Sheets>(world: &World<'_, HostRuntime, S>, files: F) -> Ending {
+fn do_started<F: Files, G: Files, S: Sheets>(
+    world: &World<'_, HostRuntime, S>,
+    files: &mut F,
+    other: &mut G,
+) -> Ending {
     match words_given(world.rt) {
-        Ok(given) => do_texts(world, files, given.as_slice()),
+        Ok(given) => do_texts(world, files, other, given.as_slice()),
         Err(ending) => ending,
     }
 }
@@ -226,15 +235,21 @@ fn tell_ending(rt: &HostRuntime, ending: Ending) {
     }
 }
 
-/// Does what the words of the program say, over what opens its files and gives its sheets, and gives its status.
-pub fn run<F: Files, S: Sheets>(rt: &HostRuntime, files: F, sheets: &S) -> ExitCode {
+/// Does what the words of the program say, over what opens its files, the second one's by `other`, and gives its sheets;
+/// and gives its status.
+pub fn run<F: Files, G: Files, S: Sheets>(
+    rt: &HostRuntime,
+    mut files: F,
+    mut other: G,
+    sheets: &S,
+) -> ExitCode {
     let shown = match (rt.stderr().is_terminal(), rt.stdout().is_terminal()) {
         (false, _) => ProgressDisplay::Nowhere,
         (true, false) => ProgressDisplay::Alone,
         (true, true) => ProgressDisplay::BetweenLines,
     };
     let world = World { rt, sheets, shown };
-    let ending = do_started(&world, files);
+    let ending = do_started(&world, &mut files, &mut other);
     tell_ending(rt, ending);
     ExitCode::from(status(ending))
 }

@@ -169,13 +169,22 @@ fn done(rt: &HostRuntime, job: &Job<'_>, text: &str) -> Option<(Vec<u8>, Ending)
         shown: ProgressDisplay::Nowhere,
     };
     let mut files = FirstFiles;
+    let mut other = FirstFiles;
     let options = Options {
         existing: false,
         explain: false,
         wait: 0,
         expected: None,
     };
-    do_job(&world, &mut files, job, options, Vec::new(rt.alloc())).ok()
+    do_job(
+        &world,
+        &mut files,
+        &mut other,
+        job,
+        options,
+        Vec::new(rt.alloc()),
+    )
+    .ok()
 }
 
 /// The same of a job by its words.
@@ -202,9 +211,11 @@ fn gives(host: &HostRuntime, rt: &impl Abort, words: &str, text: &str, wanted: &
 
 /// Jobs by their words, with the text of their sheet; what each writes, and the status of the program behind it. Of a path it
 /// is looked whether something is there: so files in memory are named as one that is.
-const JOBS: [(&str, &str, &str, u8); 22] = [
+const JOBS: [(&str, &str, &str, u8); 24] = [
     ("edit /bin/sh sheet", EDITS, REPLIES, 1),
     ("check /bin/sh sheet", EDITS, REPLIES, 1),
+    ("check /bin/sh sheet --diff", EDITS, "+,link,2,3000\n", 1),
+    ("diff :memory: :memory:", "", "", 0),
     (
         "edit :memory: sheet",
         FIRST,

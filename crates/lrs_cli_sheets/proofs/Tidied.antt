@@ -5,7 +5,7 @@ use Rattle.lrs_machine.specs.Lines.{Text}
 use Rattle.lrs_sheet_records.specs.declared.sheet.Sheet.{Sheet}
 use Rattle.lrs_sheet_advice.specs.TidySheets.{IsTidied, IsUntidy}
 use Rattle.lrs_cli_tasks.specs.declared.endings.Ending.{Ending}
-use Rattle.lrs_cli_tasks.specs.declared.endings.Ending.TheVariants.{Done, RecordsRefused, QuestionRefused, Differs, Unreadable, Misused, Stopped}
+use Rattle.lrs_cli_tasks.specs.declared.endings.Ending.TheVariants.{Done, RecordsRefused, QuestionRefused, Differs, NotConfirmed, NotDrafted, Unreadable, Misused, Stopped}
 use Rattle.lrs_cli_tasks.specs.declared.fault.ProgramFault.{ProgramFault}
 use Rattle.lrs_cli_sheets.specs.Tidyings.{EndsTidy, HasNotTidied, HasTidied}
 use Rattle.lrs_cli_sheets.proofs.Trying.{is_known}
@@ -23,6 +23,8 @@ module _ (kind : Sheet) (read : Text) (known : Option Text) (is : IfSome known (
   as_known new (Stopped fault) h = h
   as_known new (QuestionRefused cause) h = absurd h
   as_known new (Differs table) h = absurd h
+  as_known new NotConfirmed h = absurd h
+  as_known new NotDrafted h = absurd h
   as_known new (Unreadable word) h = absurd h
   as_known new Misused h = absurd h
 

@@ -1,85 +1,61 @@
--- A sheet that is tried at a copy of an inventory, and one that is done on the empty inventory.
-use Rattle.std.proofs.Common.{◌≡◌, ◌∙◌, ◌⊎◌, ℕ, Bool, true, false, List, Option, Some, None, Result, Ok, Err, IfOk, IfErr, IfSome, refl, subst, inl, inr}
-use Rattle.lrs_measure.specs.Limits.{most_assets, most_edits, most_routes}
-use Rattle.lrs_machine.specs.Image.{nothing, state_of}
+-- A sheet that is tried at a copy of an inventory, and one whose bytes were read.
+use Rattle.std.proofs.Common.{◌≡◌, ◌∙◌, ◌⊎◌, ℕ, Bool, true, false, true≢false, List, Option, Some, None, Result, Ok, Err, IfOk, IfSome, refl, subst, sym, inl, inr}
+use Rattle.std.specs.Io.KnownBytes.{Appends}
+use Rattle.lrs_difference.specs.Text.{difference_text}
+use Rattle.lrs_machine.specs.Image.{state_of}
+use Rattle.lrs_machine.specs.Sound.{IsSound}
+use Rattle.lrs_machine.specs.State.{State}
 use Rattle.lrs_machine.specs.declared.image.Image.{Image}
 use Rattle.lrs_machine.specs.declared.table.Table.{Table}
 use Rattle.lrs_sheet.specs.DeskView.{DeskView}
 use Rattle.lrs_sheet_records.specs.declared.sheet.Sheet.{Sheet}
-use Rattle.lrs_sheet.specs.Sheets.{RunsBehind, RunsEdits}
 use Rattle.lrs_sheet_records.specs.declared.fault.SheetFault.{SheetFault}
 use Rattle.lrs_sheet.specs.declared.reply.Tally.{Tally}
-use Rattle.lrs_sheet_log.specs.Differences.{IsFirstDifference}
+use Rattle.lrs_cli_tasks.specs.declared.endings.Ending.{Ending}
+use Rattle.lrs_cli_tasks.specs.declared.endings.Ending.TheVariants.{Stopped}
 use Rattle.lrs_cli_tasks.specs.declared.fault.ProgramFault.{ProgramFault}
 use Rattle.lrs_cli_tasks.specs.declared.fault.ProgramFault.TheVariants as program
-use Rattle.lrs_cli_sheets.specs.declared.sheets.Pace.TheVariants.{InPieces}
 use Rattle.lrs_cli_sheets.specs.declared.sheets.Way.{Way}
-use Rattle.lrs_cli_sheets.specs.Audits.{IsAudited, IsMadeBy, log_of}
-use Rattle.lrs_cli_sheets.specs.Sheets.{EndsSheet, HasRun, IsUnwritten, is_cut_off}
-use Rattle.lrs_cli_tasks.specs.declared.endings.Ending.{Ending}
-use Rattle.lrs_cli_sheets.specs.Trials.{EndsAll, EndsGiven, EndsRecords, IsFull, IsTried}
+use Rattle.lrs_cli_sheets.specs.Sheets.{EndsSheet, HasRun, ending_of_sheet, is_cut_off}
+use Rattle.lrs_cli_sheets.specs.Trials.{EndsAll, EndsCheck, EndsConfirmed, EndsGiven, EndsRecords, HasTried, IsTried}
 
--- what is run in pieces at a desk with full limits over this image is tried
-tried : {K : Type 0} (holds : K → Result Image Table → Type 0) (kind : Sheet) (passed : ℕ) (text : List ℕ) (image : Image) (before after : DeskView K) (old new : Option (List ℕ)) (outcome : Result Tally SheetFault)
-    → before.image ≡ image → IsFull before.limits → HasRun holds (record { kind = kind; pace = InPieces; passed = passed }) (Some text) before after old new outcome
-    → IsTried kind passed text image old new outcome
-tried holds kind passed text image before after old new outcome same full ran = record {
-  limits = before.limits;
-  full = full;
-  after = state_of after.image;
-  runs = λ front at count. subst (λ (i : Image). RunsBehind front kind 1 before.limits text (state_of i) (state_of after.image) old new outcome) same (ran.runs front at count);
-}
+-- A sheet that was tried at a copy of this image, and what is told of it.
+module _ (kind : Sheet) (text : List ℕ) (image copy made : Image) (replies : List ℕ) (outcome : Result Tally SheetFault) (same : copy ≡ image) (tried : IsTried kind 0 text (state_of copy) (state_of made) replies outcome) where
+  from_image : IsTried kind 0 text (state_of image) (state_of made) replies outcome
+  from_image = subst (λ (i : Image). IsTried kind 0 text (state_of i) (state_of made) replies outcome) same tried
 
--- the same where the writer is given back
-pub tried_to : {K W : Type 0} (holds : K → Result Image Table → Type 0) (contents : W → Option (List ℕ)) (kind : Sheet) (passed : ℕ) (text : List ℕ) (image : Image) (before after : DeskView K) (first : Option (List ℕ)) (result : Result (W × Result Tally SheetFault) ProgramFault)
-    → before.image ≡ image → IsFull before.limits
-    → IfOk result (λ done. HasRun holds (record { kind = kind; pace = InPieces; passed = passed }) (Some text) before after first (contents done.0) done.1)
-    → IfOk result (λ done. IsTried kind passed text image first (contents done.0) done.1)
-tried_to holds contents kind passed text image before after first (Ok done) same full ran = tried holds kind passed text image before after first (contents done.0) done.1 same full ran
-tried_to holds contents kind passed text image before after first (Err fault) same full ran = tt
+  pub replies_told : {W : Type 0} (contents : W → Option (List ℕ)) (differs : Bool) (old : Option (List ℕ)) (result : Result (W × Ending) ProgramFault) → differs ≡ false
+      → IfOk result (λ done. Appends old (contents done.0) replies) → IfOk result (λ done. done.1 ≡ ending_of_sheet outcome)
+      → IfOk result (λ done. EndsCheck kind differs (Some text) image old (contents done.0) done.1)
+  replies_told contents true old result is written ends = absurd (true≢false is)
+  replies_told contents false old (Ok done) is written ends =
+      inl (record { text = text; is_text = refl; replies = replies; outcome = outcome; tried = (state_of made, from_image); written = written; ends = ends })
+  replies_told contents false old (Err fault) is written ends = tt
 
--- replies are not written for lack of memory, or since the writer failed
-pub two_faults : {K X : Type 0} (holds : K → Result Image Table → Type 0) (before after : DeskView K) (result : Result X ProgramFault)
-    → IfErr result (IsUnwritten holds before after) → IfErr result (λ e. (e ≡ program.Memory) ⊎ (e ≡ program.Write))
-two_faults holds before after (Ok x) unwritten = tt
-two_faults holds before after (Err program.Memory) unwritten = inl refl
-two_faults holds before after (Err program.Write) unwritten = inr refl
-two_faults holds before after (Err program.Open) unwritten = absurd unwritten
-two_faults holds before after (Err (program.OtherInventory found)) unwritten = absurd unwritten
-two_faults holds before after (Err (program.Unsound t)) unwritten = absurd unwritten
-two_faults holds before after (Err program.Keep) unwritten = absurd unwritten
-two_faults holds before after (Err program.MustReopen) unwritten = absurd unwritten
-two_faults holds before after (Err program.Read) unwritten = absurd unwritten
-two_faults holds before after (Err program.BadHeader) unwritten = absurd unwritten
-two_faults holds before after (Err program.BadCsv) unwritten = absurd unwritten
-two_faults holds before after (Err program.RepeatedKey) unwritten = absurd unwritten
-two_faults holds before after (Err program.CutOff) unwritten = absurd unwritten
-two_faults holds before after (Err program.Door) unwritten = absurd unwritten
+  pub difference_told : {W : Type 0} (contents : W → Option (List ℕ)) (differs : Bool) (old : Option (List ℕ)) (result : Result (W × Ending) ProgramFault) → differs ≡ true
+      → IsSound made → IfOk result (λ done. (Appends old (contents done.0) (difference_text image made) × (done.1 ≡ ending_of_sheet outcome)) ⊎ ((contents done.0 ≡ old) × (done.1 ≡ Stopped program.Memory)))
+      → IfOk result (λ done. EndsCheck kind differs (Some text) image old (contents done.0) done.1)
+  difference_told contents false old result is sound told = absurd (true≢false (sym is))
+  difference_told contents true old (Ok done) is sound (inl (written, ends)) =
+      inl (record { text = text; is_text = refl; made = made; sound = sound; replies = replies; outcome = outcome; tried = from_image; written = written; ends = ends })
+  difference_told contents true old (Ok done) is sound (inr (same, memory)) = inr (same, inl memory)
+  difference_told contents true old (Err fault) is sound told = tt
 
--- what an edit sheet makes at a desk with full limits over the empty inventory
-pub made : {K : Type 0} (sheet : List ℕ) (before after : DeskView K) (old new : Option (List ℕ)) (outcome : Result Tally SheetFault)
-    → before.image ≡ nothing → (before.limits.routes ≡ most_routes) × (before.limits.assets ≡ most_assets) × (before.limits.edits ≡ most_edits)
-    → RunsEdits before.limits sheet (state_of before.image) (state_of after.image) old new outcome → IsMadeBy sheet after.image
-made sheet before after old new outcome fresh (routes, assets, edits) runs = record {
-  limits = before.limits;
-  full = record { routes = routes; assets = assets; edits = edits };
-  old = old;
-  new = new;
-  outcome = outcome;
-  runs = subst (λ (i : Image). RunsEdits before.limits sheet (state_of i) (state_of after.image) old new outcome) fresh runs;
-}
+-- what is checked at a copy of an inventory's image is checked at the inventory
+pub checked_at : {W : Type 0} (contents : W → Option (List ℕ)) (kind : Sheet) (differs : Bool) (known : Option (List ℕ)) (image other : Image) (old : Option (List ℕ)) (result : Result (W × Ending) ProgramFault) → image ≡ other
+    → IfOk result (λ done. EndsCheck kind differs known image old (contents done.0) done.1) → IfOk result (λ done. EndsCheck kind differs known other old (contents done.0) done.1)
+checked_at contents kind differs known image other old result same = subst (λ (i : Image). IfOk result (λ done. EndsCheck kind differs known image old (contents done.0) done.1) → IfOk result (λ done. EndsCheck kind differs known i old (contents done.0) done.1)) same (λ ends. ends)
 
--- an image is compared with what its log makes
-pub compared : (i made left right : Image) (text : List ℕ) (differs : Option Table) → left ≡ i → right ≡ made → text ≡ log_of i → IsMadeBy text made
-    → IsFirstDifference left right differs → IsAudited i differs
-compared i made left right text differs same_left same_right same_log is first = record {
-  made = made;
-  is_made = subst (λ (t : List ℕ). IsMadeBy t made) same_log is;
-  compared = subst (λ (x : Image). IsFirstDifference i x differs) same_right (subst (λ (x : Image). IsFirstDifference x right differs) same_left first);
-}
+-- what was tried, whatever the copy is then
+pub has_tried : {X E : Type 0} (replies : X → List ℕ) (outcome : X → Result Tally SheetFault) (kind : Sheet) (passed : ℕ) (text : List ℕ) (image : Image) (after : State) (result : Result X E)
+    → IfOk result (λ trial. IsTried kind passed text (state_of image) after (replies trial) (outcome trial)) → IfOk result (λ trial. HasTried kind passed text image (replies trial) (outcome trial))
+has_tried replies outcome kind passed text image after (Ok trial) tried = (after, tried)
+has_tried replies outcome kind passed text image after (Err fault) tried = tt
 
-pub audited_as : (i j : Image) (d e : Option Table) → i ≡ j → d ≡ e → IsAudited i d → IsAudited j e
-audited_as i j d e same equal is = subst (λ (x : Option Table). IsAudited j x) equal (subst (λ (x : Image). IsAudited x d) same is)
+-- ... and so is what is tried
+pub tried_at : {X E : Type 0} (replies : X → List ℕ) (outcome : X → Result Tally SheetFault) (kind : Sheet) (passed : ℕ) (text : List ℕ) (image other : Image) (result : Result X E) → image ≡ other
+    → IfOk result (λ trial. HasTried kind passed text image (replies trial) (outcome trial)) → IfOk result (λ trial. HasTried kind passed text other (replies trial) (outcome trial))
+tried_at replies outcome kind passed text image other result same = subst (λ (i : Image). IfOk result (λ trial. HasTried kind passed text image (replies trial) (outcome trial)) → IfOk result (λ trial. HasTried kind passed text i (replies trial) (outcome trial))) same (λ tried. tried)
 
 -- a text that is another's, where that is known
 pub is_known : (text read : List ℕ) (known : Option (List ℕ)) → IfSome known (λ t. read ≡ t) → text ≡ read → IfSome known (λ t. text ≡ t)
@@ -166,6 +142,14 @@ module _ {K : Type 0} (holds : K → Result Image Table → Type 0) (kind : Shee
   records_known resumes all new ending (inr (inl (cut, same, unwritten, ends))) = inr (inl (if_known (λ t. is_cut_off t ≡ true) read known is cut, same, unwritten, ends))
   records_known resumes all new ending (inr (inr (uncut, ends))) = inr (inr (if_known (λ t. is_cut_off t ≡ false) read known is uncut, given_known resumes all new ending ends))
 
+  any_known : (resumes all whole : Bool) (new : Option (List ℕ)) (ending : Ending) → EndsRecords holds kind resumes all whole (Some read) before after old new ending → EndsRecords holds kind resumes all whole known before after old new ending
+  any_known resumes all false new ending ends = given_known resumes all new ending ends
+  any_known resumes all true new ending ends = records_known resumes all new ending ends
+
+  confirmed_known : (answer : Option (List ℕ)) (resumes all whole : Bool) (new : Option (List ℕ)) (ending : Ending) → EndsConfirmed holds answer true kind resumes all whole (Some read) before after old new ending → EndsConfirmed holds answer true kind resumes all whole known before after old new ending
+  confirmed_known answer resumes all whole new ending (inl (said, ends)) = inl (said, any_known resumes all whole new ending ends)
+  confirmed_known answer resumes all whole new ending (inr undone) = inr undone
+
   -- a sheet whose bytes were read is gone on with as the sheet of its name
   pub resumed_as_named : {W : Type 0} (contents : W → Option (List ℕ)) (result : Result (W × Ending) ProgramFault) → IfOk result (λ done. EndsSheet holds kind true (Some read) before after old (contents done.0) done.1)
       → IfOk result (λ done. EndsSheet holds kind true known before after old (contents done.0) done.1)
@@ -178,3 +162,10 @@ module _ {K : Type 0} (holds : K → Result Image Table → Type 0) (kind : Shee
       → IfOk result (λ done. EndsRecords holds kind resumes all true known before after old (contents done.0) done.1)
   whole_as_named contents resumes all (Ok done) ends = records_known resumes all (contents done.0) done.1 ends
   whole_as_named contents resumes all (Err fault) ends = tt
+
+  -- and so it is done where that is asked for
+  pub confirmed_as_named : {W : Type 0} (contents : W → Option (List ℕ)) (answer : Option (List ℕ)) (resumes all whole : Bool) (result : Result (W × Ending) ProgramFault)
+      → IfOk result (λ done. EndsConfirmed holds answer true kind resumes all whole (Some read) before after old (contents done.0) done.1)
+      → IfOk result (λ done. EndsConfirmed holds answer true kind resumes all whole known before after old (contents done.0) done.1)
+  confirmed_as_named contents answer resumes all whole (Ok done) ends = confirmed_known answer resumes all whole (contents done.0) done.1 ends
+  confirmed_as_named contents answer resumes all whole (Err fault) ends = tt

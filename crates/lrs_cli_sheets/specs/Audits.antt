@@ -1,17 +1,12 @@
 -- Whether an inventory is what its log makes, and how the program ends with that.
-use Rattle.std.specs.Prelude.{◌≡◌, ◌++◌, ◌∷◌, [], codes, Option, Some, None, Result}
+use Rattle.std.specs.Prelude.{◌≡◌, ◌++◌, ◌∷◌, [], codes, Option, Some, None}
 use Rattle.std.specs.Io.KnownBytes.{Appends}
-use Rattle.lrs_machine.specs.Image.{nothing, state_of}
 use Rattle.lrs_machine.specs.Lines.{Text}
-use Rattle.lrs_machine.specs.declared.answer.Limits.{Limits}
 use Rattle.lrs_machine.specs.declared.image.Image.{Image}
 use Rattle.lrs_machine.specs.declared.table.Table.{Table}
 use Rattle.lrs_sheet_log.specs.Differences.{IsFirstDifference}
 use Rattle.lrs_sheet_log.specs.Log.{log_text}
-use Rattle.lrs_sheet.specs.Sheets.{RunsEdits}
-use Rattle.lrs_sheet_records.specs.declared.fault.SheetFault.{SheetFault}
-use Rattle.lrs_sheet.specs.declared.reply.Tally.{Tally}
-use Rattle.lrs_cli_sheets.specs.Trials.{IsFull}
+pub use Rattle.lrs_sheet.specs.MadeLogs.{IsMadeBy}
 use Rattle.lrs_cli_tasks.specs.declared.endings.Ending.{Ending}
 use Rattle.lrs_cli_tasks.specs.declared.endings.Ending.TheVariants.{Differs, Done, Stopped}
 use Rattle.lrs_cli_tasks.specs.declared.fault.ProgramFault.TheVariants.{Memory}
@@ -19,15 +14,6 @@ use Rattle.lrs_cli_tasks.specs.declared.fault.ProgramFault.TheVariants.{Memory}
 -- the whole log of an inventory
 abbrev pub log_of : Image → Text
 log_of i = log_text 1 None i
-
--- An edit sheet, done on the empty inventory, made this image, whatever it was answered.
-pub record IsMadeBy (sheet : Text) (made : Image) : Type 0 where
-  pub limits : Limits
-  pub full : IsFull limits
-  pub old : Option Text
-  pub new : Option Text
-  pub outcome : Result Tally SheetFault
-  pub runs : RunsEdits limits sheet (state_of nothing) (state_of made) old new outcome
 
 -- The first table in which an inventory is not what its log makes; none where it is.
 pub record IsAudited (i : Image) (differs : Option Table) : Type 0 where

@@ -7,3 +7,5 @@ pub mod Tidyings
 pub mod Places
 pub mod Remains
 pub mod Holdings
+pub mod Differences
+pub mod Drafts

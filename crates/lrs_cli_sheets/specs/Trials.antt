@@ -1,42 +1,30 @@
 -- What a sheet is answered that is tried at a copy of an inventory, and how the program ends with it.
-use Rattle.std.specs.Prelude.{◌≡◌, ◌⊎◌, ℕ, Bool, true, false, List, [], length, IfSome, Option, Some, Result, Ok, Err}
+use Rattle.std.specs.Prelude.{◌≡◌, ◌⊎◌, ℕ, Bool, true, false, codes, bytes_eq, IfSome, Option, Some, Result, Ok, Err}
 use Rattle.std.specs.Io.KnownBytes.{Appends}
-use Rattle.lrs_measure.specs.Limits.{most_assets, most_edits, most_routes}
+use Rattle.std.specs.List.{before_first}
 use Rattle.lrs_machine.specs.Image.{state_of}
 use Rattle.lrs_machine.specs.Lines.{Text}
+use Rattle.lrs_machine.specs.Sound.{IsSound}
 use Rattle.lrs_machine.specs.State.{State}
-use Rattle.lrs_machine.specs.declared.answer.Limits.{Limits}
 use Rattle.lrs_machine.specs.declared.image.Image.{Image}
 use Rattle.lrs_machine.specs.declared.table.Table.{Table}
 use Rattle.lrs_sheet.specs.DeskView.{DeskView}
 use Rattle.lrs_sheet_records.specs.declared.sheet.Sheet.{Sheet}
-use Rattle.lrs_sheet.specs.Sheets.{RunsBehind, StandAtFront}
 pub use Rattle.lrs_sheet.specs.Sheets.{IsAfterCommands}
+use Rattle.lrs_difference.specs.Text.{difference_text}
+pub use Rattle.lrs_sheet.specs.Trials.{IsFull, IsTried}
 use Rattle.lrs_sheet_records.specs.declared.fault.SheetFault.{SheetFault}
 use Rattle.lrs_sheet.specs.declared.reply.Tally.{Tally}
 use Rattle.lrs_cli_tasks.specs.declared.endings.Ending.{Ending}
-use Rattle.lrs_cli_tasks.specs.declared.endings.Ending.TheVariants.{Stopped}
+use Rattle.lrs_cli_tasks.specs.declared.endings.Ending.TheVariants.{NotConfirmed, Stopped}
 use Rattle.lrs_cli_tasks.specs.declared.fault.ProgramFault.TheVariants.{CutOff, Memory, Read}
 use Rattle.lrs_cli_sheets.specs.declared.sheets.Pace.{Pace}
 use Rattle.lrs_cli_sheets.specs.declared.sheets.Way.{Way}
-use Rattle.lrs_cli_sheets.specs.Sheets.{EndsAsRun, EndsSheet, EndsUnresumed, GoesOnBehind, IsUnopened, ending_of_sheet, is_cut_off}
-
--- an inventory may hold as much as one may hold at all
-pub record IsFull (limits : Limits) : Type 0 where
-  pub routes : limits.routes ≡ most_routes
-  pub assets : limits.assets ≡ most_assets
-  pub edits : limits.edits ≡ most_edits
-
--- The bytes of a sheet are answered as from the state of this image, one record after the other, but for those that are passed over, and the replies are written. What the copy is afterwards is the state after them.
-pub record IsTried (kind : Sheet) (passed : ℕ) (text : Text) (image : Image) (old new : Option Text) (outcome : Result Tally SheetFault) : Type 0 where
-  pub limits : Limits
-  pub full : IsFull limits
-  pub after : State
-  pub runs : (front : List (List Text)) → StandAtFront text front → length front ≡ passed → RunsBehind front kind 1 limits text (state_of image) after old new outcome
+use Rattle.lrs_cli_sheets.specs.Sheets.{EndsAsRun, EndsSheet, EndsUnresumed, GoesOnBehind, IsUnopened, ending_of_sheet, ends_line, is_cut_off}
 
 -- the sheet was tried, and these are the lines of its replies
 abbrev pub HasTried : Sheet → ℕ → Text → Image → Text → Result Tally SheetFault → Type 0
-HasTried kind passed text image replies outcome = IsTried kind passed text image (Some []) (Some replies) outcome
+HasTried kind passed text image replies outcome = (after : State) × IsTried kind passed text (state_of image) after replies outcome
 
 -- A sheet of this text, where it is known, was tried, and the program writes its replies and ends as it ended.
 pub record EndsAsTried (kind : Sheet) (known : Option Text) (image : Image) (old new : Option Text) (ending : Ending) : Type 0 where
@@ -48,13 +36,30 @@ pub record EndsAsTried (kind : Sheet) (known : Option Text) (image : Image) (old
   pub written : Appends old new replies
   pub ends : ending ≡ ending_of_sheet outcome
 
+-- A sheet of this text, where it is known, was tried, and the program writes what it would change, and ends as it ended.
+pub record EndsDiffered (kind : Sheet) (known : Option Text) (image : Image) (old new : Option Text) (ending : Ending) : Type 0 where
+  pub text : Text
+  pub is_text : IfSome known (λ t. text ≡ t)
+  pub made : Image
+  pub sound : IsSound made
+  pub replies : Text
+  pub outcome : Result Tally SheetFault
+  pub tried : IsTried kind 0 text (state_of image) (state_of made) replies outcome
+  pub written : Appends old new (difference_text image made)
+  pub ends : ending ≡ ending_of_sheet outcome
+
+-- the replies are told, or the difference
+abbrev pub EndsTold : Bool → Sheet → Option Text → Image → Option Text → Option Text → Ending → Type 0
+EndsTold false kind known image old new ending = EndsAsTried kind known image old new ending
+EndsTold true kind known image old new ending = EndsDiffered kind known image old new ending
+
 -- a check ends before there are replies, and nothing is written
 abbrev pub IsUnchecked : Option Text → Option Text → Ending → Type 0
 IsUnchecked old new ending = (new ≡ old) × ((ending ≡ Stopped Memory) ⊎ (ending ≡ Stopped Read))
 
 -- a check ends as the sheet that was tried, or before
-abbrev pub EndsCheck : Sheet → Option Text → Image → Option Text → Option Text → Ending → Type 0
-EndsCheck kind known image old new ending = EndsAsTried kind known image old new ending ⊎ IsUnchecked old new ending
+abbrev pub EndsCheck : Sheet → Bool → Option Text → Image → Option Text → Option Text → Ending → Type 0
+EndsCheck kind differs known image old new ending = EndsTold differs kind known image old new ending ⊎ IsUnchecked old new ending
 
 -- how many records are passed over: none, or those that are decided where the sheet goes on
 abbrev pub ArePassed : Sheet → Bool → Image → Text → ℕ → Type 0
@@ -65,6 +70,10 @@ ArePassed kind true image text passed = GoesOnBehind kind image text passed
 abbrev pub IsAccepted : Result Tally SheetFault → Type 0
 IsAccepted (Ok tally) = tally.refused ≡ 0
 IsAccepted (Err fault) = ⊥
+
+-- the first line is `yes`
+abbrev pub says_yes : Text → Bool
+says_yes text = bytes_eq (before_first ends_line text) (codes "yes")
 
 module _ {K : Type 0} (holds : K → Result Image Table → Type 0) where
   -- The sheet was tried, no record of it was refused, and then it was run.
@@ -122,3 +131,14 @@ module _ {K : Type 0} (holds : K → Result Image Table → Type 0) where
       IsUnopened holds before after old new ending
       ⊎ (IfSome known (λ text. is_cut_off text ≡ true) × (after ≡ before) × (new ≡ old) × (ending ≡ Stopped CutOff))
       ⊎ (IfSome known (λ text. is_cut_off text ≡ false) × EndsGiven kind resumes all known before after old new ending)
+
+  -- nothing was done or written: it was not confirmed
+  abbrev pub IsUnconfirmed : Option Text → DeskView K → DeskView K → Option Text → Option Text → Ending → Type 0
+  IsUnconfirmed answer before after old new ending = IfSome answer (λ t. says_yes t ≡ false) × (after ≡ before) × (new ≡ old) × (ending ≡ NotConfirmed)
+
+  -- How the program ends with a sheet that is done at once, or only where the answer to that is `yes`; or the sheet or the answer is not read, and nothing is done or written.
+  abbrev pub EndsConfirmed : Option Text → Bool → Sheet → Bool → Bool → Bool → Option Text → DeskView K → DeskView K → Option Text → Option Text → Ending → Type 0
+  EndsConfirmed answer false kind resumes all whole known before after old new ending = EndsRecords kind resumes all whole known before after old new ending
+  EndsConfirmed answer true kind resumes all whole known before after old new ending =
+      (IfSome answer (λ t. says_yes t ≡ true) × EndsRecords kind resumes all whole known before after old new ending)
+      ⊎ (IsUnconfirmed answer before after old new ending ⊎ IsUnopened holds before after old new ending)

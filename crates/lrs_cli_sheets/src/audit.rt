@@ -2,24 +2,23 @@
 
 ghost use Rattle.std.specs.Prelude.{◌≡◌, IfOk, IfErr};
 ghost use Rattle.std.specs.Io.KnownBytes.{Appends};
-ghost use Rattle.lrs_measure.specs.Limits.{most_assets, most_edits, most_routes};
 ghost use Rattle.lrs_machine.specs.Image.{nothing};
 ghost use Rattle.lrs_image.specs.OpenLists.{image_of};
+ghost use Rattle.lrs_sheet.specs.MadeLogs.{IsMadeBy, IsMadeWith};
+ghost use Rattle.lrs_sheet.specs.Trials.{IsFull};
 ghost use Rattle.lrs_sheet_log.specs.Differences.{IsFirstDifference};
-ghost use Rattle.lrs_cli_sheets.specs.Audits.{EndsAudit, IsAudited, IsMadeBy, log_of, sound_line};
+ghost use Rattle.lrs_cli_sheets.specs.Audits.{EndsAudit, IsAudited, log_of, sound_line};
 
 use crate::difference::tell_row;
-use crate::progress::{Extent, Measured, Progress, ProgressDisplay, ProgressLine};
+use crate::progress::{Extent, Measured, ProgressDisplay, ProgressLine};
 use crate::report::LongWork;
-use crate::sheets::{Pace, Way, run};
-use lrs_cli_tasks::{Ending, ProgramFault, open_in_memory};
+use lrs_cli_tasks::{Ending, ProgramFault};
 use lrs_image::ImageLists;
 use lrs_inventory::Inventory;
 use lrs_machine::Table;
-use lrs_sheet::{Desk, Keeper, Sheet, SheetFault};
+use lrs_sheet::{Desk, Keeper, SheetFault, Tally, empty_desk, run_log};
 use lrs_sheet_log::{first_difference, write_log};
 use std::alloc::Global;
-use std::io;
 use std::io::Write;
 use std::rt::Runtime;
 
@@ -35,32 +34,35 @@ fn log_of(alloc: Global, inventory: &Inventory) -> Result<Vec<u8>, ProgramFault>
     }
 }
 
-// Does an edit sheet at a desk with full limits over the empty inventory. The desk is of any keeper, here and below: a
-// function that has one over an image in memory is costly to prove.
-fn run_log<R: Runtime<A = Global>, K: Keeper>(
+/// Does a log at a desk with full limits over the empty inventory, and shows how far it is. The desk is of any keeper, here
+/// and below: a function that has one over an image in memory is costly to prove.
+pub(crate) fn make_log<R: Runtime<A = Global>, K: Keeper>(
     line: &ProgressLine<'_, R>,
-    sheet: &[u8],
+    log: &[u8],
+    desk: &mut Desk<K>,
+) -> Result<Tally, SheetFault>
+    requires fresh { desk.old.image ≡ nothing }
+    requires full { IsFull desk.old.limits }
+    ensures made { IsMadeWith log.now result desk.new.image }
+{
+    let log = Measured { from: log, line };
+    let outcome = run_log(line.rt.alloc(), log, desk);
+    line.clear();
+    outcome
+}
+
+/// The same of a log of which it does not matter what it is answered, unless memory runs out.
+pub(crate) fn remake<R: Runtime<A = Global>, K: Keeper>(
+    line: &ProgressLine<'_, R>,
+    log: &[u8],
     desk: &mut Desk<K>,
 ) -> Result<(), ProgramFault>
     requires fresh { desk.old.image ≡ nothing }
-    requires limits { (desk.old.limits.routes ≡ most_routes)
-        × (desk.old.limits.assets ≡ most_assets) × (desk.old.limits.edits ≡ most_edits) }
-    ensures made { IfOk result (λ _. IsMadeBy sheet.now desk.new.image) }
+    requires full { IsFull desk.old.limits }
+    ensures made { IfOk result (λ _. IsMadeBy log.now desk.new.image) }
     ensures memory { IfErr result (λ e. e ≡ ProgramFault.Memory) }
 {
-    let mut replies = Progress {
-        to: io::sink(),
-        line,
-    };
-    let way = Way {
-        kind: Sheet::Edits,
-        pace: Pace::InPieces,
-        passed: 0,
-    };
-    let log = Measured { from: sheet, line };
-    let outcome = run(line.rt.alloc(), way, log, &mut replies, desk);
-    line.clear();
-    match outcome {
+    match make_log(line, log, desk) {
         Err(SheetFault::Memory | SheetFault::Desk(_)) => Err(ProgramFault::Memory),
         _ => Ok(()),
     }
@@ -100,12 +102,11 @@ fn made_differs<R: Runtime<A = Global>, K: Keeper>(
 ) -> Result<Option<Table>, ProgramFault>
     requires whole { log.now ≡ log_of inventory.now }
     requires fresh { desk.old.image ≡ nothing }
-    requires limits { (desk.old.limits.routes ≡ most_routes)
-        × (desk.old.limits.assets ≡ most_assets) × (desk.old.limits.edits ≡ most_edits) }
+    requires full { IsFull desk.old.limits }
     ensures audited { IfOk result (IsAudited inventory.now) }
     ensures memory { IfErr result (λ e. e ≡ ProgramFault.Memory) }
 {
-    match run_log(line, log, desk) {
+    match remake(line, log, desk) {
         Ok(()) => Ok(difference_from(line.rt, inventory, desk)),
         Err(fault) => Err(fault),
     }
@@ -121,8 +122,7 @@ fn audit_at<R: Runtime<A = Global>, K: Keeper>(
 ) -> (K, Result<Option<Table>, ProgramFault>)
     requires whole { log.now ≡ log_of inventory.now }
     requires fresh { desk.image ≡ nothing }
-    requires limits { (desk.limits.routes ≡ most_routes) × (desk.limits.assets ≡ most_assets)
-        × (desk.limits.edits ≡ most_edits) }
+    requires full { IsFull desk.limits }
     ensures audited { IfOk result.1 (IsAudited inventory.now) }
     ensures memory { IfErr result.1 (λ e. e ≡ ProgramFault.Memory) }
 {
@@ -141,13 +141,13 @@ fn audit_log<R: Runtime<A = Global>>(
     ensures audited { IfOk result (IsAudited inventory.now) }
     ensures memory { IfErr result (λ e. e ≡ ProgramFault.Memory) }
 {
-    match open_in_memory(line.rt.alloc()) {
+    match empty_desk(line.rt.alloc()) {
         Ok(desk) => {
             let (plain, differs) = audit_at(line, inventory, log, desk);
             plain.discard();
             differs
         }
-        Err(fault) => Err(fault),
+        Err(_) => Err(ProgramFault::Memory),
     }
 }
 

@@ -153,14 +153,14 @@ impl<'a, R: Eprint + Clock> ProgressLine<'a, R> {
         self.shown_at.set(Some(now));
     }
 
-    // Counts what was read; of a sheet that is tried, whose replies stay in memory, its lines too.
+    // Counts what was read; of a sheet whose replies stay in memory or are dropped, its lines too.
     fn note_read(&self, read: &[u8]) {
         if self.shown == ProgressDisplay::Nowhere {
             return;
         }
         self.bytes
             .set(self.bytes.get().saturating_add(read.len() as u64));
-        if let LongWork::Trial = self.work {
+        if let LongWork::Trial | LongWork::Audit(_) = self.work {
             self.lines
                 .set(self.lines.get().saturating_add(lines_in(read)));
         }

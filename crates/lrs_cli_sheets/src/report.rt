@@ -73,8 +73,12 @@ impl Report {
             LongWork::Trial => write!(f, "tried {lines} lines"),
             LongWork::Questions => write!(f, "{lines} lines"),
             LongWork::Audit(edits) => {
+                // the log has a header too
+                let done = Grouped {
+                    number: self.done.lines.min(edits),
+                };
                 let edits = Grouped { number: edits };
-                write!(f, "{lines} of {edits} edits")
+                write!(f, "{done} of {edits} edits")
             }
         }
     }

@@ -326,7 +326,7 @@ pub(crate) fn passed_over<R: Runtime<A = Global>, K: Keeper>(
     }
 }
 
-fn ends_line(byte: u8) -> bool
+pub(crate) fn ends_line(byte: u8) -> bool
     ensures { result ≡ ends_line byte }
 {
     byte == b'\n' || byte == b'\r'

@@ -21,13 +21,13 @@ fn tell<R: Runtime<A = Global>>(rt: &R, said: &[u8]) {
     }
 }
 
-// Writes the sheet that a text became.
-fn write_tidied<W: Write + Drop>(tidied: &[u8], to: W) -> Result<W, ProgramFault>
-    ensures written { IfOk result (λ done. Appends (W.contents to) (W.contents done) tidied.now) }
+/// Writes a text whole, and gives the writer back.
+pub(crate) fn write_text<W: Write + Drop>(text: &[u8], to: W) -> Result<W, ProgramFault>
+    ensures written { IfOk result (λ done. Appends (W.contents to) (W.contents done) text.now) }
     ensures failed { IfErr result (λ e. e ≡ ProgramFault.Write) }
 {
     let mut to = to;
-    match to.write_all(tidied) {
+    match to.write_all(text) {
         Ok(()) => Ok(to),
         Err(_) => Err(ProgramFault::Write),
     }
@@ -50,7 +50,7 @@ fn tidy_by<R: Runtime<A = Global>, W: Write + Drop>(
     match tidy(rt.alloc(), kind, bytes, tidied, said) {
         Ok(true) => {
             tell(rt, said.as_slice());
-            match write_tidied(tidied.as_slice(), to) {
+            match write_text(tidied.as_slice(), to) {
                 Ok(to) => Ok((to, Ending::Done)),
                 Err(fault) => Err(fault),
             }

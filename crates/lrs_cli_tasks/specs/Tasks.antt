@@ -1,14 +1,16 @@
 -- What a job has the program do.
-use Rattle.std.specs.Prelude.{◌≡◌, ◌⊎◌, ⊤, Bool, true, false, Option, Some, None, option_map}
+use Rattle.std.specs.Prelude.{◌≡◌, ◌⊎◌, ⊤, Bool, true, false, List, ◌∷◌, map, Option, Some, None, option_map}
 use Rattle.clap.specs.Words.{Text}
 use Rattle.lrs_machine.specs.declared.question.Question.{Question}
 use Rattle.lrs_sheet_records.specs.declared.sheet.Sheet.{Sheet}
 use Rattle.lrs_sheet_records.specs.declared.sheet.Sheet.TheVariants.{Edits, Survey}
+use Rattle.lrs_cli_words.specs.declared.comparison.Compared.TheVariants as compared
 use Rattle.lrs_cli_words.specs.declared.job.Job.{Job}
 use Rattle.lrs_cli_words.specs.declared.job.Job.TheVariants as job
 use Rattle.lrs_cli_words.specs.declared.question.QuestionFault.{QuestionFault}
-use Rattle.lrs_cli_words.specs.Questions.{Asks, IsFaultOf, SaysService, SaysSummed}
+use Rattle.lrs_cli_words.specs.Questions.{Asks, IsFaultOf, SaysCompared, SaysService, SaysSummed}
 use Rattle.lrs_cli_tasks.specs.Columns.{ArePicked, CannotPick, columns_of}
+use Rattle.lrs_cli_tasks.specs.declared.task.DraftWords.{DraftWords}
 use Rattle.lrs_cli_tasks.specs.declared.task.ListForm.{ListForm}
 use Rattle.lrs_cli_tasks.specs.declared.task.Task.{Task}
 use Rattle.lrs_cli_tasks.specs.declared.task.Task.TheVariants as task
@@ -17,9 +19,9 @@ use Rattle.lrs_cli_tasks.specs.declared.task.Work.TheVariants as work
 
 -- the inventory that it names; none for the page, or to tidy a sheet
 abbrev pub inventory_of : Job → Option Text
-inventory_of (job.Edit db sheet sums resume all whole) = Some db.now
-inventory_of (job.Survey db sheet sums resume all whole) = Some db.now
-inventory_of (job.Check db sheet survey) = Some db.now
+inventory_of (job.Edit db sheet sums resume all whole ask) = Some db.now
+inventory_of (job.Survey db sheet sums resume all whole ask) = Some db.now
+inventory_of (job.Check db sheet survey diff) = Some db.now
 inventory_of (job.At db route method position) = Some db.now
 inventory_of (job.Where db route place mm) = Some db.now
 inventory_of (job.Translate db route method position to) = Some db.now
@@ -36,6 +38,8 @@ inventory_of (job.Overlay db classes route side from to gaps text columns) = Som
 inventory_of (job.Gone db edit class since until text columns) = Some db.now
 inventory_of (job.History db asset text columns) = Some db.now
 inventory_of (job.Log db from until key text sum) = Some db.now
+inventory_of (job.Diff db others since) = Some db.now
+inventory_of (job.Draft what db words number key) = Some db.now
 inventory_of (job.Audit db) = Some db.now
 inventory_of (job.Serve db port max sums log end_on_fault most_reply page) = Some db.now
 inventory_of (job.Page dir) = None
@@ -72,12 +76,21 @@ pub record IsFormOf (j : Job) (q : Question) (form : ListForm) : Type 0 where
   pub columns : ArePicked (columns_of q) (columns_given j) form.columns
   pub as_text : form.as_text ≡ has_text_cells j
 
--- `edit` does an edit sheet, `survey` a survey, `check` tries one, `ask` answers a sheet of questions, `audit` audits, `log --sum` sums the log, `serve` serves where and how its words say, and every other job asks what they say, and has the answer written in the form that it says
+-- the words of a draft are those of the job
+pub record AreDraftWords (what : Text) (words : List Text) (number key : Option Text) (given : DraftWords) : Type 0 where
+  pub is_what : given.what.now ≡ what
+  pub are_words : map (λ w. w.now) given.words.now ≡ words
+  pub is_number : option_map (λ w. w.now) given.number ≡ number
+  pub is_key : option_map (λ w. w.now) given.key ≡ key
+
+-- `edit` does an edit sheet, `survey` a survey, `check` tries one, `diff --since` tells what edits changed, `draft` writes a sheet, `ask` answers a sheet of questions, `audit` audits, `log --sum` sums the log, `serve` serves where and how its words say, and every other job asks what they say, and has the answer written in the form that it says
 abbrev pub IsWorkOf : Job → Work → Type 0
-IsWorkOf (job.Edit db sheet sums resume all whole) (work.Sheet kind from resumes at_once with_end) = (kind ≡ Edits) × (from.now ≡ sheet.now) × (resumes ≡ resume) × (at_once ≡ all) × (with_end ≡ whole)
-IsWorkOf (job.Survey db sheet sums resume all whole) (work.Sheet kind from resumes at_once with_end) = (kind ≡ Survey) × (from.now ≡ sheet.now) × (resumes ≡ resume) × (at_once ≡ all) × (with_end ≡ whole)
-IsWorkOf (job.Check db sheet survey) (work.Check kind from) = (kind ≡ kind_of survey) × (from.now ≡ sheet.now)
+IsWorkOf (job.Edit db sheet sums resume all whole ask) (work.Sheet kind from resumes at_once with_end asks) = (kind ≡ Edits) × (from.now ≡ sheet.now) × (resumes ≡ resume) × (at_once ≡ all) × (with_end ≡ whole) × (asks ≡ ask)
+IsWorkOf (job.Survey db sheet sums resume all whole ask) (work.Sheet kind from resumes at_once with_end asks) = (kind ≡ Survey) × (from.now ≡ sheet.now) × (resumes ≡ resume) × (at_once ≡ all) × (with_end ≡ whole) × (asks ≡ ask)
+IsWorkOf (job.Check db sheet survey diff) (work.Check kind from differs) = (kind ≡ kind_of survey) × (from.now ≡ sheet.now) × (differs ≡ diff)
 IsWorkOf (job.Ask db questions) (work.Questions from) = from.now ≡ questions.now
+IsWorkOf (job.Diff db others since) (work.Since edit) = SaysCompared (db.now ∷ map (λ w. w.now) others.items) (option_map (λ w. w.now) since) (compared.Since edit)
+IsWorkOf (job.Draft what db words number key) (work.Draft given) = AreDraftWords what.now (map (λ w. w.now) words.items) (option_map (λ w. w.now) number) (option_map (λ w. w.now) key) given
 IsWorkOf (job.Audit db) work.Audit = ⊤
 IsWorkOf (job.Log db from until key text true) (work.Sum up_to) =
     SaysSummed (option_map (λ w. w.now) from) (option_map (λ w. w.now) until) (option_map (λ w. w.now) key) up_to
@@ -85,10 +98,11 @@ IsWorkOf (job.Serve db port max sums log end_on_fault most_reply page) (work.Ser
 IsWorkOf j (work.Question question form) = Asks j question × IsFormOf j question form
 IsWorkOf j w = ⊥
 
--- `page` has a folder, `tidy` a file, and every other job an inventory and what is done with it
+-- `page` has a folder, `tidy` a file, `diff` two inventories unless it has an edit, and every other job an inventory and what is done with it
 abbrev pub IsTaskOf : Job → Task → Type 0
 IsTaskOf (job.Page dir) (task.Page folder) = folder.now ≡ dir.now
 IsTaskOf (job.Tidy file survey) (task.Tidy kind from) = (kind ≡ kind_of survey) × (from.now ≡ file.now)
+IsTaskOf (job.Diff db others since) (task.Difference before after) = SaysCompared (db.now ∷ map (λ w. w.now) others.items) (option_map (λ w. w.now) since) (compared.Inventories before after)
 IsTaskOf j (task.Inventory db w) = (inventory_of j ≡ Some db.now) × IsWorkOf j w
 IsTaskOf j t = ⊥
 

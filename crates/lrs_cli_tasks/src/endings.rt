@@ -18,6 +18,10 @@ pub enum Ending {
     QuestionRefused(AskCause),
     /// What is kept is not what its log makes: the first table that differs.
     Differs(Table),
+    /// A sheet was to be done only where that was confirmed, and it was not.
+    NotConfirmed,
+    /// No sheet is drafted. Why was said where that was seen.
+    NotDrafted,
     /// A word is not what it should be.
     Unreadable(BadWord),
     /// The words are not understood. What is wrong with them was said where that was seen.
@@ -31,7 +35,11 @@ pub fn status(ending: Ending) -> u8
 {
     match ending {
         Ending::Done => 0,
-        Ending::RecordsRefused | Ending::QuestionRefused(_) | Ending::Differs(_) => 1,
+        Ending::RecordsRefused
+        | Ending::QuestionRefused(_)
+        | Ending::Differs(_)
+        | Ending::NotConfirmed
+        | Ending::NotDrafted => 1,
         Ending::Unreadable(_) | Ending::Misused => 2,
         Ending::Stopped(_) => 3,
     }
@@ -52,6 +60,8 @@ impl fmt::Display for Ending {
                 let name = table_name(*table);
                 writeln!(f, "roadlrs: Differs:{name}")
             }
+            Ending::NotConfirmed => f.write_str("roadlrs: nothing is done\n"),
+            Ending::NotDrafted => f.write_str("roadlrs: no sheet is drafted\n"),
             Ending::Unreadable(word) => writeln!(f, "error: {word}"),
             Ending::Stopped(fault) => writeln!(f, "roadlrs: fault {fault}"),
         }

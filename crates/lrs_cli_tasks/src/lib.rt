@@ -24,4 +24,4 @@ pub use page::do_page;
 pub use page_file::{PAGE, write_page};
 pub use questions::answer;
 pub use sums::answer_sum;
-pub use task::{ListForm, Task, Work, task_of};
+pub use task::{DraftWords, ListForm, Task, Work, task_of};

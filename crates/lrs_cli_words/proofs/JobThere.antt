@@ -92,6 +92,12 @@ all_fills = flag_fills (codes "all")
 whole_fills : Fills (flag_at (codes "whole"))
 whole_fills = flag_fills (codes "whole")
 
+ask_fills : Fills (flag_at (codes "ask"))
+ask_fills = flag_fills (codes "ask")
+
+diff_fills : Fills (flag_at (codes "diff"))
+diff_fills = flag_fills (codes "diff")
+
 text_fills : Fills (flag_at (codes "text"))
 text_fills = flag_fills (codes "text")
 
@@ -152,6 +158,9 @@ until_fills = option_fills (codes "until") refl
 key_fills : Fills (option_at (codes "key"))
 key_fills = option_fills (codes "key") refl
 
+number_fills : Fills (option_at (codes "number"))
+number_fills = option_fills (codes "number") refl
+
 page_fills : Fills (flag_at (codes "page"))
 page_fills = flag_fills (codes "page")
 
@@ -159,7 +168,10 @@ most_reply_fills : Fills (option_at (codes "most-reply"))
 most_reply_fills = option_fills (codes "most-reply") refl
 
 abbrev sheet_options : List Rule
-sheet_options = flag_at (codes "sums") ∷ flag_at (codes "resume") ∷ flag_at (codes "all") ∷ flag_at (codes "whole") ∷ []
+sheet_options = flag_at (codes "sums") ∷ flag_at (codes "resume") ∷ flag_at (codes "all") ∷ flag_at (codes "whole") ∷ flag_at (codes "ask") ∷ []
+
+abbrev check_options : List Rule
+check_options = flag_at (codes "survey") ∷ flag_at (codes "diff") ∷ []
 
 abbrev serve_options : List Rule
 serve_options = flag_at (codes "sums") ∷ flag_at (codes "log") ∷ flag_at (codes "end-on-fault") ∷ option_at (codes "most-reply") ∷ flag_at (codes "page") ∷ []
@@ -191,20 +203,23 @@ gone_options = option_at (codes "edit") ∷ option_at (codes "class") ∷ option
 abbrev log_options : List Rule
 log_options = option_at (codes "until") ∷ option_at (codes "key") ∷ flag_at (codes "text") ∷ flag_at (codes "sum") ∷ []
 
+abbrev draft_options : List Rule
+draft_options = option_at (codes "number") ∷ option_at (codes "key") ∷ []
+
 without_options : (j : JobName) → HasHelp (rules_at j) → ((name : Text) → IfSome (among [] name) (IsNamed (rules_at j)))
 without_options j help = long_among (rules_at j) [] tt help
 
 has_flags : (j : JobName) → HasFlags (rules_at j)
 has_flags job.Edit = record {
-  long = long_among (rules_at job.Edit) sheet_options (sums_fills, sums_fills, (resume_fills, resume_fills, (all_fills, all_fills, (whole_fills, whole_fills, tt)))) help_fills;
+  long = long_among (rules_at job.Edit) sheet_options (sums_fills, sums_fills, (resume_fills, resume_fills, (all_fills, all_fills, (whole_fills, whole_fills, (ask_fills, ask_fills, tt))))) help_fills;
   short = short_help (rules_at job.Edit) help_fills;
 }
 has_flags job.Survey = record {
-  long = long_among (rules_at job.Survey) sheet_options (sums_fills, sums_fills, (resume_fills, resume_fills, (all_fills, all_fills, (whole_fills, whole_fills, tt)))) help_fills;
+  long = long_among (rules_at job.Survey) sheet_options (sums_fills, sums_fills, (resume_fills, resume_fills, (all_fills, all_fills, (whole_fills, whole_fills, (ask_fills, ask_fills, tt))))) help_fills;
   short = short_help (rules_at job.Survey) help_fills;
 }
 has_flags job.Check = record {
-  long = long_among (rules_at job.Check) (flag_at (codes "survey") ∷ []) (survey_fills, survey_fills, tt) help_fills;
+  long = long_among (rules_at job.Check) check_options (survey_fills, survey_fills, (diff_fills, diff_fills, tt)) help_fills;
   short = short_help (rules_at job.Check) help_fills;
 }
 has_flags job.Tidy = record {
@@ -288,6 +303,14 @@ has_flags job.Log = record {
   long = long_among (rules_at job.Log) log_options (until_fills, until_fills, (key_fills, key_fills, (text_fills, text_fills, (sum_fills, sum_fills, tt)))) help_fills;
   short = short_help (rules_at job.Log) help_fills;
 }
+has_flags job.Diff = record {
+  long = long_among (rules_at job.Diff) (option_at (codes "since") ∷ []) (since_fills, since_fills, tt) help_fills;
+  short = short_help (rules_at job.Diff) help_fills;
+}
+has_flags job.Draft = record {
+  long = long_among (rules_at job.Draft) draft_options (number_fills, number_fills, (key_fills, key_fills, tt)) help_fills;
+  short = short_help (rules_at job.Draft) help_fills;
+}
 has_flags job.Audit = record { long = without_options job.Audit help_fills; short = short_help (rules_at job.Audit) help_fills }
 has_flags job.Serve = record {
   long = long_among (rules_at job.Serve) serve_options (sums_fills, sums_fills, (log_fills, log_fills, (end_fills, end_fills, (most_reply_fills, most_reply_fills, (page_fills, page_fills, tt))))) help_fills;
@@ -348,6 +371,8 @@ none_lack job.Overlay = refl
 none_lack job.Gone = refl
 none_lack job.History = refl
 none_lack job.Log = refl
+none_lack job.Diff = refl
+none_lack job.Draft = refl
 none_lack job.Audit = refl
 none_lack job.Serve = refl
 none_lack job.Page = refl
@@ -373,6 +398,8 @@ none_missing job.Overlay rows e = missing_none _ e
 none_missing job.Gone rows e = missing_none _ e
 none_missing job.History rows e = missing_none _ e
 none_missing job.Log rows e = missing_none _ e
+none_missing job.Diff rows e = missing_none _ e
+none_missing job.Draft rows e = missing_none _ e
 none_missing job.Audit rows e = missing_none _ e
 none_missing job.Serve rows e = missing_none _ e
 none_missing job.Page rows e = missing_none _ e

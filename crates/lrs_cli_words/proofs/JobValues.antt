@@ -19,7 +19,7 @@ abbrev has_text : List Text → Bool
 has_text values = is_some (slice_get values 0)
 
 abbrev valued : List Text
-valued = codes "from" ∷ codes "to" ∷ codes "route" ∷ codes "side" ∷ codes "class" ∷ codes "asset" ∷ codes "edit" ∷ codes "since" ∷ codes "until" ∷ codes "key" ∷ codes "columns" ∷ codes "by" ∷ codes "most-reply" ∷ []
+valued = codes "from" ∷ codes "to" ∷ codes "route" ∷ codes "side" ∷ codes "class" ∷ codes "asset" ∷ codes "edit" ∷ codes "since" ∷ codes "until" ∷ codes "key" ∷ codes "columns" ∷ codes "by" ∷ codes "number" ∷ codes "most-reply" ∷ []
 
 -- an option that has a value: it is used with none where that is missing, which `clap` refuses only later
 abbrev pub lacks : Text → Bool

@@ -5,3 +5,4 @@ pub mod Folded
 pub mod JobNames
 pub mod JobThere
 pub mod JobValues
+pub mod Sources

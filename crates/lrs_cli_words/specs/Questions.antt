@@ -1,5 +1,5 @@
 -- What a job's words ask of an inventory, and which of them cannot be read.
-use Rattle.std.specs.Prelude.{◌≡◌, ◌⊎◌, ⊤, ℕ, ◌≤◌, Bool, false, true, IsTrue, IsSomeAnd, List, Option, Some, None, is_some, map, option_map, codes, slice_get}
+use Rattle.std.specs.Prelude.{◌≡◌, ◌⊎◌, ⊤, ℕ, ◌≤◌, Bool, false, true, IsTrue, IsSomeAnd, List, [], ◌∷◌, ◌++◌, length, Option, Some, None, is_some, map, option_map, codes, slice_get}
 use Rattle.std.specs.Str.Parse.{IsNumeral, digits_value}
 use Rattle.clap.specs.Words.{Text}
 use Rattle.lrs_measure.specs.Limits.{greatest_asset, greatest_link, longest_link, most_edits}
@@ -12,6 +12,10 @@ use Rattle.lrs_events.specs.declared.side.LinkSide.{LinkSide}
 use Rattle.lrs_events.specs.declared.side.LinkSide.TheVariants.{Left, Right}
 use Rattle.lrs_events.specs.declared.side.Side.{Side}
 use Rattle.lrs_events.specs.Names.{is_class_name, side_text}
+use Rattle.lrs_cli_words.specs.declared.comparison.Compared.{Compared}
+use Rattle.lrs_cli_words.specs.declared.comparison.Compared.TheVariants as compared
+use Rattle.lrs_cli_words.specs.declared.comparison.Source.{Source}
+use Rattle.lrs_cli_words.specs.declared.comparison.Source.TheVariants as source
 use Rattle.lrs_cli_words.specs.declared.job.Job.{Job}
 use Rattle.lrs_cli_words.specs.declared.job.Job.TheVariants as job
 use Rattle.lrs_cli_words.specs.declared.question.BadWord.{BadWord}
@@ -160,14 +164,16 @@ pub record SaysService (at most : Text) (tells ends : Bool) (longest : Option Te
 
 -- ---- questions
 
--- the job asks no single question: it does, checks or tidies a sheet, answers a sheet of questions, sums its log, audits, serves, or writes the page
+-- the job asks no single question: it does, checks, drafts or tidies a sheet, answers a sheet of questions, tells a difference, sums its log, audits, serves, or writes the page
 abbrev pub AsksNothing : Job → Type 0
-AsksNothing (job.Edit db sheet sums resume all whole) = ⊤
-AsksNothing (job.Survey db sheet sums resume all whole) = ⊤
-AsksNothing (job.Check db sheet survey) = ⊤
+AsksNothing (job.Edit db sheet sums resume all whole ask) = ⊤
+AsksNothing (job.Survey db sheet sums resume all whole ask) = ⊤
+AsksNothing (job.Check db sheet survey diff) = ⊤
 AsksNothing (job.Tidy file survey) = ⊤
 AsksNothing (job.Ask db questions) = ⊤
 AsksNothing (job.Log db from until key text true) = ⊤
+AsksNothing (job.Diff db others since) = ⊤
+AsksNothing (job.Draft what db words number key) = ⊤
 AsksNothing (job.Audit db) = ⊤
 AsksNothing (job.Serve db port max sums log end_on_fault most_reply page) = ⊤
 AsksNothing (job.Page dir) = ⊤
@@ -273,6 +279,24 @@ Asks _ q = ⊥
 abbrev pub SaysSummed : Option Text → Option Text → Option Text → Option ℕ → Type 0
 SaysSummed from None None up_to = SaysIfGiven SaysEdit from up_to
 SaysSummed from until key up_to = ⊥
+
+-- ---- two inventories
+
+-- the words of a source: the file of an inventory; or `:log` and the file of a log
+abbrev pub source_words : Source → List Text
+source_words (source.Inventory db) = db.now ∷ []
+source_words (source.Log file) = codes ":log" ∷ file.now ∷ []
+
+-- `:log` is no name of an inventory
+abbrev pub IsSource : Source → Type 0
+IsSource (source.Inventory db) = db.now ≡ codes ":log" → ⊥
+IsSource (source.Log file) = ⊤
+
+-- the words of two sources, one behind the other; or those of one inventory, and the number of an edit
+abbrev pub SaysCompared : List Text → Option Text → Compared → Type 0
+SaysCompared words None (compared.Inventories before after) = (words ≡ source_words before ++ source_words after) × IsSource before × IsSource after
+SaysCompared words (Some since) (compared.Since edit) = (length words ≡ 1) × SaysEdit since edit
+SaysCompared words since c = ⊥
 
 -- ---- words that cannot be read
 
@@ -391,8 +415,19 @@ CannotSum from until (Some key) fault = fault ≡ Unreadable word.SumBesideKey
 CannotSum from (Some until) None fault = fault ≡ Unreadable word.UntilBesideSum
 CannotSum from None None fault = CannotIfGiven word.Number SaysEdit from fault
 
+-- the answer to `--ask` is read from the standard input, and so is the sheet
+abbrev pub CannotAsk : Text → Bool → QuestionFault → Type 0
+CannotAsk sheet ask fault = (fault ≡ Unreadable word.AskOfStdin) × (ask ≡ true) × (sheet ≡ codes "stdin")
+
+-- the words name neither two inventories nor one with an edit; or the number of the edit
+abbrev pub CannotCompare : List Text → Option Text → QuestionFault → Type 0
+CannotCompare words since fault = Cannot word.Compared (SaysCompared words since) fault ⊎ CannotIfGiven word.Since SaysEdit since fault
+
 -- the fault is a word of the job that cannot be read, or lack of memory for the classes
 abbrev pub IsFaultOf : Job → QuestionFault → Type 0
+IsFaultOf (job.Edit db sheet sums resume all whole ask) fault = CannotAsk sheet.now ask fault
+IsFaultOf (job.Survey db sheet sums resume all whole ask) fault = CannotAsk sheet.now ask fault
+IsFaultOf (job.Diff db others since) fault = CannotCompare (db.now ∷ map (λ w. w.now) others.items) (option_map (λ w. w.now) since) fault
 IsFaultOf (job.At db route method position) fault = CannotAt route.now method.now position.now fault
 IsFaultOf (job.Translate db route method position to) fault = CannotTranslate route.now method.now position.now to.now fault
 IsFaultOf (job.Strip db route side classes) fault = CannotStrip route.now side.now (map (λ w. w.now) classes.items) fault
@@ -448,3 +483,6 @@ bad_word_text word.Millimetre = codes "MM is no millimetre of a link"
 bad_word_text word.Port = codes "PORT is no port number"
 bad_word_text word.Max = codes "MAX is no number of connections"
 bad_word_text word.MostReply = codes "BYTES is no length of a reply"
+bad_word_text word.Compared = codes "diff takes two inventories, or one and --since N"
+bad_word_text word.Draft = codes "the words say no draft"
+bad_word_text word.AskOfStdin = codes "--ask reads the standard input, so that SHEET is a file"

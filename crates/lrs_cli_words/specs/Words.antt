@@ -9,7 +9,7 @@ use Rattle.clap.specs.declared.error.ErrorKind.TheVariants as kind
 use Rattle.lrs_cli_words.specs.declared.job.JobName.{JobName}
 use Rattle.lrs_cli_words.specs.declared.job.JobName.TheVariants as job
 use Rattle.lrs_cli_words.specs.declared.job.Job.{Job}
-use Rattle.lrs_cli_words.specs.declared.job.Job.TheVariants.{Edit, Survey, Check, Tidy, At, Where, Translate, Strip, Diagram, Totals, Lengths, Find, Route, Ask, List as Listing, Rows, Overlay, Gone, History, Log, Audit, Serve, Page}
+use Rattle.lrs_cli_words.specs.declared.job.Job.TheVariants.{Edit, Survey, Check, Tidy, At, Where, Translate, Strip, Diagram, Totals, Lengths, Find, Route, Ask, List as Listing, Rows, Overlay, Gone, History, Log, Diff, Draft, Audit, Serve, Page}
 
 -- ---- the command line
 
@@ -58,6 +58,8 @@ name_text job.Overlay = codes "overlay"
 name_text job.Gone = codes "gone"
 name_text job.History = codes "history"
 name_text job.Log = codes "log"
+name_text job.Diff = codes "diff"
+name_text job.Draft = codes "draft"
 name_text job.Audit = codes "audit"
 name_text job.Serve = codes "serve"
 name_text job.Page = codes "page"
@@ -84,15 +86,17 @@ rules_of job.Overlay = required (codes "DB") ∷ several (codes "CLASS") ∷ []
 rules_of job.Gone = required (codes "DB") ∷ []
 rules_of job.History = required (codes "DB") ∷ required (codes "ASSET") ∷ []
 rules_of job.Log = required (codes "DB") ∷ []
+rules_of job.Diff = required (codes "DB") ∷ []
+rules_of job.Draft = required (codes "WHAT") ∷ required (codes "DB") ∷ []
 rules_of job.Audit = required (codes "DB") ∷ []
 rules_of job.Serve = required (codes "DB") ∷ required (codes "PORT") ∷ required (codes "MAX") ∷ []
 rules_of job.Page = required (codes "DIR") ∷ []
 
--- what may be left out: those jobs that may make a file have `--sums`, those that do a sheet also `--resume`, `--all` and `--whole`, a service also `--log`, `--end-on-fault`, `--most-reply` and `--page`, a check and a tidying say of which kind their sheet is, a place on a link has its millimetre, a diagram has its classes and its ends, a list may be narrowed, told in another form, and has `--text` and `--columns`, lengths have classes by which they are told, an overlay may be of gaps alone, and a log has its end and its sum
+-- what may be left out: those jobs that may make a file have `--sums`, those that do a sheet also `--resume`, `--all`, `--whole` and `--ask`, a service also `--log`, `--end-on-fault`, `--most-reply` and `--page`, a check and a tidying say of which kind their sheet is, a check may tell the difference, a difference has another inventory or its first edit, a draft has its words, a number and the front of its keys, a place on a link has its millimetre, a diagram has its classes and its ends, a list may be narrowed, told in another form, and has `--text` and `--columns`, lengths have classes by which they are told, an overlay may be of gaps alone, and a log has its end and its sum
 abbrev pub options_of : JobName → List Rule
-options_of job.Edit = flag (codes "sums") ∷ flag (codes "resume") ∷ flag (codes "all") ∷ flag (codes "whole") ∷ []
-options_of job.Survey = flag (codes "sums") ∷ flag (codes "resume") ∷ flag (codes "all") ∷ flag (codes "whole") ∷ []
-options_of job.Check = flag (codes "survey") ∷ []
+options_of job.Edit = flag (codes "sums") ∷ flag (codes "resume") ∷ flag (codes "all") ∷ flag (codes "whole") ∷ flag (codes "ask") ∷ []
+options_of job.Survey = flag (codes "sums") ∷ flag (codes "resume") ∷ flag (codes "all") ∷ flag (codes "whole") ∷ flag (codes "ask") ∷ []
+options_of job.Check = flag (codes "survey") ∷ flag (codes "diff") ∷ []
 options_of job.Tidy = flag (codes "survey") ∷ []
 options_of job.Serve = flag (codes "sums") ∷ flag (codes "log") ∷ flag (codes "end-on-fault") ∷ option (codes "most-reply") ∷ flag (codes "page") ∷ []
 options_of job.Where = optional (codes "MM") ∷ []
@@ -106,6 +110,8 @@ options_of job.Overlay =
 options_of job.Gone = option (codes "edit") ∷ option (codes "class") ∷ option (codes "since") ∷ option (codes "until") ∷ flag (codes "text") ∷ option (codes "columns") ∷ []
 options_of job.History = flag (codes "text") ∷ option (codes "columns") ∷ []
 options_of job.Log = optional (codes "FROM") ∷ option (codes "until") ∷ option (codes "key") ∷ flag (codes "text") ∷ flag (codes "sum") ∷ []
+options_of job.Diff = any (codes "OTHER") ∷ option (codes "since") ∷ []
+options_of job.Draft = any (codes "WORD") ∷ option (codes "number") ∷ option (codes "key") ∷ []
 options_of _ = []
 
 -- the line of a job: its name, its words and its options
@@ -123,7 +129,7 @@ with_job a j = with_subcommand a (line_of_job j)
 abbrev pub jobs : List JobName
 jobs =
     job.Edit ∷ job.Survey ∷ job.Check ∷ job.Tidy ∷ job.At ∷ job.Where ∷ job.Translate ∷ job.Strip ∷ job.Diagram ∷ job.Totals ∷ job.Lengths ∷ job.Find ∷ job.Route ∷ job.Ask ∷ job.List
-    ∷ job.Rows ∷ job.Overlay ∷ job.Gone ∷ job.History ∷ job.Log ∷ job.Audit ∷ job.Serve ∷ job.Page ∷ []
+    ∷ job.Rows ∷ job.Overlay ∷ job.Gone ∷ job.History ∷ job.Log ∷ job.Diff ∷ job.Draft ∷ job.Audit ∷ job.Serve ∷ job.Page ∷ []
 
 abbrev pub bare_line : App
 bare_line = record (new_app (codes "roadlrs")) {
@@ -137,9 +143,9 @@ line_of_program = fold with_job bare_line jobs
 -- ---- jobs
 
 abbrev pub job_name : Job → JobName
-job_name (Edit db sheet sums resume all whole) = job.Edit
-job_name (Survey db sheet sums resume all whole) = job.Survey
-job_name (Check db sheet survey) = job.Check
+job_name (Edit db sheet sums resume all whole ask) = job.Edit
+job_name (Survey db sheet sums resume all whole ask) = job.Survey
+job_name (Check db sheet survey diff) = job.Check
 job_name (Tidy file survey) = job.Tidy
 job_name (At db route method position) = job.At
 job_name (Where db route place mm) = job.Where
@@ -157,15 +163,17 @@ job_name (Overlay db classes route side from to gaps text columns) = job.Overlay
 job_name (Gone db edit class since until text columns) = job.Gone
 job_name (History db asset text columns) = job.History
 job_name (Log db from until key text sum) = job.Log
+job_name (Diff db others since) = job.Diff
+job_name (Draft what db words number key) = job.Draft
 job_name (Audit db) = job.Audit
 job_name (Serve db port max sums log end_on_fault most_reply page) = job.Serve
 job_name (Page dir) = job.Page
 
 -- its words that stand once, each with what it is called
 abbrev pub words_of : Job → List (Text × Text)
-words_of (Edit db sheet sums resume all whole) = (codes "DB", db.now) ∷ (codes "SHEET", sheet.now) ∷ []
-words_of (Survey db sheet sums resume all whole) = (codes "DB", db.now) ∷ (codes "SHEET", sheet.now) ∷ []
-words_of (Check db sheet survey) = (codes "DB", db.now) ∷ (codes "SHEET", sheet.now) ∷ []
+words_of (Edit db sheet sums resume all whole ask) = (codes "DB", db.now) ∷ (codes "SHEET", sheet.now) ∷ []
+words_of (Survey db sheet sums resume all whole ask) = (codes "DB", db.now) ∷ (codes "SHEET", sheet.now) ∷ []
+words_of (Check db sheet survey diff) = (codes "DB", db.now) ∷ (codes "SHEET", sheet.now) ∷ []
 words_of (Tidy file survey) = (codes "FILE", file.now) ∷ []
 words_of (At db route method position) = (codes "DB", db.now) ∷ (codes "ROUTE", route.now) ∷ (codes "METHOD", method.now) ∷ (codes "POS", position.now) ∷ []
 words_of (Where db route place mm) = (codes "DB", db.now) ∷ (codes "ROUTE", route.now) ∷ (codes "PLACE", place.now) ∷ []
@@ -184,15 +192,19 @@ words_of (Overlay db classes route side from to gaps text columns) = (codes "DB"
 words_of (Gone db edit class since until text columns) = (codes "DB", db.now) ∷ []
 words_of (History db asset text columns) = (codes "DB", db.now) ∷ (codes "ASSET", asset.now) ∷ []
 words_of (Log db from until key text sum) = (codes "DB", db.now) ∷ []
+words_of (Diff db others since) = (codes "DB", db.now) ∷ []
+words_of (Draft what db words number key) = (codes "WHAT", what.now) ∷ (codes "DB", db.now) ∷ []
 words_of (Audit db) = (codes "DB", db.now) ∷ []
 words_of (Serve db port max sums log end_on_fault most_reply page) = (codes "DB", db.now) ∷ (codes "PORT", port.now) ∷ (codes "MAX", max.now) ∷ []
 words_of (Page dir) = (codes "DIR", dir.now) ∷ []
 
--- the classes of a strip, a diagram or an overlay are all the words of their place
+-- the classes of a strip, a diagram or an overlay, the other inventory of a difference and the words of a draft are all the words of their place
 abbrev pub HasClasses : Job → List Row → Type 0
 HasClasses (Strip db route side classes) rows = all_of (codes "CLASS") rows ≡ Some (map (λ w. w.now) classes.items)
 HasClasses (Diagram db route classes from to) rows = unwrap_or (all_of (codes "CLASS") rows) [] ≡ map (λ w. w.now) classes.items
 HasClasses (Overlay db classes route side from to gaps text columns) rows = all_of (codes "CLASS") rows ≡ Some (map (λ w. w.now) classes.items)
+HasClasses (Diff db others since) rows = unwrap_or (all_of (codes "OTHER") rows) [] ≡ map (λ w. w.now) others.items
+HasClasses (Draft what db words number key) rows = unwrap_or (all_of (codes "WORD") rows) [] ≡ map (λ w. w.now) words.items
 HasClasses _ rows = ⊤
 
 -- the first word of this id is the one that may have been given
@@ -224,6 +236,8 @@ HasValues (History db asset text columns) rows = IsValue (codes "columns") rows 
 HasValues (Log db from until key text sum) rows =
     IsValue (codes "FROM") rows (option_map (λ w. w.now) from) × IsValue (codes "until") rows (option_map (λ w. w.now) until)
     × IsValue (codes "key") rows (option_map (λ w. w.now) key)
+HasValues (Diff db others since) rows = IsValue (codes "since") rows (option_map (λ w. w.now) since)
+HasValues (Draft what db words number key) rows = IsValue (codes "number") rows (option_map (λ w. w.now) number) × IsValue (codes "key") rows (option_map (λ w. w.now) key)
 HasValues (Serve db port max sums log end_on_fault most_reply page) rows = IsValue (codes "most-reply") rows (option_map (λ w. w.now) most_reply)
 HasValues _ rows = ⊤
 
@@ -233,28 +247,34 @@ IsSet id rows = first_of id rows ≡ Some (codes "true")
 
 -- a new file gets sums exactly where `--sums` was given
 abbrev pub HasSums : Job → List Row → Type 0
-HasSums (Edit db sheet sums resume all whole) rows = IsTrue sums ↔ IsSet (codes "sums") rows
-HasSums (Survey db sheet sums resume all whole) rows = IsTrue sums ↔ IsSet (codes "sums") rows
+HasSums (Edit db sheet sums resume all whole ask) rows = IsTrue sums ↔ IsSet (codes "sums") rows
+HasSums (Survey db sheet sums resume all whole ask) rows = IsTrue sums ↔ IsSet (codes "sums") rows
 HasSums (Serve db port max sums log end_on_fault most_reply page) rows = IsTrue sums ↔ IsSet (codes "sums") rows
 HasSums _ rows = ⊤
 
 -- a sheet goes on behind its last record that is an edit exactly where `--resume` was given
 abbrev pub HasResume : Job → List Row → Type 0
-HasResume (Edit db sheet sums resume all whole) rows = IsTrue resume ↔ IsSet (codes "resume") rows
-HasResume (Survey db sheet sums resume all whole) rows = IsTrue resume ↔ IsSet (codes "resume") rows
+HasResume (Edit db sheet sums resume all whole ask) rows = IsTrue resume ↔ IsSet (codes "resume") rows
+HasResume (Survey db sheet sums resume all whole ask) rows = IsTrue resume ↔ IsSet (codes "resume") rows
 HasResume _ rows = ⊤
 
 -- a sheet is done only if no record is refused exactly where `--all` was given
 abbrev pub HasAll : Job → List Row → Type 0
-HasAll (Edit db sheet sums resume all whole) rows = IsTrue all ↔ IsSet (codes "all") rows
-HasAll (Survey db sheet sums resume all whole) rows = IsTrue all ↔ IsSet (codes "all") rows
+HasAll (Edit db sheet sums resume all whole ask) rows = IsTrue all ↔ IsSet (codes "all") rows
+HasAll (Survey db sheet sums resume all whole ask) rows = IsTrue all ↔ IsSet (codes "all") rows
 HasAll _ rows = ⊤
 
 -- a sheet is done only if its last line has an end exactly where `--whole` was given
 abbrev pub HasWhole : Job → List Row → Type 0
-HasWhole (Edit db sheet sums resume all whole) rows = IsTrue whole ↔ IsSet (codes "whole") rows
-HasWhole (Survey db sheet sums resume all whole) rows = IsTrue whole ↔ IsSet (codes "whole") rows
+HasWhole (Edit db sheet sums resume all whole ask) rows = IsTrue whole ↔ IsSet (codes "whole") rows
+HasWhole (Survey db sheet sums resume all whole ask) rows = IsTrue whole ↔ IsSet (codes "whole") rows
 HasWhole _ rows = ⊤
+
+-- a sheet is done only where that is confirmed exactly where `--ask` was given
+abbrev pub HasAsk : Job → List Row → Type 0
+HasAsk (Edit db sheet sums resume all whole ask) rows = IsTrue ask ↔ IsSet (codes "ask") rows
+HasAsk (Survey db sheet sums resume all whole ask) rows = IsTrue ask ↔ IsSet (codes "ask") rows
+HasAsk _ rows = ⊤
 
 -- each cell of a list is written as text exactly where `--text` was given
 abbrev pub HasText : Job → List Row → Type 0
@@ -267,11 +287,12 @@ HasText (History db asset text columns) rows = IsTrue text ↔ IsSet (codes "tex
 HasText (Log db from until key text sum) rows = IsTrue text ↔ IsSet (codes "text") rows
 HasText _ rows = ⊤
 
--- measures are exact where `--exact` was given, stretches are told on links where `--on-links` was, and gaps alone where `--gaps` was, and not else
+-- measures are exact where `--exact` was given, stretches are told on links where `--on-links` was, gaps alone where `--gaps` was, and a difference where `--diff` was, and not else
 abbrev pub HasForm : Job → List Row → Type 0
 HasForm (Listing db what route exact text columns) rows = IsTrue exact ↔ IsSet (codes "exact") rows
 HasForm (Rows db route from to class asset exact on_links text columns) rows = (IsTrue exact ↔ IsSet (codes "exact") rows) × (IsTrue on_links ↔ IsSet (codes "on-links") rows)
 HasForm (Overlay db classes route side from to gaps text columns) rows = IsTrue gaps ↔ IsSet (codes "gaps") rows
+HasForm (Check db sheet survey diff) rows = IsTrue diff ↔ IsSet (codes "diff") rows
 HasForm _ rows = ⊤
 
 -- the sum of a log is asked for exactly where `--sum` was given
@@ -281,7 +302,7 @@ HasSum _ rows = ⊤
 
 -- a survey is checked or tidied exactly where `--survey` was given
 abbrev pub HasKind : Job → List Row → Type 0
-HasKind (Check db sheet survey) rows = IsTrue survey ↔ IsSet (codes "survey") rows
+HasKind (Check db sheet survey diff) rows = IsTrue survey ↔ IsSet (codes "survey") rows
 HasKind (Tidy file survey) rows = IsTrue survey ↔ IsSet (codes "survey") rows
 HasKind _ rows = ⊤
 
@@ -293,7 +314,7 @@ HasManner _ rows = ⊤
 
 -- its words stand in their places, and its options are as they were given
 abbrev pub HasWords : Job → List Row → Type 0
-HasWords j rows = (map (λ w. first_of w.0 rows) (words_of j) ≡ map (λ w. Some w.1) (words_of j)) × HasClasses j rows × HasValues j rows × HasSums j rows × HasResume j rows × HasAll j rows × HasWhole j rows × HasText j rows × HasForm j rows × HasSum j rows × HasKind j rows × HasManner j rows
+HasWords j rows = (map (λ w. first_of w.0 rows) (words_of j) ≡ map (λ w. Some w.1) (words_of j)) × HasClasses j rows × HasValues j rows × HasSums j rows × HasResume j rows × HasAll j rows × HasWhole j rows × HasAsk j rows × HasText j rows × HasForm j rows × HasSum j rows × HasKind j rows × HasManner j rows
 
 -- the job that was met has this name and these rows
 abbrev pub IsMet : Job → Option (Text × List Row) → Type 0
@@ -305,8 +326,8 @@ IsJobOf words j = IsMet j (subcommand_of line_of_program words)
 
 -- a file that the job makes gets sums of its pages
 abbrev pub has_new_sums : Job → Bool
-has_new_sums (Edit db sheet sums resume all whole) = sums
-has_new_sums (Survey db sheet sums resume all whole) = sums
+has_new_sums (Edit db sheet sums resume all whole ask) = sums
+has_new_sums (Survey db sheet sums resume all whole ask) = sums
 has_new_sums (Serve db port max sums log end_on_fault most_reply page) = sums
 has_new_sums _ = false
 

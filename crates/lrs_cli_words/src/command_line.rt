@@ -7,21 +7,20 @@ ghost use Rattle.lrs_cli_words.specs.Words.{app_of_job, bare_line, line_of_progr
 
 use crate::job::JobName;
 use crate::parts::{JobLine, LinePart, line_of};
-use crate::sheet_help::{ASKED, RECORDED, RECORDS, SURVEYED, TIDIED};
+use crate::sheet_help::{ASKED, DRAFTED, RECORDED, RECORDS, SURVEYED, TIDIED};
+use crate::word_help::{
+    ALL, AS_SUM, AS_SURVEY, AS_TEXT, ASKING, ASSET, BY, CLASS, CLASSES, COLUMNS, COMPARED, DB,
+    DIFFERING, DIR, DRAFT_WORDS, END_ON_FAULT, EXACT, EXACT_REFS, FILE, FROM_EDIT, FROM_PLACE,
+    GAPS, KEY_FRONT, MAX, METHOD, MM, MOST_REPLY, NUMBER, OF_ASSET, OF_CLASS, OF_EDIT, OF_KEY,
+    OF_LISTED_ROUTE, OF_ROUTE, OF_SIDE, ON_LINKS, OTHER, PLACE, PORT, POS, QUESTIONS, RESUME,
+    ROUTE, ROWS_FROM, ROWS_TO, SHEET, SIDE, SINCE, SINCE_EDIT, SUMS, TELLING, TO, TO_PLACE, UNTIL,
+    UNTIL_EDIT, WANTED, WHAT, WHOLE, WITH_PAGE,
+};
 use clap::Command;
 use std::alloc::{AllocError, Global};
 
 /// The version of the program, and the kit that proved it.
-static VERSION: &str = "0.8.19, proved by rattle-kit-13f logic dac8208d650f15bf";
-
-// What help says of the words.
-const DB: &str = "The inventory's file, or :memory: for a fresh one in memory";
-
-const SHEET: &str = "The sheet's file, or stdin for the standard input";
-
-const FILE: &str = "The file that a spreadsheet wrote, or stdin for the standard input";
-
-const QUESTIONS: &str = "The file of the questions, or stdin for the standard input";
+static VERSION: &str = "0.8.20, proved by rattle-kit-13f logic dac8208d650f15bf";
 
 // What help says of a list: its columns, their order, examples.
 const LENGTHS_SAID: &str =
@@ -57,100 +56,6 @@ static GENERAL: &str = "Four options go with every command, anywhere after roadl
 
 roadlrs help VERB shows the fields and the refusals of a verb of edit sheets.";
 
-const ROUTE: &str = "The name of a route";
-
-const METHOD: &str = "What POS is: abs (a measure), rel (a distance), int (a proportion)";
-
-const POS: &str = "As 3000 (abs), KM2+500 (rel, in mm) or 1/3 (int)";
-
-const TO: &str = "abs, int, rel:NAME of a referent, or link";
-
-const SIDE: &str = "The side, seen along the route: L or R";
-
-const CLASS: &str = "The names of exclusive classes";
-
-const CLASSES: &str = "The names of classes; all where none is named";
-
-const FROM_PLACE: &str = "From this place: 3000 (mm), abs:3000, rel:KM2+500 or int:1/3";
-
-const TO_PLACE: &str = "To this place; else to the end";
-
-const ASSET: &str = "The number of an asset";
-
-const PORT: &str = "A port of 127.0.0.1, from 1 to 65535";
-
-const MAX: &str = "How many connections are served, at most 1000000";
-
-const DIR: &str = "The folder that gets index.html; made where it is missing";
-
-const SUMS: &str = "Gives a new file checksums, so that damage is found";
-
-const RESUME: &str = "Goes on after the last record of the sheet that was accepted before";
-
-const ALL: &str = "Does the sheet only if no record of it is refused";
-
-const WHOLE: &str = "Does the sheet only if its last line has an end";
-
-const AS_TEXT: &str = "Writes each cell as text, for a spreadsheet";
-
-const COLUMNS: &str = "Only these columns, in this order: names of the header, a comma between two";
-
-const AS_SURVEY: &str = "The sheet is a survey";
-
-const OF_SIDE: &str = "On this side, seen along the route: L or R; else on both";
-
-const BY: &str = "By combinations of values of these exclusive classes, a comma between two";
-
-const GAPS: &str = "Only where a class has no value";
-
-const WHAT: &str = "What is listed: routes, links, classes, refs, marks or pieces";
-
-const OF_ROUTE: &str = "On this route; else on all";
-
-const OF_LISTED_ROUTE: &str = "Of refs, marks or pieces: those of this route; else of all";
-
-const ROWS_FROM: &str = "What lies after this place: 3000 (mm), abs:3000, rel:KM2+500 or int:1/3";
-
-const ROWS_TO: &str = "What lies before this place";
-
-const EXACT: &str = "Measures as whole numbers or fractions, and not as decimals";
-
-const EXACT_REFS: &str = "Of refs: measures as whole numbers or fractions, and not as decimals";
-
-const ON_LINKS: &str = "Stretches of links, with sides seen along the link";
-
-const OF_CLASS: &str = "Of this class; else of all";
-
-const OF_ASSET: &str = "Of the asset of this number; else of all";
-
-const OF_EDIT: &str = "By the edit of this number; else by all";
-
-const SINCE: &str = "By edits from this number on";
-
-const UNTIL: &str = "By edits up to this number";
-
-const PLACE: &str =
-    "A chainage of the route in millimetres, or a position: abs:3000, rel:KM2+500, int:1/3";
-
-const MM: &str = "After the word link and a link's number: a millimetre of the link";
-
-const TELLING: &str = "Writes a line for each request on standard error, and a count at the end";
-
-const END_ON_FAULT: &str = "Ends with status 3 once the inventory was not written";
-
-const MOST_REPLY: &str =
-    "How many bytes a reply has at most, 67108864 unless said; a longer one is a 503";
-
-const WITH_PAGE: &str = "Shows the web page at /; takes no sheet of a page from elsewhere";
-
-const UNTIL_EDIT: &str = "The number of the last edit; else to the last one of all";
-
-const FROM_EDIT: &str = "The number of the first edit; else from the first one of all";
-
-const OF_KEY: &str = "The edit of this key alone";
-
-const AS_SUM: &str = "The sum of all edits, or of those up to edit FROM, in place of them";
-
 static EDIT: JobLine = JobLine {
     name: "edit",
     about: "Applies an edit sheet and prints one reply per record",
@@ -163,6 +68,7 @@ static EDIT: JobLine = JobLine {
         LinePart::Switch("resume", RESUME),
         LinePart::Switch("all", ALL),
         LinePart::Switch("whole", WHOLE),
+        LinePart::Switch("ask", ASKING),
     ],
 };
 
@@ -178,6 +84,7 @@ static SURVEY: JobLine = JobLine {
         LinePart::Switch("resume", RESUME),
         LinePart::Switch("all", ALL),
         LinePart::Switch("whole", WHOLE),
+        LinePart::Switch("ask", ASKING),
     ],
 };
 
@@ -190,6 +97,7 @@ static CHECK: JobLine = JobLine {
         LinePart::Required("DB", DB),
         LinePart::Required("SHEET", SHEET),
         LinePart::Switch("survey", AS_SURVEY),
+        LinePart::Switch("diff", DIFFERING),
     ],
 };
 
@@ -425,6 +333,34 @@ static LOG: JobLine = JobLine {
     ],
 };
 
+static DIFF: JobLine = JobLine {
+    name: "diff",
+    about: "Prints what two inventories differ in",
+    example: "Examples: roadlrs diff old.db new.db
+          roadlrs diff roads.db :log log.csv
+          roadlrs diff roads.db --since 40",
+    usage: Some("roadlrs diff <DB> <OTHER> | <DB> --since <N>"),
+    parts: &[
+        LinePart::Required("DB", COMPARED),
+        LinePart::Any("OTHER", OTHER),
+        LinePart::Valued("since", "N", SINCE_EDIT),
+    ],
+};
+
+static DRAFT: JobLine = JobLine {
+    name: "draft",
+    about: "Writes an edit sheet that does what is wanted, and changes nothing",
+    example: DRAFTED,
+    usage: Some("roadlrs draft <WHAT> <DB> [WORD]..."),
+    parts: &[
+        LinePart::Required("WHAT", WANTED),
+        LinePart::Required("DB", DB),
+        LinePart::Any("WORD", DRAFT_WORDS),
+        LinePart::Valued("number", "N", NUMBER),
+        LinePart::Valued("key", "PREFIX", KEY_FRONT),
+    ],
+};
+
 static AUDIT: JobLine = JobLine {
     name: "audit",
     about: "Applies the log to an empty inventory and compares the two",
@@ -483,6 +419,8 @@ fn line_in_table(job: JobName) -> &'static JobLine
         JobName::Gone => &GONE,
         JobName::History => &HISTORY,
         JobName::Log => &LOG,
+        JobName::Diff => &DIFF,
+        JobName::Draft => &DRAFT,
         JobName::Audit => &AUDIT,
         JobName::Serve => &SERVE,
         JobName::Page => &PAGE,
@@ -553,6 +491,8 @@ pub(crate) fn program<'a>(alloc: Global) -> Result<Command<'a>, AllocError>
             JobName::Gone,
             JobName::History,
             JobName::Log,
+            JobName::Diff,
+            JobName::Draft,
             JobName::Audit,
             JobName::Serve,
             JobName::Page,

@@ -27,6 +27,8 @@ pub enum JobName {
     Gone,
     History,
     Log,
+    Diff,
+    Draft,
     Audit,
     Serve,
     Page,
@@ -34,7 +36,8 @@ pub enum JobName {
 
 /// A job, with its words as they were given. `db` is the inventory; with `sums` a new file of it
 /// gets sums of its pages. With `resume` a sheet goes on behind its last record that is an edit, with
-/// `all` it is done only if no record is refused, and with `whole` only if its last line has an end.
+/// `all` it is done only if no record is refused, with `whole` only if its last line has an end, and with
+/// `ask` only where `yes` is read from the standard input.
 /// With `text` each cell of a list is written as text, for a spreadsheet; of a list with `columns` only
 /// these are written, in the order in which they are named.
 #[derive(Drop)]
@@ -47,6 +50,7 @@ pub enum Job<'a> {
         resume: bool,
         all: bool,
         whole: bool,
+        ask: bool,
     },
     /// Does the survey `sheet`.
     Survey {
@@ -56,12 +60,15 @@ pub enum Job<'a> {
         resume: bool,
         all: bool,
         whole: bool,
+        ask: bool,
     },
-    /// Says what `sheet` would be answered, an edit sheet or a survey, and does nothing.
+    /// Says what `sheet` would be answered, an edit sheet or a survey, and does nothing. With `diff` it says what would
+    /// change.
     Check {
         db: &'a str,
         sheet: &'a str,
         survey: bool,
+        diff: bool,
     },
     /// Makes an edit sheet of what a spreadsheet wrote into the file `file`, or a survey.
     Tidy {
@@ -198,6 +205,22 @@ pub enum Job<'a> {
         text: bool,
         sum: bool,
     },
+    /// Prints what two inventories differ in: `db` and the one that `others` names; or `db` before the edit `since` and
+    /// now. `:log` and a file stand for what a log makes.
+    Diff {
+        db: &'a str,
+        others: Vec<&'a str>,
+        since: Option<&'a str>,
+    },
+    /// Prints an edit sheet that does what `what` and its words say, with assets that are numbered from `number` on and
+    /// keys that begin with `key`.
+    Draft {
+        what: &'a str,
+        db: &'a str,
+        words: Vec<&'a str>,
+        number: Option<&'a str>,
+        key: Option<&'a str>,
+    },
     /// Does the log again in memory, and compares what it makes with what is kept.
     Audit {
         db: &'a str,
@@ -245,6 +268,8 @@ pub fn new_has_sums(job: &Job<'_>) -> bool
         | Job::Gone { .. }
         | Job::History { .. }
         | Job::Log { .. }
+        | Job::Diff { .. }
+        | Job::Draft { .. }
         | Job::Audit { .. }
         | Job::Page { .. } => false,
     }
@@ -276,6 +301,8 @@ pub(crate) fn read_job(name: &str) -> Option<JobName>
         "gone" => Some(JobName::Gone),
         "history" => Some(JobName::History),
         "log" => Some(JobName::Log),
+        "diff" => Some(JobName::Diff),
+        "draft" => Some(JobName::Draft),
         "audit" => Some(JobName::Audit),
         "serve" => Some(JobName::Serve),
         "page" => Some(JobName::Page),

@@ -114,7 +114,7 @@ pub(crate) fn place_of(
     }
 }
 
-fn edit_of(text: &str, fault: BadWord) -> Result<u64, QuestionFault>
+pub(crate) fn edit_of(text: &str, fault: BadWord) -> Result<u64, QuestionFault>
     ensures read { IfOk result (SaysEdit text.now) }
     ensures unread { IfErr result (Cannot fault (SaysEdit text.now)) }
 {

@@ -75,6 +75,9 @@ pub enum BadWord {
     Port,
     Max,
     MostReply,
+    Compared,
+    Draft,
+    AskOfStdin,
 }
 
 /// What the word is not.
@@ -127,6 +130,11 @@ impl fmt::Display for BadWord {
             BadWord::Port => f.write_str("PORT is no port number"),
             BadWord::Max => f.write_str("MAX is no number of connections"),
             BadWord::MostReply => f.write_str("BYTES is no length of a reply"),
+            BadWord::Compared => f.write_str("diff takes two inventories, or one and --since N"),
+            BadWord::Draft => f.write_str("the words say no draft"),
+            BadWord::AskOfStdin => f.write_str(
+                "--ask reads the standard input, so that SHEET is a file",
+            ),
         }
     }
 }
@@ -436,6 +444,8 @@ pub fn question_of(alloc: Global, job: &Job<'_>) -> Result<Option<Question>, Que
         | Job::Tidy { .. }
         | Job::Ask { .. }
         | Job::Log { sum: true, .. }
+        | Job::Diff { .. }
+        | Job::Draft { .. }
         | Job::Audit { .. }
         | Job::Serve { .. }
         | Job::Page { .. } => return Ok(None),

@@ -63,6 +63,23 @@ roadlrs help route shows the verb.
 
 Example: roadlrs route roads.db A1 > a1.csv";
 
+// What help says of a sheet that is drafted.
+pub(crate) const DRAFTED: &str = "WHAT, DB and the words behind it:
+  split DB ROUTE PLACE NEW                  divides a route at a place
+  bypass DB ROUTE FROM TO PIECES OLD        new ground; the old road is OLD
+  retire DB ASSET                           takes an asset away wholly
+  replace DB ASSET NUMBER VALUE             a new asset where the old one lay
+  move DB ASSET NUMBER ROUTE PLACE [PLACE]  the same asset at another place
+  merge DB ROUTE ROUTE...                   joins routes in this order
+  undo DB                                   undoes the last edit
+NUMBER is that of the new asset, NEW and OLD are names of new routes.
+PLACE, FROM and TO: 3000 (mm), abs:3000, rel:KM2+500 or int:1/3.
+PIECES: LINK:FROM:TO:+ or LINK:FROM:TO:-, one space between two of them.
+--number N numbers the assets that undo enters anew, from N on. --key PREFIX
+begins the keys of the records; else they begin with DRAFT-.
+
+Example: roadlrs draft split roads.db A1 3000 A1N > split.csv";
+
 // What help says of the records of a sheet of questions.
 pub(crate) const ASKED: &str =
     "A record has a key, a question and its fields a to d, 6 fields in all:

@@ -1,9 +1,10 @@
 //! Which job the words ask for.
 
-ghost use Rattle.std.specs.Prelude.{◌≡◌, ◌≢◌, ◌↔◌, IsTrue, IfOk, Err, IfSome, IfNone, Some, None, [], is_some, map, true, unwrap_or};
-ghost use Rattle.clap.specs.Words.{all_of, first_of, found_of, kind_of, rows_of, subcommand_rows_of};
-ghost use Rattle.lrs_cli_words.specs.Words.{AreGiven, AsksForHelp, AsksForVersion, HasJobWords, HasWords, IsJobOf, IsMet, IsMisused, IsSet, job_name, rules_of};
+ghost use Rattle.std.specs.Prelude.{◌≡◌, ◌≢◌, IfOk, Err, map};
+ghost use Rattle.clap.specs.Words.{found_of, kind_of, rows_of, subcommand_rows_of};
+ghost use Rattle.lrs_cli_words.specs.Words.{AreGiven, AsksForHelp, AsksForVersion, HasJobWords, HasWords, IsJobOf, IsMet, IsMisused, job_name, rules_of};
 
+use crate::arguments::{copied_words, given_word, given_words, is_set, word_in};
 use crate::command_line::program;
 use crate::job::{Job, JobName, read_job};
 use clap::error::ErrorKind;
@@ -56,57 +57,6 @@ fn fault_of(alloc: Global, error: &Error) -> WordsFault
     }
 }
 
-// The word that was given for this id.
-fn word_in<'a>(given: &ArgMatches<'a>, id: &str) -> Option<&'a str>
-    ensures none { IfNone result (first_of id.now (rows_of (found_of given.now)) ≡ None) }
-    ensures some { IfSome result (λ word. first_of id.now (rows_of (found_of given.now))
-        ≡ Some word.now) }
-{
-    given.get_str(id)
-}
-
-// All words that were given for this id.
-fn words_in<'g, 'a>(given: &'g ArgMatches<'a>, id: &str) -> Option<&'g [&'a str]>
-    ensures none { IfNone result (first_of id.now (rows_of (found_of given.now)) ≡ None) }
-    ensures none_at_all { IfNone result (all_of id.now (rows_of (found_of given.now)) ≡ None) }
-    ensures some { IfSome result (λ words. all_of id.now (rows_of (found_of given.now))
-        ≡ Some (map (λ w. w.now) words.now)) }
-{
-    given.get_strs(id)
-}
-
-// The word of this id, where one was given.
-fn given_word<'a>(given: &ArgMatches<'a>, id: &str) -> &'a str
-    requires { is_some (first_of id.now (rows_of (found_of given.now))) ≡ true }
-    ensures { first_of id.now (rows_of (found_of given.now)) ≡ Some result.now }
-{
-    match word_in(given, id) {
-        Some(word) => word,
-        None => unreachable!(),
-    }
-}
-
-// All words of this id, where one was given.
-fn given_words<'g, 'a>(given: &'g ArgMatches<'a>, id: &str) -> &'g [&'a str]
-    requires { is_some (first_of id.now (rows_of (found_of given.now))) ≡ true }
-    ensures { all_of id.now (rows_of (found_of given.now)) ≡ Some (map (λ w. w.now) result.now) }
-{
-    match words_in(given, id) {
-        Some(words) => words,
-        None => unreachable!(),
-    }
-}
-
-// The option of this id was given.
-fn is_set(given: &ArgMatches<'_>, id: &str) -> bool
-    ensures { IsTrue result ↔ IsSet id.now (rows_of (found_of given.now)) }
-{
-    match word_in(given, id) {
-        Some(word) => word == "true",
-        None => false,
-    }
-}
-
 fn edit_job<'a>(given: &ArgMatches<'a>) -> Job<'a>
     requires { AreGiven (rules_of JobName.Edit) (rows_of (found_of given.now)) }
     ensures name { job_name result ≡ JobName.Edit }
@@ -118,6 +68,7 @@ fn edit_job<'a>(given: &ArgMatches<'a>) -> Job<'a>
     let resume = is_set(given, "resume");
     let all = is_set(given, "all");
     let whole = is_set(given, "whole");
+    let ask = is_set(given, "ask");
     Job::Edit {
         db,
         sheet,
@@ -125,6 +76,7 @@ fn edit_job<'a>(given: &ArgMatches<'a>) -> Job<'a>
         resume,
         all,
         whole,
+        ask,
     }
 }
 
@@ -139,6 +91,7 @@ fn survey_job<'a>(given: &ArgMatches<'a>) -> Job<'a>
     let resume = is_set(given, "resume");
     let all = is_set(given, "all");
     let whole = is_set(given, "whole");
+    let ask = is_set(given, "ask");
     Job::Survey {
         db,
         sheet,
@@ -146,6 +99,7 @@ fn survey_job<'a>(given: &ArgMatches<'a>) -> Job<'a>
         resume,
         all,
         whole,
+        ask,
     }
 }
 
@@ -157,7 +111,13 @@ fn check_job<'a>(given: &ArgMatches<'a>) -> Job<'a>
     let db = given_word(given, "DB");
     let sheet = given_word(given, "SHEET");
     let survey = is_set(given, "survey");
-    Job::Check { db, sheet, survey }
+    let diff = is_set(given, "diff");
+    Job::Check {
+        db,
+        sheet,
+        survey,
+        diff,
+    }
 }
 
 fn tidy_job<'a>(given: &ArgMatches<'a>) -> Job<'a>
@@ -239,22 +199,6 @@ fn strip_job<'a>(alloc: Global, given: &ArgMatches<'a>) -> Result<Job<'a>, Alloc
         side,
         classes,
     })
-}
-
-// A copy of the words that were given for this id: of none where it was not given.
-fn copied_words<'a>(
-    alloc: Global,
-    given: &ArgMatches<'a>,
-    id: &str,
-) -> Result<Vec<&'a str>, AllocError>
-    ensures { IfOk result (λ words. unwrap_or (all_of id.now (rows_of (found_of given.now))) []
-        ≡ map (λ w. w.now) words.items) }
-{
-    let mut words = Vec::new(alloc);
-    if let Some(named) = words_in(given, id) {
-        words.extend_from_slice(named)?;
-    }
-    Ok(words)
 }
 
 fn diagram_job<'a>(alloc: Global, given: &ArgMatches<'a>) -> Result<Job<'a>, AllocError>
@@ -471,6 +415,37 @@ fn log_job<'a>(given: &ArgMatches<'a>) -> Job<'a>
     }
 }
 
+fn diff_job<'a>(alloc: Global, given: &ArgMatches<'a>) -> Result<Job<'a>, AllocError>
+    requires { AreGiven (rules_of JobName.Diff) (rows_of (found_of given.now)) }
+    ensures name { IfOk result (λ job. job_name job ≡ JobName.Diff) }
+    ensures words { IfOk result (λ job. HasWords job (rows_of (found_of given.now))) }
+{
+    let db = given_word(given, "DB");
+    let others = copied_words(alloc, given, "OTHER")?;
+    Ok(Job::Diff {
+        db,
+        others,
+        since: word_in(given, "since"),
+    })
+}
+
+fn draft_job<'a>(alloc: Global, given: &ArgMatches<'a>) -> Result<Job<'a>, AllocError>
+    requires { AreGiven (rules_of JobName.Draft) (rows_of (found_of given.now)) }
+    ensures name { IfOk result (λ job. job_name job ≡ JobName.Draft) }
+    ensures words { IfOk result (λ job. HasWords job (rows_of (found_of given.now))) }
+{
+    let what = given_word(given, "WHAT");
+    let db = given_word(given, "DB");
+    let words = copied_words(alloc, given, "WORD")?;
+    Ok(Job::Draft {
+        what,
+        db,
+        words,
+        number: word_in(given, "number"),
+        key: word_in(given, "key"),
+    })
+}
+
 fn audit_job<'a>(given: &ArgMatches<'a>) -> Job<'a>
     requires { AreGiven (rules_of JobName.Audit) (rows_of (found_of given.now)) }
     ensures name { job_name result ≡ JobName.Audit }
@@ -541,6 +516,8 @@ fn job_with<'a>(alloc: Global, name: JobName, given: &ArgMatches<'a>) -> Result<
         JobName::Gone => Ok(gone_job(given)),
         JobName::History => Ok(history_job(given)),
         JobName::Log => Ok(log_job(given)),
+        JobName::Diff => diff_job(alloc, given),
+        JobName::Draft => draft_job(alloc, given),
         JobName::Audit => Ok(audit_job(given)),
         JobName::Serve => Ok(serve_job(given)),
         JobName::Page => Ok(page_job(given)),

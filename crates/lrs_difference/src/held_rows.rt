@@ -19,7 +19,7 @@ use std::io::Write;
 
 /// A stretch of a link that an asset holds in one inventory alone.
 #[derive(Clone, Copy)]
-pub(crate) struct HeldRow {
+pub struct HeldRow {
     pub asset: AssetFacts,
     pub stretch: LinkStretch,
 }

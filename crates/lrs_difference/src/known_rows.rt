@@ -61,7 +61,10 @@ fn known_rows(
 }
 
 /// What assets hold in one inventory and not in another, by asset, link and start.
-fn only_held(
+///
+/// # Errors
+/// When memory runs out.
+pub fn only_held(
     alloc: Global,
     one: &ImageLists,
     other: &ImageLists,

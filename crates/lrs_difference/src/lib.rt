@@ -15,7 +15,9 @@ mod sweep;
 mod text;
 
 pub use groups::{a_difference_is_its_groups, write_listed_differences};
-pub use known_rows::write_difference;
+pub use held_rows::HeldRow;
+pub use known_rows::{only_held, write_difference};
 pub use line::{AssetFacts, Item, Line, Sign};
 pub use link_stretches::{HeldStretch, held_stretches};
+pub use referent_list::{PlacedReferent, referents_by_name};
 pub use text::{sign_text, write_line, write_lines};

@@ -26,7 +26,7 @@ use std::io::Write;
 
 /// A referent, and its millimetre of a link.
 #[derive(Clone, Copy)]
-pub(crate) struct PlacedReferent {
+pub struct PlacedReferent {
     pub name: RefName,
     pub link: u32,
     pub mm: u32,
@@ -153,7 +153,7 @@ fn in_chunks(
 ///
 /// # Errors
 /// When memory runs out.
-pub(crate) fn referents_by_name(
+pub fn referents_by_name(
     alloc: Global,
     kept: &ImageLists,
 ) -> Result<Chunked<PlacedReferent>, AllocError>

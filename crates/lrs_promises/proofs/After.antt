@@ -1,6 +1,5 @@
 -- Whatever ends a sheet or a request, commands were done in order.
-use Rattle.std.specs.Prelude.{MatchOption}
-use Rattle.std.proofs.Common.{◌≡◌, inl, inr, Bool, true, false, [], ◌++◌, Option, Some, None, Result, sym, ap, ◌∙◌}
+use Rattle.std.proofs.Common.{◌≡◌, inl, inr, Bool, true, false, [], ◌++◌, Result, sym, ap, ◌∙◌}
 use Rattle.lrs_machine.specs.Image.{state_of}
 use Rattle.lrs_machine.specs.Lines.{Text}
 use Rattle.lrs_machine.specs.Machine.{state_after}
@@ -9,13 +8,12 @@ use Rattle.lrs_machine.specs.declared.answer.Limits.{Limits}
 use Rattle.lrs_machine.specs.declared.image.Image.{Image}
 use Rattle.lrs_machine.specs.declared.table.Table.{Table}
 use Rattle.lrs_desk.specs.DeskView.{DeskView}
-use Rattle.lrs_sheet_records.specs.declared.sheet.Sheet.{Sheet}
 use Rattle.lrs_sheet.specs.Sheets.{IsAfterCommands}
 use Rattle.lrs_web_requests.specs.Request.{Asked, refused, not_allowed, page, query, sheet as posted}
 use Rattle.lrs_web_requests.specs.Text.{Answer}
-use Rattle.lrs_web.specs.Questions.{AnswersQuestions}
-use Rattle.lrs_web.specs.RequestAnswers.{Does, sheet_at}
-use Rattle.lrs_web.specs.Sheets.{DoesSheet}
+use Rattle.lrs_web.specs.RequestAnswers.{Does, DoesPosted, posted_at}
+use Rattle.lrs_web.specs.declared.request.Posted.{Posted}
+use Rattle.lrs_web.specs.declared.request.Posted.TheVariants as post
 use Rattle.lrs_promises.proofs.Given.{state_both}
 
 -- nothing was done
@@ -30,12 +28,12 @@ module _ {K : Type 0} (holds : K → Result Image Table → Type 0) (old new : D
   same_after same = none_after old.limits (state_of old.image) (state_of new.image) (ap (λ (d : DeskView K). state_of d.image) same)
 
   -- what is posted is some commands in order
-  posted_after : (kind : Option Sheet) (resumes : Bool) (body : Text) (answer : Answer) → MatchOption kind (AnswersQuestions body old answer new) (λ k. DoesSheet holds k resumes body old answer new)
-      → IsAfterCommands old.limits (state_of old.image) (state_of new.image)
-  posted_after None resumes body answer (same, told, ahead) = same_after same
-  posted_after (Some kind) false body answer (ended, lines, run, is) = run.left
-  posted_after (Some kind) true body answer (inl (ended, lines, run, is)) = run.left
-  posted_after (Some kind) true body answer (inr (twice, repeated, same, is)) = same_after same
+  posted_after : (what : Posted) (resumes : Bool) (body : Text) (answer : Answer) → DoesPosted holds what resumes body old answer new → IsAfterCommands old.limits (state_of old.image) (state_of new.image)
+  posted_after post.Questions resumes body answer (same, told, ahead) = same_after same
+  posted_after (post.Trial kind) resumes body answer (same, told, ahead) = same_after same
+  posted_after (post.Sheet kind) false body answer (ended, lines, run, is) = run.left
+  posted_after (post.Sheet kind) true body answer (inl (ended, lines, run, is)) = run.left
+  posted_after (post.Sheet kind) true body answer (inr (twice, repeated, same, is)) = same_after same
 
   -- so is what a request asks for
   pub does_after : (asked : Asked) (answer : Answer) → Does holds asked old answer new → IsAfterCommands old.limits (state_of old.image) (state_of new.image)
@@ -43,4 +41,4 @@ module _ {K : Type 0} (holds : K → Result Image Table → Type 0) (old new : D
   does_after (not_allowed verb) answer does = same_after does.0
   does_after (page text) answer does = same_after does.0
   does_after (query resource format argument) answer does = same_after does.0
-  does_after (posted resource resumes body) answer does = posted_after (sheet_at resource) resumes body answer does
+  does_after (posted resource resumes body) answer does = posted_after (posted_at resource) resumes body answer does

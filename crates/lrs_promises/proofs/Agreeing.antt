@@ -274,7 +274,9 @@ module _ (format : Format) (page : Page) (query : Text) (one two : Answer) (serv
       state_tells path.Gone read = absurd (false≢true read)
       state_tells path.Where read = absurd (false≢true read)
       state_tells path.Edits read = absurd (false≢true read)
+      state_tells path.EditsCheck read = absurd (false≢true read)
       state_tells path.Surveys read = absurd (false≢true read)
+      state_tells path.SurveysCheck read = absurd (false≢true read)
       state_tells path.Questions read = absurd (false≢true read)
 
   -- ---- what is told by the rows of an inventory, but for those of its ledgers
@@ -381,7 +383,9 @@ module _ (format : Format) (page : Page) (query : Text) (one two : Answer) (serv
     rows_tell path.History read = absurd read
     rows_tell path.Where read = where_alike
     rows_tell path.Edits read = nothing_alike path.Edits (λ x. x) (λ q asks. asks) (λ k a none. absurd none)
+    rows_tell path.EditsCheck read = nothing_alike path.EditsCheck (λ x. x) (λ q asks. asks) (λ k a none. absurd none)
     rows_tell path.Surveys read = nothing_alike path.Surveys (λ x. x) (λ q asks. asks) (λ k a none. absurd none)
+    rows_tell path.SurveysCheck read = nothing_alike path.SurveysCheck (λ x. x) (λ q asks. asks) (λ k a none. absurd none)
     rows_tell path.Questions read = nothing_alike path.Questions (λ x. x) (λ q asks. asks) (λ k a none. absurd none)
 
   state_known : (i j : Image) → IsSound i → IsSound j → state_of i ≡ state_of j → (resource : Resource) → IsOfState (asked resource format query) → AnswersPage i format page resource query one → AnswersPage j format page resource query two → one ≡ two
@@ -424,7 +428,9 @@ module _ (format : Format) (page : Page) (query : Text) (one two : Answer) (serv
     image_known path.Gone = gone_alike
     image_known path.Where = rows_tell i i refl path.Where tt
     image_known path.Edits = rows_tell i i refl path.Edits tt
+    image_known path.EditsCheck = rows_tell i i refl path.EditsCheck tt
     image_known path.Surveys = rows_tell i i refl path.Surveys tt
+    image_known path.SurveysCheck = rows_tell i i refl path.SurveysCheck tt
     image_known path.Questions = rows_tell i i refl path.Questions tt
 
 -- ---- with the page that the query gives

@@ -1,6 +1,6 @@
 -- The commands that connections give make the state.
-use Rattle.std.specs.Prelude.{MatchOption, OnErr}
-use Rattle.std.proofs.Common.{◌≡◌, ◌⊎◌, inl, inr, ℕ, ◌+◌, Bool, true, false, List, [], ◌∷◌, ◌++◌, map, take, drop, append_assoc, Option, Some, None, IfOk, Result, Ok, Err, refl, sym, ap, subst, ◌∙◌}
+use Rattle.std.specs.Prelude.{OnErr}
+use Rattle.std.proofs.Common.{◌≡◌, ◌⊎◌, inl, inr, ℕ, ◌+◌, Bool, true, false, List, [], ◌∷◌, ◌++◌, take, drop, append_assoc, Option, Some, IfOk, Result, Ok, Err, refl, sym, ap, subst, ◌∙◌}
 use Rattle.std.proofs.lemmas.List.{take-append-drop}
 use Rattle.lrs_machine.specs.Image.{state_of}
 use Rattle.lrs_machine.specs.Lines.{Text}
@@ -26,9 +26,9 @@ use Rattle.lrs_sheet.specs.declared.reply.Tally.{Tally}
 use Rattle.lrs_sheet.proofs.Waits.{replied-append}
 use Rattle.lrs_web_requests.specs.Request.{Asked, refused, not_allowed, page, query, sheet as posted}
 use Rattle.lrs_web_requests.specs.Text.{Answer}
-use Rattle.lrs_web.specs.Questions.{AnswersQuestions}
-use Rattle.lrs_web.specs.RequestAnswers.{Does, sheet_at}
-use Rattle.lrs_web.specs.Sheets.{DoesSheet}
+use Rattle.lrs_web.specs.RequestAnswers.{Does, DoesPosted, posted_at}
+use Rattle.lrs_web.specs.declared.request.Posted.{Posted}
+use Rattle.lrs_web.specs.declared.request.Posted.TheVariants as post
 use Rattle.lrs_web.specs.Visits.{Exchange, IsCut, IsFull, Visited, Visits, nobody, full_visit, cut_visit}
 use Rattle.lrs_web.specs.declared.door.Served.{Served}
 use Rattle.lrs_promises.specs.Calls.{GivesAsked, GivesBehind, GivesPosted, GivesRest}
@@ -169,14 +169,15 @@ module _ {K : Type 0} (holds : K → Result Image Table → Type 0) (shown : Opt
   first_made : (G : List Record → Type 0) (old new : DeskView K) → GaveFirst old.limits G (state_of old.image) (state_of new.image) → new.limits ≡ old.limits → Made (GivesFirst G) old new
   first_made G old new gave limits = record { commands = gave.commands; gives = gave.gives; state = gave.state; limits = limits }
 
-  posted_made : (kind : Option Sheet) (resumes : Bool) (body : Text) (answer : Answer) (old new : DeskView K)
-      → MatchOption kind (AnswersQuestions body old answer new) (λ k. DoesSheet holds k resumes body old answer new) → Made (GivesFirst (GivesPosted kind resumes body (state_of old.image))) old new
-  posted_made None resumes body answer old new (same, told, ahead) = none_made (GivesFirst (GivesPosted None resumes body (state_of old.image))) old new (inl refl) same
-  posted_made (Some kind) false body answer old new (ended, lines, run, is) =
+  posted_made : (what : Posted) (resumes : Bool) (body : Text) (answer : Answer) (old new : DeskView K) → DoesPosted holds what resumes body old answer new
+      → Made (GivesFirst (GivesPosted what resumes body (state_of old.image))) old new
+  posted_made post.Questions resumes body answer old new (same, told, ahead) = none_made (GivesFirst (GivesPosted post.Questions resumes body (state_of old.image))) old new (inl refl) same
+  posted_made (post.Trial kind) resumes body answer old new (same, told, ahead) = none_made (GivesFirst (GivesPosted (post.Trial kind) resumes body (state_of old.image))) old new (inl refl) same
+  posted_made (post.Sheet kind) false body answer old new (ended, lines, run, is) =
       first_made (GivesBehind [] kind body) old new
       (behind_gave [] kind records_together old.limits body (state_of old.image) (state_of new.image) (Some []) (Some lines) ended run.runs) (same_limits old new ended run.desk)
-  posted_made (Some kind) true body answer old new (inr (twice, repeated, same, is)) = none_made (GivesFirst (GivesPosted (Some kind) true body (state_of old.image))) old new (inl refl) same
-  posted_made (Some kind) true body answer old new (inl (ended, lines, run, is)) =
+  posted_made (post.Sheet kind) true body answer old new (inr (twice, repeated, same, is)) = none_made (GivesFirst (GivesPosted (post.Sheet kind) true body (state_of old.image))) old new (inl refl) same
+  posted_made (post.Sheet kind) true body answer old new (inl (ended, lines, run, is)) =
       first_made (GivesRest kind body (state_of old.image)) old new
       (rest_gave_first old.must_reopen kind records_together old.limits body (state_of old.image) (state_of new.image) (Some []) (Some lines) ended run.runs) (same_limits old new ended run.desk)
 
@@ -185,7 +186,7 @@ module _ {K : Type 0} (holds : K → Result Image Table → Type 0) (shown : Opt
   asked_made (not_allowed verb) answer old new does = none_made (GivesFirst (GivesAsked (not_allowed verb) (state_of old.image))) old new (inl refl) does.0
   asked_made (page text) answer old new does = none_made (GivesFirst (GivesAsked (page text) (state_of old.image))) old new (inl refl) does.0
   asked_made (query resource format argument) answer old new does = none_made (GivesFirst (GivesAsked (query resource format argument) (state_of old.image))) old new (inl refl) does.0
-  asked_made (posted resource resumes body) answer old new does = posted_made (sheet_at resource) resumes body answer old new does
+  asked_made (posted resource resumes body) answer old new does = posted_made (posted_at resource) resumes body answer old new does
 
   -- ---- connections
 

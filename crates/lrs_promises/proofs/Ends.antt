@@ -1,7 +1,6 @@
 -- Equal bytes and equal states give equal bytes and equal states.
-use Rattle.std.specs.Prelude.{MatchOption, ⊤}
 use Rattle.std.specs.List.{AllByRecursion}
-use Rattle.std.proofs.Common.{◌≡◌, ◌⊎◌, inl, inr, ℕ, Bool, true, false, List, [], ◌∷◌, ◌++◌, append-nil, append_assoc, Option, Some, None, Result, Ok, Err, refl, sym, ap, subst, ◌∙◌}
+use Rattle.std.proofs.Common.{◌≡◌, ◌⊎◌, inl, inr, ℕ, Bool, true, false, List, [], ◌∷◌, ◌++◌, append-nil, append_assoc, Option, Some, Result, Ok, Err, refl, sym, ap, subst, ◌∙◌}
 use Rattle.std.proofs.lemmas.Bool.{false≢true}
 use Rattle.lrs_machine.specs.Image.{state_of}
 use Rattle.lrs_machine.specs.Lines.{Text}
@@ -32,18 +31,19 @@ use Rattle.lrs_sheet_questions.specs.declared.tally.QuestionTally.{QuestionTally
 use Rattle.lrs_web_requests.specs.Request.{Asked, refused, not_allowed, page, query, sheet as posted}
 use Rattle.lrs_web_requests.specs.Text.{Answer, answer_text, empty_answer}
 use Rattle.lrs_web.specs.QueryAnswers.{AnswersAsked}
-use Rattle.lrs_web.specs.Questions.{AnswersQuestions, RepliesToQuestions}
-use Rattle.lrs_web.specs.RequestAnswers.{Does, sheet_at}
-use Rattle.lrs_web.specs.Sheets.{DoesSheet, IsAnswerAfter, answer_after}
+use Rattle.lrs_web.specs.Questions.{RepliesToQuestions}
+use Rattle.lrs_web.specs.RequestAnswers.{Does, DoesPosted, posted_at}
+use Rattle.lrs_web.specs.declared.request.Posted.{Posted}
+use Rattle.lrs_web.specs.declared.request.Posted.TheVariants as post
+use Rattle.lrs_web.specs.Sheets.{IsAnswerAfter, answer_after}
 use Rattle.lrs_promises.specs.Calls.{Did, is_decided}
-use Rattle.lrs_promises.specs.Determinism.{AsksNoHistory, CallsEndAlike, EndAlike, IsCallOfState, IsOfNoHistory, IsOfState, IsQuestion, OnlyAsks, QuestionSheetsEndAlike, QuestionsEndAlike, ResumedEndAlike, SameInventories, SheetsEndAlike, StandAlike, WroteAlike}
+use Rattle.lrs_promises.specs.Determinism.{AsksNoHistory, CallsEndAlike, EndAlike, IsCallOfState, IsOfNoHistory, IsOfState, IsPostedOfState, IsQuestion, OnlyAsks, QuestionSheetsEndAlike, QuestionsEndAlike, ResumedEndAlike, SameInventories, SheetsEndAlike, StandAlike, WroteAlike}
 use Rattle.lrs_promises.specs.declared.calls.Call.{Call}
 use Rattle.lrs_promises.specs.declared.calls.Call.TheVariants as call
 use Rattle.lrs_promises.proofs.Agreeing.{image_alike, state_alike}
 use Rattle.lrs_promises.proofs.OneInventory.{same_inventories}
 use Rattle.lrs_promises.proofs.Framed.{Alike, Framed, PassAlike, all_begin, each, empty, framed_alike, neither, other_header, other_width, whole}
 use Rattle.lrs_promises.proofs.Given.{answer_decided, call_gave, undecided}
-use Rattle.lrs_promises.proofs.Once.{some_is_not_none}
 use Rattle.lrs_promises.proofs.Replied.{replies_alike}
 use Rattle.lrs_promises.proofs.Resumed.{one_decided}
 
@@ -225,30 +225,30 @@ questions_alike body one two i j same one_inventory asks (ended, lines, runs, is
     same_answer ended end lines more one two h is served too also
 
 module _ {K J : Type 0} (holds : K → Result Image Table → Type 0) (has : J → Result Image Table → Type 0) where
-  posted_alike : (kind : Option Sheet) (resumes : Bool) (body : Text) (one two : Answer) (old new : DeskView K) (before after : DeskView J) → MatchOption kind (AsksNoHistory body) (λ k. ⊤) → StandAlike old before
-      → MatchOption kind (AnswersQuestions body old one new) (λ k. DoesSheet holds k resumes body old one new) → (one.status ≡ 503 → ⊥)
-      → MatchOption kind (AnswersQuestions body before two after) (λ k. DoesSheet has k resumes body before two after) → (two.status ≡ 503 → ⊥)
+  posted_alike : (what : Posted) (resumes : Bool) (body : Text) (one two : Answer) (old new : DeskView K) (before after : DeskView J) → IsPostedOfState what body → StandAlike old before
+      → DoesPosted holds what resumes body old one new → (one.status ≡ 503 → ⊥) → DoesPosted has what resumes body before two after → (two.status ≡ 503 → ⊥)
       → SameEnd (answer_text one) (answer_text two) (state_of new.image) (state_of after.image)
-  posted_alike None resumes body one two old new before after asks stand did served done also = record {
+  posted_alike (post.Trial kind) resumes body one two old new before after asks stand did served done also = absurd asks
+  posted_alike post.Questions resumes body one two old new before after asks stand did served done also = record {
     wrote = questions_alike body one two old.image before.image stand.state (same_inventories old.image before.image stand.sound stand.also stand.state) (inl asks) (answered_so _ one served did.1) served (answered_so _ two also done.1) also;
     state = ap (λ (d : DeskView K). state_of d.image) did.0 ∙ stand.state ∙ sym (ap (λ (d : DeskView J). state_of d.image) done.0);
   }
-  posted_alike (Some kind) true body one two old new before after asks stand (inr (twice, repeated, same, is)) served (inr (again, repeats, remains, too)) also = record {
+  posted_alike (post.Sheet kind) true body one two old new before after asks stand (inr (twice, repeated, same, is)) served (inr (again, repeats, remains, too)) also = record {
     wrote = ap answer_text (answered_so _ one served is ∙ sym (answered_so _ two also too));
     state = ap (λ (d : DeskView K). state_of d.image) same ∙ stand.state ∙ sym (ap (λ (d : DeskView J). state_of d.image) remains);
   }
-  posted_alike (Some kind) true body one two old new before after asks stand (inl (ended, lines, run, is)) served (inr (again, repeats, remains, too)) also =
+  posted_alike (post.Sheet kind) true body one two old new before after asks stand (inl (ended, lines, run, is)) served (inr (again, repeats, remains, too)) also =
       let once = gone_on_once old.must_reopen kind records_together old.limits body (state_of old.image) (state_of new.image) (Some []) (Some lines) ended (answer_decided ended lines one is served) run.runs in
       absurd (repeated_not_once kind body again repeats once)
-  posted_alike (Some kind) true body one two old new before after asks stand (inr (twice, repeated, same, is)) served (inl (end, more, running, too)) also =
+  posted_alike (post.Sheet kind) true body one two old new before after asks stand (inr (twice, repeated, same, is)) served (inl (end, more, running, too)) also =
       let once = gone_on_once before.must_reopen kind records_together before.limits body (state_of before.image) (state_of after.image) (Some []) (Some more) end (answer_decided end more two too also) running.runs in
       absurd (repeated_not_once kind body twice repeated once)
-  posted_alike (Some kind) true body one two old new before after asks stand (inl (ended, lines, run, is)) served (inl (end, more, running, too)) also =
+  posted_alike (post.Sheet kind) true body one two old new before after asks stand (inl (ended, lines, run, is)) served (inl (end, more, running, too)) also =
       let runs = coe 0 1 (k. Resumes old.must_reopen kind records_together (stand.limits k) body (stand.state k) (state_of new.image) (Some []) (Some lines) ended) run.runs in
       let h = resumed_end_alike kind old.must_reopen before.must_reopen records_together records_together before.limits body (state_of before.image) (state_of new.image) (state_of after.image) [] lines [] more ended end
       (answer_decided ended lines one is served) (answer_decided end more two too also) runs running.runs in
       record { wrote = same_answer ended end lines more one two h.wrote is served too also; state = h.state }
-  posted_alike (Some kind) false body one two old new before after asks stand (ended, lines, run, is) served (end, more, running, too) also =
+  posted_alike (post.Sheet kind) false body one two old new before after asks stand (ended, lines, run, is) served (end, more, running, too) also =
       let runs = coe 0 1 (k. Runs kind records_together (stand.limits k) body (stand.state k) (state_of new.image) (Some []) (Some lines) ended) run.runs in
       let h = sheets_end_alike kind records_together records_together before.limits body (state_of before.image) (state_of new.image) (state_of after.image) [] lines [] more ended end
       (answer_decided ended lines one is served) (answer_decided end more two too also) runs running.runs in
@@ -272,7 +272,7 @@ module _ {K J : Type 0} (holds : K → Result Image Table → Type 0) (has : J �
     wrote = ap answer_text (state_alike format argument one two served also old.image before.image stand.sound stand.also stand.state resource read (answered_so _ one served did.1) (answered_so _ two also done.1));
     state = ap (λ (d : DeskView K). state_of d.image) did.0 ∙ stand.state ∙ sym (ap (λ (d : DeskView J). state_of d.image) done.0);
   }
-  asked_alike (posted resource resumes body) one two old new before after posts stand did served done also = posted_alike (sheet_at resource) resumes body one two old new before after posts stand did served done also
+  asked_alike (posted resource resumes body) one two old new before after posts stand did served done also = posted_alike (posted_at resource) resumes body one two old new before after posts stand did served done also
 
   sheet_alike : (sheet : Sheet) (input text other : Text) (old new : DeskView K) (before after : DeskView J) (ended end : Result Tally SheetFault) → StandAlike old before → is_decided ended ≡ true → is_decided end ≡ true
       → Runs sheet 1 old.limits input (state_of old.image) (state_of new.image) (Some []) (Some text) ended → Runs sheet 1 before.limits input (state_of before.image) (state_of after.image) (Some []) (Some other) end
@@ -315,13 +315,13 @@ module _ {K J : Type 0} (holds : K → Result Image Table → Type 0) (has : J �
   -- ---- questions
 
   -- a sheet of questions
-  posted_asks : (kind : Option Sheet) (resumes : Bool) (body : Text) (one two : Answer) (old new : DeskView K) (before after : DeskView J) → kind ≡ None → old.image ≡ before.image
-      → MatchOption kind (AnswersQuestions body old one new) (λ k. DoesSheet holds k resumes body old one new) → (one.status ≡ 503 → ⊥)
-      → MatchOption kind (AnswersQuestions body before two after) (λ k. DoesSheet has k resumes body before two after) → (two.status ≡ 503 → ⊥)
+  posted_asks : (what : Posted) (resumes : Bool) (body : Text) (one two : Answer) (old new : DeskView K) (before after : DeskView J) → what ≡ post.Questions → old.image ≡ before.image
+      → DoesPosted holds what resumes body old one new → (one.status ≡ 503 → ⊥) → DoesPosted has what resumes body before two after → (two.status ≡ 503 → ⊥)
       → (answer_text one ≡ answer_text two) × (new ≡ old) × (after ≡ before)
-  posted_asks None resumes body one two old new before after asks same did served done also =
+  posted_asks post.Questions resumes body one two old new before after asks same did served done also =
       (questions_alike body one two old.image before.image (ap state_of same) (equal_inventories old.image before.image same) (inr same) (answered_so _ one served did.1) served (answered_so _ two also done.1) also, did.0, done.0)
-  posted_asks (Some kind) resumes body one two old new before after asks same did served done also = absurd (some_is_not_none kind asks)
+  posted_asks (post.Trial kind) resumes body one two old new before after asks same did served done also = absurd (cc asks)
+  posted_asks (post.Sheet kind) resumes body one two old new before after asks same did served done also = absurd (cc asks)
 
   question_alike : (asked : Asked) (one two : Answer) (old new : DeskView K) (before after : DeskView J) → OnlyAsks asked → old.image ≡ before.image
       → Does holds asked old one new → (one.status ≡ 503 → ⊥) → Does has asked before two after → (two.status ≡ 503 → ⊥) → (answer_text one ≡ answer_text two) × (new ≡ old) × (after ≡ before)
@@ -335,7 +335,7 @@ module _ {K J : Type 0} (holds : K → Result Image Table → Type 0) (has : J �
     done.0,
   )
   question_alike (posted resource resumes body) one two old new before after asks same did served done also =
-      posted_asks (sheet_at resource) resumes body one two old new before after asks same did served done also
+      posted_asks (posted_at resource) resumes body one two old new before after asks same did served done also
 
   one_question : (next : Call) (text other : Text) (old new : DeskView K) (before after : DeskView J) → IsQuestion next → old.image ≡ before.image → Did holds next text old new → Did has next other before after
       → (text ≡ other) × (new ≡ old) × (after ≡ before)

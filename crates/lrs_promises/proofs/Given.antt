@@ -1,6 +1,5 @@
 -- Which commands calls give, and that they make the state.
-use Rattle.std.specs.Prelude.{MatchOption}
-use Rattle.std.proofs.Common.{◌≡◌, inl, inr, ℕ, ◌+◌, ◌<◌, Bool, true, false, List, [], ◌∷◌, ◌++◌, length, take, get_or, Option, Some, None, Result, Ok, Err, refl, sym, ap, subst, ◌∙◌}
+use Rattle.std.proofs.Common.{◌≡◌, inl, inr, ℕ, ◌+◌, ◌<◌, Bool, true, false, List, [], ◌∷◌, ◌++◌, length, take, get_or, Option, Some, Result, Ok, Err, refl, sym, ap, subst, ◌∙◌}
 use Rattle.std.proofs.lemmas.Bool.{false≢true}
 use Rattle.std.proofs.lemmas.List.{take_more}
 use Rattle.lrs_machine.specs.Image.{state_of}
@@ -25,9 +24,10 @@ use Rattle.lrs_sheet.specs.declared.reply.Tally.{Tally}
 use Rattle.lrs_sheet.proofs.Done.{stays, along}
 use Rattle.lrs_web_requests.specs.Request.{Asked, refused, not_allowed, page, query, sheet as posted}
 use Rattle.lrs_web_requests.specs.Text.{Answer}
-use Rattle.lrs_web.specs.Questions.{AnswersQuestions}
-use Rattle.lrs_web.specs.RequestAnswers.{Does, sheet_at}
-use Rattle.lrs_web.specs.Sheets.{DoesSheet, IsAnswerAfter}
+use Rattle.lrs_web.specs.RequestAnswers.{Does, DoesPosted, posted_at}
+use Rattle.lrs_web.specs.declared.request.Posted.{Posted}
+use Rattle.lrs_web.specs.declared.request.Posted.TheVariants as post
+use Rattle.lrs_web.specs.Sheets.{IsAnswerAfter}
 use Rattle.lrs_promises.specs.Calls.{AllGive, Did, DidAll, Gives, GivesAsked, GivesBehind, GivesPosted, GivesRest, is_decided}
 use Rattle.lrs_promises.specs.declared.calls.Call.{Call}
 use Rattle.lrs_promises.specs.declared.calls.Call.TheVariants as call
@@ -135,18 +135,18 @@ module _ {K : Type 0} (holds : K → Result Image Table → Type 0) where
     along = subst (GoesAlong holds old) (sym e) (stays old);
   }
 
-  posted_gave : (kind : Option Sheet) (resumes : Bool) (body : Text) (answer : Answer) (old new : DeskView K)
-      → MatchOption kind (AnswersQuestions body old answer new) (λ k. DoesSheet holds k resumes body old answer new) → (answer.status ≡ 503 → ⊥)
-      → DeskGave (GivesPosted kind resumes body (state_of old.image)) old new
-  posted_gave None resumes body answer old new (same, told, ahead) served = desk_stays (GivesPosted None resumes body (state_of old.image)) old new refl same
-  posted_gave (Some kind) false body answer old new (ended, lines, run, after) served =
+  posted_gave : (what : Posted) (resumes : Bool) (body : Text) (answer : Answer) (old new : DeskView K) → DoesPosted holds what resumes body old answer new → (answer.status ≡ 503 → ⊥)
+      → DeskGave (GivesPosted what resumes body (state_of old.image)) old new
+  posted_gave post.Questions resumes body answer old new (same, told, ahead) served = desk_stays (GivesPosted post.Questions resumes body (state_of old.image)) old new refl same
+  posted_gave (post.Trial kind) resumes body answer old new (same, told, ahead) served = desk_stays (GivesPosted (post.Trial kind) resumes body (state_of old.image)) old new refl same
+  posted_gave (post.Sheet kind) false body answer old new (ended, lines, run, after) served =
       let d = answer_decided ended lines answer after served in
       record {
         gave = sheet_gave [] kind records_together old.limits body (state_of old.image) (state_of new.image) (Some []) (Some lines) ended d run.runs;
         along = decided_goes old new ended d run.desk;
       }
-  posted_gave (Some kind) true body answer old new (inr (twice, repeated, same, is)) served = desk_stays (GivesPosted (Some kind) true body (state_of old.image)) old new (inr ((twice, repeated), refl)) same
-  posted_gave (Some kind) true body answer old new (inl (ended, lines, run, after)) served =
+  posted_gave (post.Sheet kind) true body answer old new (inr (twice, repeated, same, is)) served = desk_stays (GivesPosted (post.Sheet kind) true body (state_of old.image)) old new (inr ((twice, repeated), refl)) same
+  posted_gave (post.Sheet kind) true body answer old new (inl (ended, lines, run, after)) served =
       let d = answer_decided ended lines answer after served in
       record {
         gave = rest_gave old.must_reopen kind records_together old.limits body (state_of old.image) (state_of new.image) (Some []) (Some lines) ended d run.runs;
@@ -158,7 +158,7 @@ module _ {K : Type 0} (holds : K → Result Image Table → Type 0) where
   asked_gave (not_allowed verb) answer old new does served = desk_stays (GivesAsked (not_allowed verb) (state_of old.image)) old new refl does.0
   asked_gave (page text) answer old new does served = desk_stays (GivesAsked (page text) (state_of old.image)) old new refl does.0
   asked_gave (query resource format argument) answer old new does served = desk_stays (GivesAsked (query resource format argument) (state_of old.image)) old new refl does.0
-  asked_gave (posted resource resumes body) answer old new does served = posted_gave (sheet_at resource) resumes body answer old new does served
+  asked_gave (posted resource resumes body) answer old new does served = posted_gave (posted_at resource) resumes body answer old new does served
 
   pub call_gave : (next : Call) (text : Text) (old new : DeskView K) → Did holds next text old new → DeskGave (Gives next (state_of old.image)) old new
   call_gave (call.Edits bytes) text old new did = record {

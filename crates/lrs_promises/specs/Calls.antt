@@ -1,5 +1,5 @@
 -- A list of calls, of edit sheets, surveys and requests, mixed: what each reads, writes and leaves of a desk, and which commands it gives.
-use Rattle.std.specs.Prelude.{◌≡◌, ◌⊎◌, Bool, true, false, List, [], ◌∷◌, ◌++◌, length, Option, Some, None, Result, Ok, Err}
+use Rattle.std.specs.Prelude.{◌≡◌, ◌⊎◌, Bool, true, false, List, [], ◌∷◌, ◌++◌, length, Some, Result, Ok, Err}
 use Rattle.lrs_machine.specs.Image.{state_of}
 use Rattle.lrs_machine.specs.Lines.{Text}
 use Rattle.lrs_machine.specs.Machine.{Record, state_after}
@@ -24,7 +24,9 @@ use Rattle.lrs_sheet.specs.declared.reply.Tally.{Tally}
 use Rattle.lrs_sheet.specs.declared.resumption.Decided.{Decided}
 use Rattle.lrs_web_requests.specs.Request.{Asked, Asks, refused, not_allowed, page, query, sheet as posted}
 use Rattle.lrs_web_requests.specs.Text.{Answer, answer_text}
-use Rattle.lrs_web.specs.RequestAnswers.{Does, sheet_at}
+use Rattle.lrs_web.specs.RequestAnswers.{Does, posted_at}
+use Rattle.lrs_web.specs.declared.request.Posted.{Posted}
+use Rattle.lrs_web.specs.declared.request.Posted.TheVariants as post
 use Rattle.lrs_promises.specs.declared.calls.Call.{Call}
 use Rattle.lrs_promises.specs.declared.calls.Call.TheVariants as call
 
@@ -85,11 +87,12 @@ GivesRest sheet input s commands =
     (HasKeysOnce sheet input × (d : Decided) × (passed : List (List Text)) × IsDecidedBy sheet s input d passed × GivesBehind passed sheet input commands)
     ⊎ (((twice : RepeatedKey) × IsRepeated sheet input twice) × (commands ≡ []))
 
--- What is posted gives the commands of a sheet of this kind; questions, which are of no kind, give none.
-abbrev pub GivesPosted : Option Sheet → Bool → Text → State → List Record → Type 0
-GivesPosted None resumes body s commands = commands ≡ []
-GivesPosted (Some kind) false body s commands = GivesBehind [] kind body commands
-GivesPosted (Some kind) true body s commands = GivesRest kind body s commands
+-- What is posted gives the commands of a sheet that is done; questions give none, nor does a sheet that is tried.
+abbrev pub GivesPosted : Posted → Bool → Text → State → List Record → Type 0
+GivesPosted post.Questions resumes body s commands = commands ≡ []
+GivesPosted (post.Trial kind) resumes body s commands = commands ≡ []
+GivesPosted (post.Sheet kind) false body s commands = GivesBehind [] kind body commands
+GivesPosted (post.Sheet kind) true body s commands = GivesRest kind body s commands
 
 -- A request gives the commands of what it posts, and any other one gives none.
 abbrev pub GivesAsked : Asked → State → List Record → Type 0
@@ -97,7 +100,7 @@ GivesAsked (refused status) s commands = commands ≡ []
 GivesAsked (not_allowed verb) s commands = commands ≡ []
 GivesAsked (page text) s commands = commands ≡ []
 GivesAsked (query resource format argument) s commands = commands ≡ []
-GivesAsked (posted resource resumes body) s commands = GivesPosted (sheet_at resource) resumes body s commands
+GivesAsked (posted resource resumes body) s commands = GivesPosted (posted_at resource) resumes body s commands
 
 -- The commands that a call gives, in a state.
 abbrev pub Gives : Call → State → List Record → Type 0

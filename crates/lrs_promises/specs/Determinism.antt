@@ -1,5 +1,5 @@
 -- Equal bytes and equal states give equal bytes and equal states.
-use Rattle.std.specs.Prelude.{◌≡◌, ◌⊎◌, ℕ, Bool, true, ◌++◌, List, [], ◌∷◌, codes, Some, None, Result, MatchOption, ⊤}
+use Rattle.std.specs.Prelude.{◌≡◌, ◌⊎◌, ℕ, Bool, true, ◌++◌, List, [], ◌∷◌, codes, Some, Result, ⊤}
 use Rattle.std.specs.List.{AllByRecursion}
 use Rattle.lrs_machine.specs.Image.{state_of}
 use Rattle.lrs_machine.specs.Lines.{Text}
@@ -20,7 +20,9 @@ use Rattle.lrs_sheet_questions.specs.SheetAnswers.{RunsQuestions}
 use Rattle.lrs_sheet_questions.specs.declared.tally.QuestionTally.{QuestionTally}
 use Rattle.lrs_web_requests.specs.declared.paths.Resource.TheVariants as path
 use Rattle.lrs_web_requests.specs.Request.{Asked, Asks, query, sheet as posted}
-use Rattle.lrs_web.specs.RequestAnswers.{sheet_at}
+use Rattle.lrs_web.specs.RequestAnswers.{posted_at}
+use Rattle.lrs_web.specs.declared.request.Posted.{Posted}
+use Rattle.lrs_web.specs.declared.request.Posted.TheVariants as post
 use Rattle.lrs_promises.specs.declared.calls.Call.{Call}
 use Rattle.lrs_promises.specs.declared.calls.Call.TheVariants as call
 use Rattle.lrs_promises.specs.Calls.{DidAll, is_decided}
@@ -84,16 +86,22 @@ QuestionSheetsEndAlike = (i j : Image) (input old written earlier other : Text) 
 
 -- ---- what is asked
 
--- whether a request asks for anything but what is gone and what became of an asset, which are listed by the rows of the ledgers: it may be refused, and post any sheet but one of questions that asks for a history
+-- whether what is posted is answered by the state: a sheet that is done is, and one of questions that asks for no history. A sheet that is tried is left out, since its advice is told by no definition.
+abbrev pub IsPostedOfState : Posted → Text → Type 0
+IsPostedOfState post.Questions body = AsksNoHistory body
+IsPostedOfState (post.Trial kind) body = ⊥
+IsPostedOfState (post.Sheet kind) body = ⊤
+
+-- whether a request asks for anything but what is gone and what became of an asset, which are listed by the rows of the ledgers: it may be refused, and post any sheet but one that is tried, and one of questions that asks for a history
 abbrev pub IsOfState : Asked → Type 0
 IsOfState (query path.Gone format argument) = ⊥
 IsOfState (query path.History format argument) = ⊥
-IsOfState (posted resource resumes body) = MatchOption (sheet_at resource) (AsksNoHistory body) (λ kind. ⊤)
+IsOfState (posted resource resumes body) = IsPostedOfState (posted_at resource) body
 IsOfState _ = ⊤
 
--- whether a request changes nothing: it may be refused, and ask for anything, but post no sheet other than of questions
+-- whether a request asks, and changes nothing: it may be refused, and ask for anything, but post no sheet other than of questions. A sheet that is tried changes nothing either, but is left out, since its advice is told by no definition.
 abbrev pub OnlyAsks : Asked → Type 0
-OnlyAsks (posted resource resumes body) = sheet_at resource ≡ None
+OnlyAsks (posted resource resumes body) = posted_at resource ≡ post.Questions
 OnlyAsks _ = ⊤
 
 -- The bytes of a request ask for one thing, and this passes.
@@ -104,7 +112,7 @@ pub record AsksOneThing (Passes : Asked → Type 0) (input : Text) : Type 0 wher
 
 -- ---- of calls
 
--- a sheet, a survey, or a request for anything but what is gone and histories
+-- a sheet, a survey, or a request for anything but what is gone, histories and trials
 abbrev pub IsCallOfState : Call → Type 0
 IsCallOfState (call.Edits bytes) = ⊤
 IsCallOfState (call.Survey bytes) = ⊤
@@ -128,7 +136,7 @@ CallsEndAlike {K} {J} holds has = (calls : List Call) (texts others : List Text)
 
 -- ---- of questions
 
--- a request that changes nothing
+-- a request that asks, and changes nothing
 abbrev pub IsQuestion : Call → Type 0
 IsQuestion (call.Edits bytes) = ⊥
 IsQuestion (call.Survey bytes) = ⊥

@@ -11,3 +11,4 @@ pub mod Resuming
 pub mod Repeating
 pub mod GoingOn
 pub mod Running
+pub mod Trying

@@ -7,3 +7,5 @@ pub mod WaitingCommands
 pub mod Repetition
 pub mod Resumption
 pub mod Runs
+pub mod Trials
+pub mod MadeLogs

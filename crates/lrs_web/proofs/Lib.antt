@@ -1,3 +1,4 @@
 pub mod Responding
 pub mod Visiting
 pub mod Asking
+pub mod Trying

@@ -6,6 +6,7 @@ mod questions;
 mod recipient;
 mod request;
 mod sheet;
+mod trial;
 
 pub use door::{Door, DoorFault, Served, serve_all};
 pub use lrs_sheet::{Desk, Keeper};

@@ -1,8 +1,11 @@
 //! Who waits for a reply, and may go away before it is made.
 
-ghost use Rattle.std.specs.Prelude.{◌≡◌, [], Some};
+ghost use Rattle.std.specs.Prelude.{◌≡◌, ◌⊎◌, [], Some};
+ghost use Rattle.lrs_web_requests.specs.Text.{answer_of, empty_answer};
 
+use http::StatusCode;
 use lrs_web_replies::BoundedBytes;
+use lrs_web_requests::Response;
 use std::alloc::Global;
 use std::io;
 use std::io::{ErrorKind, Write};
@@ -32,6 +35,20 @@ impl Client for AnyClient {}
 pub(crate) struct Recipient<'a, C: Client> {
     pub(crate) client: &'a C,
     pub(crate) most: usize,
+}
+
+/// A reply that has too many bytes gives way to an empty 503.
+pub(crate) fn limited(reply: Response, most: usize) -> Response
+    ensures { (answer_of result ≡ answer_of reply) ⊎ (answer_of result ≡ empty_answer 503) }
+{
+    let is_too_long = match &reply.content {
+        Some(content) => content.bytes.len() > most,
+        None => false,
+    };
+    if is_too_long {
+        return Response::empty(StatusCode::SERVICE_UNAVAILABLE);
+    }
+    reply
 }
 
 /// The lines of a reply, while its client is there. Once it is gone the next one fails, as where there are too many bytes.

@@ -1,19 +1,18 @@
 //! One request is read, done and answered.
 
-ghost use Rattle.std.specs.Prelude.{◌≡◌, ◌⊎◌, IfOk, IfSome, MatchOption, Err, true, false};
+ghost use Rattle.std.specs.Prelude.{◌≡◌, ◌⊎◌, IfOk, IfSome, Err, true, false};
 ghost use Rattle.lrs_web_requests.specs.Request.{Asked, IsServed, asked_by};
 ghost use Rattle.lrs_web_requests.specs.Text.{Answer, answer_of, empty_answer};
 ghost use Rattle.lrs_web_requests.specs.Request.{verb_of};
 ghost use Rattle.lrs_web_requests.specs.declared.response.RequestMethod.TheVariants.{Get};
 ghost use Rattle.lrs_web.specs.QueryAnswers.{AnswersAsked, AnswersKnown, AnswersPage};
-ghost use Rattle.lrs_web.specs.Questions.{AnswersQuestions};
-ghost use Rattle.lrs_web.specs.Sheets.{DoesSheet};
 ghost use Rattle.lrs_web.specs.RequestAnswers as spec;
-ghost use Rattle.lrs_web.specs.RequestAnswers.{Does, Responds, Serves, Writes, allowed_answer, page_answer, sheet_at};
+ghost use Rattle.lrs_web.specs.RequestAnswers.{Does, DoesPosted, Responds, Serves, Writes, allowed_answer, page_answer};
 
 use crate::questions::answer_questions;
-use crate::recipient::{AnyClient, Client, Recipient};
+use crate::recipient::{AnyClient, Client, Recipient, limited};
 use crate::sheet::do_sheet;
+use crate::trial::answer_trial;
 use http::StatusCode;
 use lrs_sheet::{Desk, Keeper, Sheet};
 use lrs_web_replies::{
@@ -35,12 +34,25 @@ pub enum WebFault {
     Write,
 }
 
-fn sheet_of(resource: Resource) -> Option<Sheet>
-    ensures { result ≡ sheet_at resource }
+/// What is posted.
+#[derive(Clone, Copy)]
+pub enum Posted {
+    /// Questions, which are answered.
+    Questions,
+    /// A sheet that is tried.
+    Trial(Sheet),
+    /// A sheet that is done, or gone on with.
+    Sheet(Sheet),
+}
+
+fn posted_at(resource: Resource) -> Posted
+    ensures { result ≡ spec.posted_at resource }
 {
     match resource {
-        Resource::Questions => None,
-        Resource::Surveys => Some(Sheet::Survey),
+        Resource::Questions => Posted::Questions,
+        Resource::EditsCheck => Posted::Trial(Sheet::Edits),
+        Resource::SurveysCheck => Posted::Trial(Sheet::Survey),
+        Resource::Surveys => Posted::Sheet(Sheet::Survey),
         Resource::At
         | Resource::Route
         | Resource::Segments
@@ -62,7 +74,7 @@ fn sheet_of(resource: Resource) -> Option<Sheet>
         | Resource::Gone
         | Resource::History
         | Resource::Where
-        | Resource::Edits => Some(Sheet::Edits),
+        | Resource::Edits => Posted::Sheet(Sheet::Edits),
     }
 }
 
@@ -92,7 +104,9 @@ fn needs_commits(resource: Resource) -> bool
         | Resource::History
         | Resource::Where
         | Resource::Edits
+        | Resource::EditsCheck
         | Resource::Surveys
+        | Resource::SurveysCheck
         | Resource::Questions => false,
     }
 }
@@ -171,20 +185,6 @@ fn question_reply<K: Keeper>(
     }
 }
 
-// A reply that has too many bytes gives way to an empty 503.
-fn limited(reply: Response, most: usize) -> Response
-    ensures { (answer_of result ≡ answer_of reply) ⊎ (answer_of result ≡ empty_answer 503) }
-{
-    let is_too_long = match &reply.content {
-        Some(content) => content.bytes.len() > most,
-        None => false,
-    };
-    if is_too_long {
-        return Response::empty(StatusCode::SERVICE_UNAVAILABLE);
-    }
-    reply
-}
-
 // Once a commit of several commands has failed, nothing is answered: not even that a parameter cannot be read. What needs
 // commits is not answered either once a commit of one command has failed.
 fn query_reply<K: Keeper>(
@@ -234,22 +234,21 @@ fn page_reply(alloc: Global, most: usize, page: &str) -> Response
     }
 }
 
-/// Does a sheet, or answers the questions where it is of no kind that is done.
+/// Does a sheet, or tries it, or answers questions.
 fn do_posted<C: Client, K: Keeper>(
     alloc: Global,
     to: &Recipient<'_, C>,
-    kind: Option<Sheet>,
+    posted: Posted,
     resumes: bool,
     bytes: &[u8],
     desk: &mut Desk<K>,
 ) -> Response
-    ensures { MatchOption kind (AnswersQuestions bytes.now desk.old (answer_of result) desk.new)
-        (λ kind. DoesSheet K.may_hold kind resumes bytes.now desk.old (answer_of result)
-        desk.new) }
+    ensures { DoesPosted K.may_hold posted resumes bytes.now desk.old (answer_of result) desk.new }
 {
-    match kind {
-        Some(kind) => do_sheet(alloc, to, kind, resumes, bytes, desk),
-        None => answer_questions(alloc, to, bytes, desk),
+    match posted {
+        Posted::Questions => answer_questions(alloc, to, bytes, desk),
+        Posted::Trial(kind) => answer_trial(alloc, to, kind, bytes, desk),
+        Posted::Sheet(kind) => do_sheet(alloc, to, kind, resumes, bytes, desk),
     }
 }
 
@@ -278,8 +277,8 @@ pub(crate) fn do_task<C: Client, K: Keeper>(
             )
         }
         Request::Sheet(resource, resumes, bytes) => {
-            let kind = sheet_of(*resource);
-            do_posted(alloc, to, kind, *resumes, bytes.as_slice(), desk)
+            let posted = posted_at(*resource);
+            do_posted(alloc, to, posted, *resumes, bytes.as_slice(), desk)
         }
     }
 }

@@ -8,3 +8,4 @@ pub mod Overlaid
 pub mod PageKeys
 pub mod Paging
 pub mod PagedPieces
+pub mod TrialText

@@ -1,4 +1,4 @@
--- JSON of few parts: whole numbers, texts, lists, and objects with their members in the order of their names.
+-- JSON of few parts: whole numbers, texts, lists, and objects. All but those of trials have their members in the order of their names.
 use Rattle.std.specs.Prelude.{ℕ, List, [], ◌∷◌, map}
 use Rattle.serde_json.specs.Data.{Data, number, unsigned, array, object, Members, no_members, member}
 use Rattle.serde_json.specs.View.{items_of}
@@ -18,6 +18,6 @@ abbrev pub members : List (Text × Data) → Members
 members [] = no_members
 members (m ∷ ms) = member m.0 m.1 (members ms)
 
--- these members, in the order of their names
+-- an object of these members, in this order
 abbrev pub with : List (Text × Data) → Data
 with ms = object (members ms)

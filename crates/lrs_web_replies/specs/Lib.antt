@@ -10,4 +10,5 @@ pub mod Parts
 pub mod PagedText
 pub mod Overlay
 pub mod Combinations
+pub mod Trials
 pub mod QuestionAnswers

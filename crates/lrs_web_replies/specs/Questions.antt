@@ -374,5 +374,7 @@ passes_over path.Totals = true
 passes_over path.Health = true
 passes_over path.Edits = true
 passes_over path.Surveys = true
+passes_over path.EditsCheck = true
+passes_over path.SurveysCheck = true
 passes_over path.Questions = true
 passes_over _ = false

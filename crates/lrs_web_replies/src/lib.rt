@@ -22,6 +22,7 @@ mod question;
 mod replies;
 mod reply;
 mod row_lists;
+mod trial;
 mod unknown_parameters;
 
 pub use bounded::BoundedBytes;
@@ -29,4 +30,5 @@ pub use pages::{KeyField, KeyMember, KeyValue, Page, PageFault, page_of};
 pub use question::{Parameter, QueryFault, question_of};
 pub use replies::reply_to;
 pub use reply::{unasked, unpaged};
+pub use trial::{TrialCounts, TrialFault, trial_reply};
 pub use unknown_parameters::{unknown_in, unknown_reply};

@@ -117,7 +117,7 @@ fn open_list(bytes: &mut Vec<u8>, start: usize) -> Result<(), AllocError>
 }
 
 /// Ends the list, whose items begin behind so many bytes.
-fn close_list(bytes: &mut Vec<u8>, start: usize) -> Result<(), AllocError>
+pub(crate) fn close_list(bytes: &mut Vec<u8>, start: usize) -> Result<(), AllocError>
     ensures { OnOk result ((front : Text) (items : List Data) → length front ≡ start
         → bytes.old.items ≡ front ++ flat_map item_text items
         → bytes.new.items ≡ front ++ compact_text (list_data items)) }

@@ -473,6 +473,8 @@ fn json_page(alloc: Global, resource: Resource, query: &[u8]) -> Result<Page, Pa
         | Resource::Where
         | Resource::Edits
         | Resource::Surveys
+        | Resource::EditsCheck
+        | Resource::SurveysCheck
         | Resource::Questions => Ok(Page::whole()),
     }
 }
@@ -532,6 +534,8 @@ pub(crate) fn is_paged(
         | Resource::Where
         | Resource::Edits
         | Resource::Surveys
+        | Resource::EditsCheck
+        | Resource::SurveysCheck
         | Resource::Questions => Ok(false),
     }
 }

@@ -239,6 +239,10 @@ pub fn question_of(
         Resource::History => history_question(alloc, argument),
         Resource::Log => log_question(alloc, argument),
         Resource::Health => Ok(Question::Health),
-        Resource::Edits | Resource::Surveys | Resource::Questions => unreachable!(),
+        Resource::Edits
+        | Resource::Surveys
+        | Resource::EditsCheck
+        | Resource::SurveysCheck
+        | Resource::Questions => unreachable!(),
     }
 }

@@ -52,6 +52,8 @@ fn unknown_apart<'q>(
         | Resource::Health
         | Resource::Edits
         | Resource::Surveys
+        | Resource::EditsCheck
+        | Resource::SurveysCheck
         | Resource::Questions => Ok(None),
     }
 }
@@ -101,6 +103,8 @@ fn unknown_in_page<'q>(
         | Resource::Health
         | Resource::Edits
         | Resource::Surveys
+        | Resource::EditsCheck
+        | Resource::SurveysCheck
         | Resource::Questions => unreachable!(),
     }
 }

@@ -1,7 +1,7 @@
--- What a path names, a resource and the format of its answer: 34 paths stand for themselves, and the path of a route ends in the route's name.
+-- What a path names, a resource and the format of its answer: 36 paths stand for themselves, and the path of a route ends in the route's name.
 use Rattle.std.specs.Prelude.{◌≡◌, ◌≢◌, ◌⊎◌, ◌↔◌, ℕ, List, [], ◌∷◌, ◌++◌, codes, None, Some, Contains}
 use Rattle.lrs_web_requests.specs.declared.paths.Resource.{Resource}
-use Rattle.lrs_web_requests.specs.declared.paths.Resource.TheVariants.{At, Route, Segments, Totals, Translate, Diagram, Routes, Find, Log, Health, Links, Classes, Refs, Marks, Pieces, Rows, Overlay, Lengths, Gone, History, Where, Edits, Surveys, Questions}
+use Rattle.lrs_web_requests.specs.declared.paths.Resource.TheVariants.{At, Route, Segments, Totals, Translate, Diagram, Routes, Find, Log, Health, Links, Classes, Refs, Marks, Pieces, Rows, Overlay, Lengths, Gone, History, Where, Edits, Surveys, EditsCheck, SurveysCheck, Questions}
 use Rattle.lrs_web_requests.specs.declared.paths.Format.TheVariants.{Json, Csv}
 use Rattle.lrs_web_requests.specs.Routes.{Named, named_at}
 
@@ -9,7 +9,8 @@ use Rattle.lrs_web_requests.specs.Routes.{Named, named_at}
 abbrev pub literal_paths : List (List ℕ × Named)
 literal_paths =
     (codes "/health", (Health, Json)) ∷ (codes "/v1/at", (At, Json)) ∷ (codes "/v1/classes.csv", (Classes, Csv))
-    ∷ (codes "/v1/classes", (Classes, Json)) ∷ (codes "/v1/diagram", (Diagram, Json)) ∷ (codes "/v1/edits", (Edits, Json))
+    ∷ (codes "/v1/classes", (Classes, Json)) ∷ (codes "/v1/diagram", (Diagram, Json))
+    ∷ (codes "/v1/edits/check", (EditsCheck, Json)) ∷ (codes "/v1/edits", (Edits, Json))
     ∷ (codes "/v1/find", (Find, Json)) ∷ (codes "/v1/gone.csv", (Gone, Csv)) ∷ (codes "/v1/gone", (Gone, Json))
     ∷ (codes "/v1/history.csv", (History, Csv)) ∷ (codes "/v1/history", (History, Json))
     ∷ (codes "/v1/lengths.csv", (Lengths, Csv)) ∷ (codes "/v1/lengths", (Lengths, Json)) ∷ (codes "/v1/links.csv", (Links, Csv))
@@ -19,7 +20,8 @@ literal_paths =
     ∷ (codes "/v1/questions", (Questions, Json)) ∷ (codes "/v1/refs.csv", (Refs, Csv))
     ∷ (codes "/v1/refs", (Refs, Json)) ∷ (codes "/v1/routes.csv", (Routes, Csv)) ∷ (codes "/v1/routes", (Routes, Json))
     ∷ (codes "/v1/rows.csv", (Rows, Csv)) ∷ (codes "/v1/rows", (Rows, Json)) ∷ (codes "/v1/segments", (Segments, Json))
-    ∷ (codes "/v1/surveys", (Surveys, Json)) ∷ (codes "/v1/totals", (Totals, Json)) ∷ (codes "/v1/translate", (Translate, Json))
+    ∷ (codes "/v1/surveys/check", (SurveysCheck, Json)) ∷ (codes "/v1/surveys", (Surveys, Json))
+    ∷ (codes "/v1/totals", (Totals, Json)) ∷ (codes "/v1/translate", (Translate, Json))
     ∷ (codes "/v1/where", (Where, Json)) ∷ []
 
 -- the code of a slash

@@ -13,7 +13,7 @@ use Rattle.lrs_web_requests.specs.declared.response.RequestMethod.{RequestMethod
 use Rattle.lrs_web_requests.specs.declared.response.RequestMethod.TheVariants.{Get, Post}
 use Rattle.lrs_web_requests.specs.Text.{method_name}
 use Rattle.lrs_web_requests.specs.declared.paths.Resource.{Resource}
-use Rattle.lrs_web_requests.specs.declared.paths.Resource.TheVariants.{At, Route, Segments, Totals, Translate, Diagram, Routes, Find, Log, Health, Links, Classes, Refs, Marks, Pieces, Rows, Overlay, Lengths, Gone, History, Where, Edits, Surveys, Questions}
+use Rattle.lrs_web_requests.specs.declared.paths.Resource.TheVariants.{At, Route, Segments, Totals, Translate, Diagram, Routes, Find, Log, Health, Links, Classes, Refs, Marks, Pieces, Rows, Overlay, Lengths, Gone, History, Where, Edits, Surveys, EditsCheck, SurveysCheck, Questions}
 use Rattle.lrs_web_requests.specs.declared.paths.Format.{Format}
 use Rattle.lrs_web_requests.specs.Routes.{Named, named_at}
 use Rattle.lrs_web_requests.specs.declared.request.Request.{Request}
@@ -79,6 +79,8 @@ verb_of History = Get
 verb_of Where = Get
 verb_of Edits = Post
 verb_of Surveys = Post
+verb_of EditsCheck = Post
+verb_of SurveysCheck = Post
 verb_of Questions = Post
 
 -- whether a sheet goes on behind its last record that is an edit

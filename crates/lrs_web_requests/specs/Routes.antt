@@ -5,7 +5,7 @@ use Rattle.matchit.specs.Rows.{RowsOf, param_token}
 use Rattle.matchit.specs.Router.{RouteOf}
 use Rattle.matchit.specs.Seek.{first}
 use Rattle.lrs_web_requests.specs.declared.paths.Resource.{Resource}
-use Rattle.lrs_web_requests.specs.declared.paths.Resource.TheVariants.{At, Route, Segments, Totals, Translate, Diagram, Routes, Find, Log, Health, Links, Classes, Refs, Marks, Pieces, Rows, Overlay, Lengths, Gone, History, Where, Edits, Surveys, Questions}
+use Rattle.lrs_web_requests.specs.declared.paths.Resource.TheVariants.{At, Route, Segments, Totals, Translate, Diagram, Routes, Find, Log, Health, Links, Classes, Refs, Marks, Pieces, Rows, Overlay, Lengths, Gone, History, Where, Edits, Surveys, EditsCheck, SurveysCheck, Questions}
 use Rattle.lrs_web_requests.specs.declared.paths.Format.{Format}
 use Rattle.lrs_web_requests.specs.declared.paths.Format.TheVariants.{Json, Csv}
 
@@ -32,7 +32,8 @@ csv path resource = plain path (resource, Csv)
 unfoldable pub rows : RowsOf (RouteOf Named)
 rows =
     json (codes "/health") Health ∷ json (codes "/v1/at") At ∷ csv (codes "/v1/classes.csv") Classes ∷ json (codes "/v1/classes") Classes
-    ∷ json (codes "/v1/diagram") Diagram ∷ json (codes "/v1/edits") Edits ∷ json (codes "/v1/find") Find ∷ csv (codes "/v1/gone.csv") Gone
+    ∷ json (codes "/v1/diagram") Diagram ∷ json (codes "/v1/edits/check") EditsCheck ∷ json (codes "/v1/edits") Edits
+    ∷ json (codes "/v1/find") Find ∷ csv (codes "/v1/gone.csv") Gone
     ∷ json (codes "/v1/gone") Gone ∷ csv (codes "/v1/history.csv") History ∷ json (codes "/v1/history") History
     ∷ csv (codes "/v1/lengths.csv") Lengths ∷ json (codes "/v1/lengths") Lengths ∷ csv (codes "/v1/links.csv") Links
     ∷ json (codes "/v1/links") Links ∷ json (codes "/v1/log") Log ∷ csv (codes "/v1/marks.csv") Marks ∷ json (codes "/v1/marks") Marks
@@ -40,7 +41,8 @@ rows =
     ∷ csv (codes "/v1/pieces.csv") Pieces ∷ json (codes "/v1/pieces") Pieces
     ∷ json (codes "/v1/questions") Questions ∷ csv (codes "/v1/refs.csv") Refs ∷ json (codes "/v1/refs") Refs ∷ with_name (codes "/v1/route/") (Route, Json)
     ∷ csv (codes "/v1/routes.csv") Routes ∷ json (codes "/v1/routes") Routes ∷ csv (codes "/v1/rows.csv") Rows ∷ json (codes "/v1/rows") Rows
-    ∷ json (codes "/v1/segments") Segments ∷ json (codes "/v1/surveys") Surveys ∷ json (codes "/v1/totals") Totals ∷ json (codes "/v1/translate") Translate
+    ∷ json (codes "/v1/segments") Segments ∷ json (codes "/v1/surveys/check") SurveysCheck ∷ json (codes "/v1/surveys") Surveys
+    ∷ json (codes "/v1/totals") Totals ∷ json (codes "/v1/translate") Translate
     ∷ json (codes "/v1/where") Where ∷ []
 
 -- what a path names
@@ -83,8 +85,10 @@ is_list named = false
 -- what takes sheets
 abbrev pub is_sheet : Named → Bool
 is_sheet (Edits, Json) = true
+is_sheet (EditsCheck, Json) = true
 is_sheet (Questions, Json) = true
 is_sheet (Surveys, Json) = true
+is_sheet (SurveysCheck, Json) = true
 is_sheet named = false
 
 -- lists as CSV

@@ -32,6 +32,8 @@ pub enum Resource {
     Where,
     Edits,
     Surveys,
+    EditsCheck,
+    SurveysCheck,
     Questions,
 }
 
@@ -89,8 +91,10 @@ fn add_lists(router: &mut Router<(Resource, Format)>) -> Result<(), InsertError>
 fn add_sheets(router: &mut Router<(Resource, Format)>) -> Result<(), InsertError>
     ensures { OnOk result (router.new ≡ with_all (rows_of is_sheet) router.old) }
 {
+    router.insert("/v1/edits/check", (Resource::EditsCheck, Format::Json))?;
     router.insert("/v1/edits", (Resource::Edits, Format::Json))?;
     router.insert("/v1/questions", (Resource::Questions, Format::Json))?;
+    router.insert("/v1/surveys/check", (Resource::SurveysCheck, Format::Json))?;
     router.insert("/v1/surveys", (Resource::Surveys, Format::Json))?;
     Ok(())
 }

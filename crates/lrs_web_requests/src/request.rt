@@ -69,7 +69,11 @@ fn verb_for(resource: Resource) -> RequestMethod
         | Resource::Gone
         | Resource::History
         | Resource::Where => RequestMethod::Get,
-        Resource::Edits | Resource::Surveys | Resource::Questions => RequestMethod::Post,
+        Resource::Edits
+        | Resource::Surveys
+        | Resource::EditsCheck
+        | Resource::SurveysCheck
+        | Resource::Questions => RequestMethod::Post,
     }
 }
 
@@ -124,6 +128,8 @@ fn argument(resource: Resource, target: &str) -> &[u8]
         | Resource::Where
         | Resource::Edits
         | Resource::Surveys
+        | Resource::EditsCheck
+        | Resource::SurveysCheck
         | Resource::Questions => query.as_bytes(),
     }
 }

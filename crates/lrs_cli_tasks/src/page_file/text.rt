@@ -7,7 +7,7 @@ pub static PAGE: &str = r##"<!doctype html>
 <meta charset="utf-8">
 <meta name="viewport" content="width=device-width, initial-scale=1">
 <meta name="color-scheme" content="light dark">
-<meta http-equiv="Content-Security-Policy" content="default-src 'none'; style-src 'unsafe-inline'; script-src 'sha256-Px5TZw+KMwjP7slUGQAa9MmD/K4JD3NLHhdtCq6lOnA='; img-src data:; connect-src 'self'; form-action 'none'; base-uri 'none'">
+<meta http-equiv="Content-Security-Policy" content="default-src 'none'; style-src 'unsafe-inline'; script-src 'sha256-2IJklq83m1mZpLBCv1Qxq18WrLnERQZ/2YYQqwNslUM='; img-src data:; connect-src 'self'; form-action 'none'; base-uri 'none'">
 <title>Road inventory</title>
 <link rel="icon" href="data:,">
 <style>
@@ -144,7 +144,7 @@ fieldset{max-height:none;overflow:visible;border:0;padding:0;}.swatch,.track svg
 </section>
 </div>
 <details id="sheets" aria-label="Send a sheet"><summary>Send a sheet</summary>
-<div id="drop"><p>Drop an edit sheet or a survey on this page. You see what it has before it is sent.</p>
+<div id="drop"><p>Drop an edit sheet or a survey on this page. You see what it has and what it would change before it is sent.</p>
 <label>Or choose a file <input id="file" type="file" accept=".csv,text/csv,text/plain" multiple></label></div>
 <div id="preview" hidden><div id="looked"></div>
 <p><button id="send" type="button">Send</button> <button id="forget" type="button">Do not send</button></p></div>
@@ -508,7 +508,7 @@ const link = ({ ref, route }) => linkTo(writeAddress({ route, place: { method: "
 return { told: `${counted(found.length, "referent")} of this name or part of a name.`, found, itemOf };}
 async function findRoute(text) {const { routes } = await known("v1/routes"), found = routes.filter(route => route.name.includes(upper(text)));
 return { told: `${counted(found.length, "route")} of this name or part of a name.`, found, itemOf: ({ name, length }) => item(linkTo(name, name), ` ${metres(length)} m`) };}
-const MOST_LINES = 500, MOST_BYTES = 1000000, FIRST_RECORDS = 6, MOST_SHOWN = 2000;const PATHS = {"key,verb,a,b,c,d,e,f,g,h,i": ["v1/edits", "an edit sheet"],
+const MOST_ADVICE = 20, MOST_NAMES = 10;const MOST_LINES = 500, MOST_BYTES = 1000000, FIRST_RECORDS = 6, MOST_SHOWN = 2000;const PATHS = {"key,verb,a,b,c,d,e,f,g,h,i": ["v1/edits", "an edit sheet"],
 "key,asset,class,route,side,method,from,to,value,offset": ["v1/surveys", "a survey"],};function* recordEnds(bytes) {let quoted = false, fresh = true;for (let at = 0; at < bytes.length; at++) {
 const byte = bytes[at], ends = !quoted && (byte === 10 || (byte === 13 && bytes[at + 1] !== 10));if (byte === 34 && (quoted || fresh)) quoted = !quoted, fresh = !quoted;else fresh = !quoted && (byte === 44 || byte === 13 || byte === 10);
 if (ends) yield at + 1;}
@@ -520,10 +520,28 @@ function recordsIn(bytes) {let count = -1, start = 0, shown = 0;for (const end o
 return { count: Math.max(count, 0), first: new TextDecoder().decode(bytes.subarray(0, Math.min(shown, MOST_SHOWN))) };}
 function kindOf(bytes, name) {const first = new TextDecoder().decode(bytes.subarray(0, 200)).split(/[\r\n]/)[0].replace(/["\s]/g, "");if (PATHS[first]) return PATHS[first];
 throw new Error(`${name} is no edit sheet and no survey: its first line is not the header of either. Nothing was sent.`);}
-let ready = [], stopped;async function lookAt(files) {ready = [];$("preview").hidden = true;$("looked").replaceChildren();say("sheet-said", "");for (const file of files) {
+async function trialOf(path, body) {const settings = { method: "POST", headers: { "Content-Type": "text/csv" }, body };const { status, text } = await send(`${path}/check`, settings).catch(() => ({}));
+return status === 200 || status === 422 ? JSON.parse(text) : undefined;}
+function named(word, names) {if (!names.length) return [];const more = names.length > MOST_NAMES ? ` and ${names.length - MOST_NAMES} more` : "";return [`${word} ${names.slice(0, MOST_NAMES).join(", ")}${more}`];}
+function changesOf(lines) {const fields = lines.map(line => line.split(",")), those = (sign, kind) => fields.filter(line => line[0] === sign && line[1] === kind);
+const names = (sign, kind) => [...new Set(those(sign, kind).map(line => line[2]))], both = kind => [...new Set([...names("-", kind), ...names("+", kind)])];const lengthOf = line => (line[8] - line[7]) * (line[9] === "B" ? 2 : 1);
+const moved = (sign, word, way) => {const count = names(sign, "holds").length, sum = those(sign, "holds").reduce((length, line) => length + lengthOf(line), 0);
+return count ? [`${word} ${metres(sum)} m of sides ${way} ${counted(count, "asset")}`] : [];};return [
+...moved("-", "takes", "from"), ...moved("+", "gives", "to"), ...named("enters asset", names("+", "asset")),
+...named("removes referent", names("-", "ref")), ...named("sets referent", names("+", "ref")), ...named("changes route", both("route")),...named("adds link", names("+", "link")), ...named("adds class", names("+", "class")),].join("; ");}
+function shownTrial(trial) {const { fault, replies, advice, difference } = trial, changes = changesOf(difference);
+const count = word => `${replies.filter(line => line.split(",")[1] === word).length} ${word}`, counts = ["done", "again", "refused"].map(count).join(", ");
+const shown = [make("p", `It would be: ${counts}${fault ? `, and then ${sentence(fault)}` : ""}.`, { className: "trial" })];if (advice.length) {const list = make("ul");
+list.append(...advice.slice(0, MOST_ADVICE).map(line => make("li", line)));shown.push(list);}
+shown.push(make("p", changes ? `It ${changes}.` : "It changes nothing of the network or its assets.", { className: "changes" }));if (difference.length) {
+const rest = difference.length > MOST_LINES ? `\n${difference.length - MOST_LINES} lines more are not shown here: check --diff prints them.` : "", details = make("details");
+details.append(make("summary", `What changes, in ${counted(difference.length, "line")}`), make("pre", difference.slice(0, MOST_LINES).join("\n") + rest, { tabIndex: 0 }));shown.push(details);}
+return shown;}
+let ready = [], stopped;async function lookAt(files) {const shown = [];ready = [];$("preview").hidden = true;$("looked").replaceChildren();say("sheet-said", "");for (const file of files) {
 const bytes = new Uint8Array(await file.arrayBuffer()), [path, kind] = kindOf(bytes, file.name), { count, first } = recordsIn(bytes);const bodies = bodiesOf(bytes), parts = bodies.length > 1 ? `, in ${bodies.length} parts` : "";
-ready.push({ name: file.name, path, bodies, at: 0, resumes: false });$("looked").append(make("p", `${file.name}: ${kind} of ${counted(count, "record")}, ${bytes.length} bytes${parts}. It begins:`), make("pre", first, { tabIndex: 0 }));}
-$("preview").hidden = !ready.length;$("send").focus();}
+ready.push({ name: file.name, path, bodies, at: 0, resumes: false });shown.push(make("p", `${file.name}: ${kind} of ${counted(count, "record")}, ${bytes.length} bytes${parts}. It begins:`), make("pre", first, { tabIndex: 0 }));
+const trial = bodies.length > 1 ? undefined : await trialOf(path, bodies[0]);if (trial) shown.push(...shownTrial(trial));}
+$("looked").replaceChildren(...shown);$("preview").hidden = !ready.length;$("send").focus();}
 function forget() {ready = [];$("preview").hidden = true;say("sheet-said", "Nothing was sent.");}
 const counts = {};let replied = [], notShown = 0;function startReplies() {for (const word of ["done", "again", "refused", "fault"]) counts[word] = 0;(replied = []), (notShown = 0), (stopped = undefined);
 $("lines").replaceChildren(tableOf(["Key", "Reply", "Edit, or cause"], []));$("replies").hidden = false;$("lines").hidden = $("save").hidden = $("resume").hidden = true;say("counts", "");}

@@ -1,5 +1,5 @@
 use Rattle.std.proofs.Common.{refl}
-use Rattle.lrs_cli_sheets.proofs.Trying.{audited_as}
+use Rattle.lrs_cli_sheets.proofs.Audited.{audited_as}
 use Rattle.lrs_cli_sheets.proofs.audit.do_audit.Goals as goal
 
 pub returns-in-Ok-Some : goal.returns-in-Ok-Some

@@ -8,4 +8,6 @@ returns c =
     let i1 = c.in_ok-insert.ensures in
     let i2 = c.in_ok-insert-2.ensures in
     let i3 = c.in_ok-insert-3.ensures in
-    rw (i3.1, i2.1, i1.1)
+    let i4 = c.in_ok-insert-4.ensures in
+    let i5 = c.in_ok-insert-5.ensures in
+    rw (i5.1, i4.1, i3.1, i2.1, i1.1)

@@ -1,0 +1,71 @@
+//! The last edit: its line, and the inventory before it and after it.
+
+use crate::fault::DraftFault;
+use lrs_image::ImageLists;
+use lrs_machine::AssetNumber;
+use lrs_measure::limits::{GREATEST_ASSET, LONGEST_ROUTE};
+use lrs_measure::read_digits;
+use lrs_position::{Expr, RefName, RouteName, read_expr, read_method};
+use lrs_sheet_records::cut_at;
+
+pub(crate) const UNREAD: DraftFault = DraftFault::Impossible(
+    "this edit cannot be undone by a draft yet",
+);
+
+/// The last edit: its line, the inventories before and after it, and from which number on new assets are entered.
+#[derive(Clone, Copy)]
+pub(crate) struct LastEdit<'a> {
+    pub line: &'a [u8],
+    pub was: &'a ImageLists,
+    pub now: &'a ImageLists,
+    pub number: Option<AssetNumber>,
+}
+
+/// The field of a line with so many fields before it, the verb included; no text where there is none.
+pub(crate) fn field(line: &[u8], passed: u32) -> &[u8] {
+    let mut rest = line;
+    for _ in 0..passed {
+        match cut_at(rest, b',') {
+            (_, Some(behind)) => rest = behind,
+            (_, None) => return &line[..0],
+        }
+    }
+    let (text, _) = cut_at(rest, b',');
+    text
+}
+
+/// The route that a field names.
+pub(crate) fn route_name(line: &[u8], passed: u32) -> Option<RouteName> {
+    RouteName::new(field(line, passed))
+}
+
+/// The referent that a field names.
+pub(crate) fn referent_name(line: &[u8], passed: u32) -> Option<RefName> {
+    RefName::new(field(line, passed))
+}
+
+/// The asset whose number a field has.
+pub(crate) fn asset_number(line: &[u8], passed: u32) -> Option<AssetNumber> {
+    let number = read_digits(field(line, passed), GREATEST_ASSET)?;
+    AssetNumber::new(number)
+}
+
+/// The chainage that a field has, in millimetres.
+pub(crate) fn chainage(line: &[u8], passed: u32) -> Result<u64, DraftFault> {
+    match read_digits(field(line, passed), LONGEST_ROUTE) {
+        Some(chainage) => Ok(chainage),
+        None => Err(UNREAD),
+    }
+}
+
+/// The position that the field behind `passed` ones has, by the method of another field.
+fn expression(line: &[u8], method: u32, passed: u32) -> Option<Expr> {
+    let method = read_method(field(line, method))?;
+    read_expr(method, field(line, passed))
+}
+
+/// The positions that a line has behind its method, the second only where its field is not empty.
+pub(crate) fn expressions(line: &[u8], method: u32) -> Option<(Expr, Option<Expr>)> {
+    let from = expression(line, method, method.saturating_add(1))?;
+    Some((from, expression(line, method, method.saturating_add(2))))
+}
