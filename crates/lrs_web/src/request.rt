@@ -107,7 +107,8 @@ fn needs_commits(resource: Resource) -> bool
         | Resource::EditsCheck
         | Resource::Surveys
         | Resource::SurveysCheck
-        | Resource::Questions => false,
+        | Resource::Questions
+        | Resource::Draft(_) => false,
     }
 }
 

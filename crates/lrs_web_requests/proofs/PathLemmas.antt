@@ -49,10 +49,10 @@ rows_for entries = map (λ entry. plain entry.0 entry.1) entries
 
 -- the paths in front of that of a route, and those behind it
 abbrev front : List (List ℕ × Named)
-front = take 26 literal_paths
+front = take 33 literal_paths
 
 abbrev back : List (List ℕ × Named)
-back = drop 26 literal_paths
+back = drop 33 literal_paths
 
 -- the path of a route, and what is behind it
 abbrev route_and_back : RowsOf (RouteOf Named)
