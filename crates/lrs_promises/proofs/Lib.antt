@@ -11,6 +11,7 @@ pub mod Once
 pub mod Places
 pub mod Translated
 pub mod Framed
+pub mod FullLimits
 pub mod Resumed
 pub mod Replied
 pub mod Pictured

@@ -86,22 +86,23 @@ QuestionSheetsEndAlike = (i j : Image) (input old written earlier other : Text) 
 
 -- ---- what is asked
 
--- whether what is posted is answered by the state: a sheet that is done is, and one of questions that asks for no history. A sheet that is tried is left out, since its advice is told by no definition.
+-- whether what is posted is answered by the state: a sheet that is done is, in whatever way, and one of questions that asks for no history. A sheet that is tried or drafted is left out: the advice of a trial is told by no definition.
 abbrev pub IsPostedOfState : Posted → Text → Type 0
 IsPostedOfState post.Questions body = AsksNoHistory body
 IsPostedOfState (post.Trial kind) body = ⊥
+IsPostedOfState (post.Draft kind) body = ⊥
 IsPostedOfState (post.Sheet kind) body = ⊤
 
--- whether a request asks for anything but what is gone and what became of an asset, which are listed by the rows of the ledgers: it may be refused, and post any sheet but one that is tried, and one of questions that asks for a history
+-- whether a request asks for anything but what is gone and what became of an asset, which are listed by the rows of the ledgers: it may be refused, and post any sheet but one that is tried, what one is drafted by, and one of questions that asks for a history
 abbrev pub IsOfState : Asked → Type 0
 IsOfState (query path.Gone format argument) = ⊥
 IsOfState (query path.History format argument) = ⊥
-IsOfState (posted resource resumes body) = IsPostedOfState (posted_at resource) body
+IsOfState (posted resource way body) = IsPostedOfState (posted_at resource) body
 IsOfState _ = ⊤
 
--- whether a request asks, and changes nothing: it may be refused, and ask for anything, but post no sheet other than of questions. A sheet that is tried changes nothing either, but is left out, since its advice is told by no definition.
+-- whether a request asks, and changes nothing: it may be refused, and ask for anything, but post no sheet other than of questions. A sheet that is tried or drafted changes nothing either, but is left out: the advice of a trial is told by no definition.
 abbrev pub OnlyAsks : Asked → Type 0
-OnlyAsks (posted resource resumes body) = posted_at resource ≡ post.Questions
+OnlyAsks (posted resource way body) = posted_at resource ≡ post.Questions
 OnlyAsks _ = ⊤
 
 -- The bytes of a request ask for one thing, and this passes.
@@ -112,7 +113,7 @@ pub record AsksOneThing (Passes : Asked → Type 0) (input : Text) : Type 0 wher
 
 -- ---- of calls
 
--- a sheet, a survey, or a request for anything but what is gone, histories and trials
+-- a sheet, a survey, or a request for anything but what is gone, histories, trials and drafts
 abbrev pub IsCallOfState : Call → Type 0
 IsCallOfState (call.Edits bytes) = ⊤
 IsCallOfState (call.Survey bytes) = ⊤

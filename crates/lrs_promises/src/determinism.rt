@@ -36,13 +36,13 @@ pub fn a_state_determines_its_inventory()
 /// The bytes of calls, and the state before them, determine the bytes that they write and the state after them, over any
 /// keepers: of sheets and surveys that end whole or are broken off for a fault of their own, and of requests for anything
 /// but what is gone and histories, also in sheets of questions, which are listed by the rows of the ledgers, and but for
-/// sheets that are tried, whose advice is told by no definition.
+/// sheets that are tried, whose advice is told by no definition, or drafted.
 pub fn calls_determine_their_replies<K: Keeper, J: Keeper>()
     ensures { CallsEndAlike K.may_hold J.may_hold }
 {}
 
 /// The bytes of questions, and the image, determine the bytes that are answered, over any keepers: of all requests but
-/// those that post an edit sheet or a survey, to be done or tried.
+/// those that post an edit sheet or a survey, to be done or tried, or by which a sheet is drafted.
 pub fn questions_determine_their_answers<K: Keeper, J: Keeper>()
     ensures { QuestionsEndAlike K.may_hold J.may_hold }
 {}
