@@ -128,7 +128,7 @@ gone_on_once failed sheet together limits input before after old new ended d (in
 -- ---- a trial
 
 -- a trial is a run from the first record on, of one record after the other
-run_of_trial : (sheet : Sheet) (input : Text) (before made : State) (replies : Text) (outcome : Result Tally SheetFault) (tried : IsTried sheet 0 input before made replies outcome)
+pub run_of_trial : (sheet : Sheet) (input : Text) (before made : State) (replies : Text) (outcome : Result Tally SheetFault) (tried : IsTried sheet 0 input before made replies outcome)
     → Runs sheet 1 tried.limits input before made (Some []) (Some replies) outcome
 run_of_trial sheet input before made replies outcome tried = tried.runs [] (inl refl) refl
 
@@ -218,7 +218,7 @@ of_end : (text other : Text) (after instead : State) (ended end : Result Tally S
 of_end text other after instead ended end h = record { wrote = h.wrote.one ∙ sym h.wrote.same; state = h.state }
 
 -- the answer to a sheet that is no 503 is that of its end
-answer_of_end : {T : Type 0} (ended : Result T SheetFault) (lines : Text) (answer : Answer) → IsAnswerAfter ended lines answer → (answer.status ≡ 503 → ⊥) → answer ≡ answer_after ended lines
+pub answer_of_end : {T : Type 0} (ended : Result T SheetFault) (lines : Text) (answer : Answer) → IsAnswerAfter ended lines answer → (answer.status ≡ 503 → ⊥) → answer ≡ answer_after ended lines
 answer_of_end ended lines answer (inl is) served = is
 answer_of_end ended lines answer (inr is) served = absurd (served (ap (λ (a : Answer). a.status) is))
 

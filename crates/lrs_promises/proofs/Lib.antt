@@ -19,6 +19,7 @@ pub mod OneInventory
 pub mod Asked
 pub mod Agreeing
 pub mod Ends
+pub mod AsTried
 pub mod Fewest
 pub mod Trips
 pub mod Leaving

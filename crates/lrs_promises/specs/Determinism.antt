@@ -1,5 +1,5 @@
 -- Equal bytes and equal states give equal bytes and equal states.
-use Rattle.std.specs.Prelude.{◌≡◌, ◌⊎◌, ℕ, Bool, true, ◌++◌, List, [], ◌∷◌, codes, Some, Result, ⊤}
+use Rattle.std.specs.Prelude.{◌≡◌, ◌⊎◌, ℕ, Bool, true, ◌++◌, List, [], ◌∷◌, codes, Some, Ok, Result, ⊤}
 use Rattle.std.specs.List.{AllByRecursion}
 use Rattle.lrs_machine.specs.Image.{state_of}
 use Rattle.lrs_machine.specs.Lines.{Text}
@@ -14,13 +14,16 @@ use Rattle.lrs_sheet_records.specs.Rows.{BeginsWith}
 use Rattle.lrs_sheet_records.specs.declared.sheet.Sheet.{Sheet}
 use Rattle.lrs_sheet.specs.Resumption.{Resumes}
 use Rattle.lrs_sheet.specs.Sheets.{Runs}
+use Rattle.lrs_sheet.specs.Trials.{IsFull, IsTried}
 use Rattle.lrs_sheet_records.specs.declared.fault.SheetFault.{SheetFault}
 use Rattle.lrs_sheet.specs.declared.reply.Tally.{Tally}
 use Rattle.lrs_sheet_questions.specs.SheetAnswers.{RunsQuestions}
 use Rattle.lrs_sheet_questions.specs.declared.tally.QuestionTally.{QuestionTally}
 use Rattle.lrs_web_requests.specs.declared.paths.Resource.TheVariants as path
 use Rattle.lrs_web_requests.specs.Request.{Asked, Asks, query, sheet as posted}
+use Rattle.lrs_web_requests.specs.Text.{Answer}
 use Rattle.lrs_web.specs.RequestAnswers.{posted_at}
+use Rattle.lrs_web.specs.Sheets.{DoesAllOrNone, lines_answer}
 use Rattle.lrs_web.specs.declared.request.Posted.{Posted}
 use Rattle.lrs_web.specs.declared.request.Posted.TheVariants as post
 use Rattle.lrs_promises.specs.declared.calls.Call.{Call}
@@ -52,6 +55,12 @@ ResumedEndAlike = (sheet : Sheet) (failed broken : Bool) (together others : ℕ)
     → is_decided ended ≡ true → is_decided end ≡ true
     → Resumes failed sheet together limits input before after (Some old) (Some written) ended → Resumes broken sheet others limits input before instead (Some earlier) (Some other) end
     → EndAlike old written earlier other after instead ended end
+
+-- Whatever keeper a desk of full limits has, it does a sheet as a whole or not at all. Where it answers so, and not with a 503, that is as a trial foretells it: the reply has the lines of the trial, which refused nothing, and the desk's image stands for the state that the trial made. Or something was refused or at fault, and the desk is as it was.
+abbrev pub AllOrNoneIsAsTried : {K : Type 0} → (K → Result Image Table → Type 0) → Type 0
+AllOrNoneIsAsTried {K} holds = (sheet : Sheet) (input : Text) (old new : DeskView K) (answer : Answer) → IsFull old.limits → DoesAllOrNone holds sheet input old answer new → (answer.status ≡ 503 → ⊥)
+    → ((replies : Text) × (tally : Tally) × IsTried sheet 0 input (state_of old.image) (state_of new.image) replies (Ok tally) × (tally.refused ≡ 0) × (answer ≡ lines_answer 200 replies))
+    ⊎ ((new ≡ old) × ((answer.status ≡ 409) ⊎ (answer.status ≡ 422)))
 
 -- ---- the inventory
 

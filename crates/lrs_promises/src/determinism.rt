@@ -1,6 +1,7 @@
 //! Equal bytes and equal states give equal bytes and equal states.
 
 ghost use Rattle.lrs_promises.specs.Determinism.{
+  AllOrNoneIsAsTried,
   CallsEndAlike,
   InventoriesAreOne,
   QuestionSheetsEndAlike,
@@ -20,6 +21,13 @@ pub fn a_sheet_determines_its_end()
 /// So do those of a sheet that goes on behind its last record that is an edit.
 pub fn a_resumed_sheet_determines_its_end()
     ensures { ResumedEndAlike }
+{}
+
+/// A sheet that is done over HTTP as a whole or not at all is answered as its trial foretells, and makes the state that the
+/// trial makes, at a desk whose inventory may hold as much as one may hold at all; where something of it is refused or at
+/// fault, nothing changes.
+pub fn a_sheet_is_done_as_it_was_tried<K: Keeper>()
+    ensures { AllOrNoneIsAsTried K.may_hold }
 {}
 
 /// The bytes of a sheet of questions and the inventory, but for the rows of its ledgers, determine how it ends, and the
