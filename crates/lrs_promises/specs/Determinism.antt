@@ -95,7 +95,7 @@ QuestionSheetsEndAlike = (i j : Image) (input old written earlier other : Text) 
 
 -- ---- what is asked
 
--- whether what is posted is answered by the state: a sheet that is done is, in whatever way, and one of questions that asks for no history. A sheet that is tried or drafted is left out: the advice of a trial is told by no definition.
+-- whether what is posted is answered by the state: a sheet that is done is, in whatever way, and one of questions that asks for no history. A sheet that is tried or drafted is left out: the advice of a trial, and why there is no draft, are told by no definition.
 abbrev pub IsPostedOfState : Posted → Text → Type 0
 IsPostedOfState post.Questions body = AsksNoHistory body
 IsPostedOfState (post.Trial kind) body = ⊥
@@ -109,7 +109,7 @@ IsOfState (query path.History format argument) = ⊥
 IsOfState (posted resource way body) = IsPostedOfState (posted_at resource) body
 IsOfState _ = ⊤
 
--- whether a request asks, and changes nothing: it may be refused, and ask for anything, but post no sheet other than of questions. A sheet that is tried or drafted changes nothing either, but is left out: the advice of a trial is told by no definition.
+-- whether a request asks, and changes nothing: it may be refused, and ask for anything, but post no sheet other than of questions. A sheet that is tried or drafted changes nothing either, but is left out for the same.
 abbrev pub OnlyAsks : Asked → Type 0
 OnlyAsks (posted resource way body) = posted_at resource ≡ post.Questions
 OnlyAsks _ = ⊤

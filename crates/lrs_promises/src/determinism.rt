@@ -44,7 +44,7 @@ pub fn a_state_determines_its_inventory()
 /// The bytes of calls, and the state before them, determine the bytes that they write and the state after them, over any
 /// keepers: of sheets and surveys that end whole or are broken off for a fault of their own, and of requests for anything
 /// but what is gone and histories, also in sheets of questions, which are listed by the rows of the ledgers, and but for
-/// sheets that are tried, whose advice is told by no definition, or drafted.
+/// sheets that are tried or drafted, since no definition tells the advice of a trial, or why there is no draft.
 pub fn calls_determine_their_replies<K: Keeper, J: Keeper>()
     ensures { CallsEndAlike K.may_hold J.may_hold }
 {}
