@@ -3,8 +3,19 @@
 ghost use Rattle.std.specs.Prelude.{◌≡◌, ◌⊎◌, IfOk, IsTrue, false, true};
 ghost use Rattle.lrs_machine.specs.Image.{state_of};
 ghost use Rattle.lrs_web_requests.specs.Text.{answer_of, empty_answer};
-ghost use Rattle.lrs_web_requests.specs.declared.request.Course.TheVariants.{BehindLast};
-ghost use Rattle.lrs_web.specs.Sheets.{DoesAllOrNone, DoesSheet, DoesTried, IsAccepted, IsAnswerAfter, IsUndone, RunsSheet, WasTried, fault_answer, lines_answer, refusal_after};
+ghost use Rattle.lrs_web.specs.Sheets.{
+  DoesAllOrNone,
+  DoesSheet,
+  DoesTried,
+  IsAccepted,
+  IsAnswerAfter,
+  IsUndone,
+  RunsSheet,
+  WasTried,
+  fault_answer,
+  lines_answer,
+  refusal_after,
+};
 
 use crate::recipient::{AnyClient, Client, Recipient, ReplyLines, limited};
 use http::StatusCode;
@@ -81,7 +92,7 @@ fn go_on<C: Client, K: Keeper>(
     bytes: &[u8],
     desk: &mut Desk<K>,
 ) -> Response
-    ensures { DoesSheet K.may_hold sheet BehindLast bytes.now desk.old (answer_of result)
+    ensures { DoesSheet K.may_hold sheet Course.BehindLast bytes.now desk.old (answer_of result)
         desk.new }
 {
     let mut lines = ReplyLines::new(alloc, to);
@@ -95,6 +106,7 @@ fn go_on<C: Client, K: Keeper>(
 }
 
 /// Tries a sheet at a copy of the inventory of a desk, which is let go behind that.
+#[tactic(auto, using(crate::proofs::AllOrNone::was_tried))]
 fn try_whole<K: Keeper>(
     alloc: Global,
     sheet: Sheet,
