@@ -94,7 +94,7 @@ def test_each_reply_is_the_example_of_it():
             if (path, said) in DRAFTS:
                 continue
             sheet = said["requestBody"]["content"]["text/csv"]["example"].encode() if method == "post" else None
-            status, kind, body = got(server.port, f"{method.upper()} {target(path, said['parameters'], resume=None)}", sheet)
+            status, kind, body = got(server.port, f"{method.upper()} {target(path, said['parameters'], resume=None, all=None)}", sheet)
             example = said["responses"]["200"]["content"][kind]["example"]
             assert (status, json.loads(body) if kind == "application/json" else body.decode()) == ("200", example), path
 
@@ -223,6 +223,8 @@ def test_sheets_are_as_the_file_says(port, path):
     assert got(port, f"POST {path}", header) == ("200", None, b"")
     status, kind, body = got(port, f"POST {path}", header + b"x\n")
     assert (status, kind, body) == ("422", "text/csv", b"-,fault,BadCsv\n") and kind in said["responses"]["422"]["content"]
-    assert got(port, f"POST {path}?resume=2", header) == ("400", None, b"") and is_said(said, "400", None, b"")
-    assert got(port, f"POST {path}?resume=1", header)[0] == "200"
+    for switches in ["resume=2", "all=2", "resume=1&all=1"]:
+        assert got(port, f"POST {path}?{switches}", header) == ("400", None, b"") and is_said(said, "400", None, b"")
+    for switch in ["resume=1", "all=1"]:
+        assert got(port, f"POST {path}?{switch}", header)[0] == "200"
     assert got(port, f"POST {path}")[0] == "411"

@@ -121,7 +121,7 @@ IsFound entry = named_at entry.0 ≡ Some entry.1
 literal_is_found : (path : List ℕ) (named : Named) → Contains literal_paths (path, named) → named_at path ≡ Some named
 unfolding matchit_on_literals rows IsFound
 literal_is_found path named has =
-    All-contains IsFound literal_paths (path, named) (All-from_recursion IsFound literal_paths (refl, (refl, (refl, (refl, (refl, (refl, (refl, (refl, (refl, (refl, (refl, (refl, (refl, (refl, (refl, (refl, (refl, (refl, (refl, (refl, (refl, (refl, (refl, (refl, (refl, (refl, (refl, (refl, (refl, (refl, (refl, (refl, (refl, (refl, (refl, (refl, tt))))))))))))))))))))))))))))))))))))) has
+    All-contains IsFound literal_paths (path, named) (All-from_recursion IsFound literal_paths (refl, (refl, (refl, (refl, (refl, (refl, (refl, (refl, (refl, (refl, (refl, (refl, (refl, (refl, (refl, (refl, (refl, (refl, (refl, (refl, (refl, (refl, (refl, (refl, (refl, (refl, (refl, (refl, (refl, (refl, (refl, (refl, (refl, (refl, (refl, (refl, (refl, (refl, (refl, (refl, (refl, (refl, (refl, tt)))))))))))))))))))))))))))))))))))))))))))) has
 
 route_is_found : (word : List ℕ) → IsWord word → named_at (codes "/v1/route/" ++ word) ≡ Some (Route, Json)
 unfolding rows

@@ -1,6 +1,5 @@
 -- What a path names, a resource and the format of its answer: 43 paths stand for themselves, and the path of a route ends in the route's name.
 use Rattle.std.specs.Prelude.{◌≡◌, ◌≢◌, ◌⊎◌, ◌↔◌, ℕ, List, [], ◌∷◌, ◌++◌, codes, None, Some, Contains}
-use Rattle.lrs_web_requests.specs.declared.paths.Resource.{Resource}
 use Rattle.lrs_web_requests.specs.declared.paths.Resource.TheVariants.{At, Route, Segments, Totals, Translate, Diagram, Routes, Find, Log, Health, Links, Classes, Refs, Marks, Pieces, Rows, Overlay, Lengths, Gone, History, Where, Edits, Surveys, EditsCheck, SurveysCheck, Questions, Draft}
 use Rattle.lrs_web_requests.specs.declared.paths.DraftKind.TheVariants as kind
 use Rattle.lrs_web_requests.specs.declared.paths.Format.TheVariants.{Json, Csv}

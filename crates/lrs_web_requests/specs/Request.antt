@@ -34,7 +34,7 @@ asked_by (task.Refused status) = refused status
 asked_by (task.NotAllowed verb) = not_allowed verb
 asked_by (task.Page text) = page text.now
 asked_by (task.Query resource format text) = query resource format text.items
-asked_by (task.Sheet resource done bytes) = sheet resource done bytes.items
+asked_by (task.Sheet resource way bytes) = sheet resource way bytes.items
 
 abbrev pub is_question_mark : ℕ → Bool
 is_question_mark b = b == 63
@@ -99,12 +99,12 @@ course_of target = switched_course (switched (codes "resume") (query_of target))
 
 abbrev pub with_body : Resource → Option Course → Option (List ℕ) → Asked
 with_body resource None body = refused 400
-with_body resource (Some done) None = refused 400
-with_body resource (Some done) (Some body) = sheet resource done body
+with_body resource (Some way) None = refused 400
+with_body resource (Some way) (Some body) = sheet resource way body
 
 abbrev pub with_length : Resource → Option Course → Result ℕ ℕ → List ℕ → Asked
-with_length resource done (Err status) rest = refused status
-with_length resource done (Ok length) rest = with_body resource done (body_at length rest)
+with_length resource way (Err status) rest = refused status
+with_length resource way (Ok length) rest = with_body resource way (body_at length rest)
 
 -- by the verb of the resource; rest is what follows the head
 abbrev pub by_verb : RequestMethod → Named → List ℕ → List Field → List ℕ → Asked
@@ -159,7 +159,7 @@ IsServed (refused status) = ⊤
 IsServed (not_allowed verb) = ⊤
 IsServed (page text) = ⊤
 IsServed (query resource format argument) = verb_of resource ≡ Get
-IsServed (sheet resource done bytes) = verb_of resource ≡ Post
+IsServed (sheet resource way bytes) = verb_of resource ≡ Post
 
 -- what an input asks for where this page is shown, or none; one whose head has several faults may be refused for either
 abbrev pub AsksWith : Option (List ℕ) → List ℕ → Asked → Type 0
