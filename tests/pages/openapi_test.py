@@ -12,6 +12,7 @@ from serving import answer, request, started
 
 OPERATIONS = [(path, method, said) for path, methods in API["paths"].items() for method, said in methods.items()]
 QUESTIONS = [(path, said) for path, method, said in OPERATIONS if method == "get"]
+DRAFTS = [(path, said) for path, method, said in OPERATIONS if path.startswith("/v1/draft/")]
 MORE = sheet_of("o1,enter,10,SPEED,A1,B,abs,3000,9000,80,0", "o2,ref,KM2,A1,abs,2000", "o3,retire,10,A1,abs,8000,8500")
 
 
@@ -90,10 +91,46 @@ def test_each_reply_is_the_example_of_it():
         for sheet in (FIRST, MORE):
             assert b" 200 " in answer(server.port, request("POST /v1/edits", sheet))
         for path, method, said in sorted(OPERATIONS, key=lambda operation: operation[1]):
+            if (path, said) in DRAFTS:
+                continue
             sheet = said["requestBody"]["content"]["text/csv"]["example"].encode() if method == "post" else None
-            status, kind, body = got(server.port, f"{method.upper()} {target(path, said['parameters'], resume=None)}", sheet)
+            status, kind, body = got(server.port, f"{method.upper()} {target(path, said['parameters'], resume=None, all=None)}", sheet)
             example = said["responses"]["200"]["content"][kind]["example"]
             assert (status, json.loads(body) if kind == "application/json" else body.decode()) == ("200", example), path
+
+
+# what is drafted by the examples of forms
+DRAFTED = sheet_of("d1,link,4,2000", "d2,route,A2,3:0:2000:+,0:9000 2000:11000", "d3,ref,KM10,A2,abs,10000")
+
+
+def form_of(said):
+    """The schema of the form that an operation takes, and the example of it, as it is sent."""
+    form = said["requestBody"]["content"]["application/x-www-form-urlencoded"]
+    return form["schema"], urllib.parse.urlencode(form["example"], doseq=True).encode()
+
+
+def test_each_draft_is_the_example_of_it():
+    with started() as server:
+        for sheet in (FIRST, MORE, DRAFTED):
+            assert b" 200 " in answer(server.port, request("POST /v1/edits", sheet))
+        for path, said in DRAFTS:
+            status, kind, body = got(server.port, f"POST {path}", form_of(said)[1])
+            assert (status, kind, body.decode()) == ("200", "text/csv", said["responses"]["200"]["content"]["text/csv"]["example"]), path
+
+
+@pytest.mark.parametrize("path, said", DRAFTS, ids=lambda x: x if isinstance(x, str) else "")
+def test_a_form_has_the_parameters_that_the_file_says(port, path, said):
+    schema, sent = form_of(said)
+    for name in schema["properties"]:
+        status, kind, body = got(port, f"POST {path}", sent + b"&" + urllib.parse.urlencode({name: "no word"}).encode())
+        assert is_said(said, status, kind, body) and b"Unknown:" not in body, (path, name, body)
+    for name in {"x", "asset", "route", "since", "key"} - set(schema["properties"]):
+        status, kind, body = got(port, f"POST {path}", sent + b"&" + name.encode())
+        assert (status, json.loads(body)) == ("400", {"error": f"Unknown:{name}"}) and is_said(said, status, kind, body)
+    for name in schema.get("required", []):
+        left = "&".join(pair for pair in sent.decode().split("&") if pair.partition("=")[0] != name).encode()
+        status, kind, body = got(port, f"POST {path}", left)
+        assert status in ("400", "409") and is_said(said, status, kind, body), (path, name, body)
 
 
 @pytest.mark.parametrize("path, method, said", OPERATIONS, ids=lambda x: x if isinstance(x, str) else "")
@@ -186,6 +223,8 @@ def test_sheets_are_as_the_file_says(port, path):
     assert got(port, f"POST {path}", header) == ("200", None, b"")
     status, kind, body = got(port, f"POST {path}", header + b"x\n")
     assert (status, kind, body) == ("422", "text/csv", b"-,fault,BadCsv\n") and kind in said["responses"]["422"]["content"]
-    assert got(port, f"POST {path}?resume=2", header) == ("400", None, b"") and is_said(said, "400", None, b"")
-    assert got(port, f"POST {path}?resume=1", header)[0] == "200"
+    for switches in ["resume=2", "all=2", "resume=1&all=1"]:
+        assert got(port, f"POST {path}?{switches}", header) == ("400", None, b"") and is_said(said, "400", None, b"")
+    for switch in ["resume=1", "all=1"]:
+        assert got(port, f"POST {path}?{switch}", header)[0] == "200"
     assert got(port, f"POST {path}")[0] == "411"

@@ -278,6 +278,7 @@ module _ (format : Format) (page : Page) (query : Text) (one two : Answer) (serv
       state_tells path.Surveys read = absurd (false≢true read)
       state_tells path.SurveysCheck read = absurd (false≢true read)
       state_tells path.Questions read = absurd (false≢true read)
+      state_tells (path.Draft kind) read = absurd (false≢true read)
 
   -- ---- what is told by the rows of an inventory, but for those of its ledgers
 
@@ -387,6 +388,7 @@ module _ (format : Format) (page : Page) (query : Text) (one two : Answer) (serv
     rows_tell path.Surveys read = nothing_alike path.Surveys (λ x. x) (λ q asks. asks) (λ k a none. absurd none)
     rows_tell path.SurveysCheck read = nothing_alike path.SurveysCheck (λ x. x) (λ q asks. asks) (λ k a none. absurd none)
     rows_tell path.Questions read = nothing_alike path.Questions (λ x. x) (λ q asks. asks) (λ k a none. absurd none)
+    rows_tell (path.Draft kind) read = nothing_alike (path.Draft kind) (λ x. x) (λ q asks. asks) (λ k a none. absurd none)
 
   state_known : (i j : Image) → IsSound i → IsSound j → state_of i ≡ state_of j → (resource : Resource) → IsOfState (asked resource format query) → AnswersPage i format page resource query one → AnswersPage j format page resource query two → one ≡ two
   state_known i j sound so same resource read h g =
@@ -432,6 +434,7 @@ module _ (format : Format) (page : Page) (query : Text) (one two : Answer) (serv
     image_known path.Surveys = rows_tell i i refl path.Surveys tt
     image_known path.SurveysCheck = rows_tell i i refl path.SurveysCheck tt
     image_known path.Questions = rows_tell i i refl path.Questions tt
+    image_known (path.Draft kind) = rows_tell i i refl (path.Draft kind) tt
 
 -- ---- with the page that the query gives
 

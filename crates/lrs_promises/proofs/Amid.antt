@@ -1,5 +1,5 @@
 -- What is left of a keeper, whatever ends a sheet or a request.
-use Rattle.std.proofs.Common.{◌≡◌, ◌⊎◌, inl, inr, ℕ, Bool, true, false, [], Option, Some, Result, Ok, Err, IfOk, IfSome, refl, sym, subst, arith}
+use Rattle.std.proofs.Common.{◌≡◌, ◌⊎◌, inl, inr, ℕ, [], Option, Some, Result, Ok, Err, IfOk, IfSome, refl, sym, subst, arith}
 use Rattle.lrs_machine.specs.Image.{state_of}
 use Rattle.lrs_machine.specs.Lines.{Text}
 use Rattle.lrs_machine.specs.declared.image.Image.{Image}
@@ -16,6 +16,8 @@ use Rattle.lrs_sheet.specs.declared.reply.Tally.{Tally}
 use Rattle.lrs_sheet.proofs.Done.{stays}
 use Rattle.lrs_web_requests.specs.Request.{Asked, refused, not_allowed, page, query, sheet as posted}
 use Rattle.lrs_web_requests.specs.Text.{Answer}
+use Rattle.lrs_web_requests.specs.declared.request.Course.{Course}
+use Rattle.lrs_web_requests.specs.declared.request.Course.TheVariants as course
 use Rattle.lrs_web.specs.RequestAnswers.{Does, DoesPosted, Responds, Serves, Writes, posted_at}
 use Rattle.lrs_web.specs.declared.request.Posted.{Posted}
 use Rattle.lrs_web.specs.declared.request.Posted.TheVariants as post
@@ -66,19 +68,23 @@ module _ {K : Type 0} (holds : K → Result Image Table → Type 0) (old new : D
     cause = λ e. subst (HasRisen (failures old.keeper)) is (subst (λ (n : ℕ). HasRisen n new.failures) was desk.cause);
   }
 
-  posted_keeps : (what : Posted) (resumes : Bool) (body : Text) (answer : Answer) → DoesPosted holds what resumes body old answer new → Kept
-  posted_keeps post.Questions resumes body answer (same, told, ahead) = same_keeps same
-  posted_keeps (post.Trial kind) resumes body answer (same, told, ahead) = same_keeps same
-  posted_keeps (post.Sheet kind) false body answer (ended, lines, run, is) = sheet_keeps ended run.desk run.amid
-  posted_keeps (post.Sheet kind) true body answer (inl (ended, lines, run, is)) = sheet_keeps ended run.desk run.amid
-  posted_keeps (post.Sheet kind) true body answer (inr (twice, repeated, same, is)) = same_keeps same
+  posted_keeps : (what : Posted) (way : Course) (body : Text) (answer : Answer) → DoesPosted holds what way body old answer new → Kept
+  posted_keeps post.Questions way body answer (same, told, ahead) = same_keeps same
+  posted_keeps (post.Trial kind) way body answer (same, told, ahead) = same_keeps same
+  posted_keeps (post.Draft kind) way body answer (same, told, ahead) = same_keeps same
+  posted_keeps (post.Sheet kind) course.EachRecord body answer (ended, lines, run, is) = sheet_keeps ended run.desk run.amid
+  posted_keeps (post.Sheet kind) course.BehindLast body answer (inl (ended, lines, run, is)) = sheet_keeps ended run.desk run.amid
+  posted_keeps (post.Sheet kind) course.BehindLast body answer (inr (twice, repeated, same, is)) = same_keeps same
+  posted_keeps (post.Sheet kind) course.AllOrNone body answer (inl (behind, replies, outcome, tried, inl (accepted, (ended, lines, run, is)))) = sheet_keeps ended run.desk run.amid
+  posted_keeps (post.Sheet kind) course.AllOrNone body answer (inl (behind, replies, outcome, tried, inr (refused, same, is))) = same_keeps same
+  posted_keeps (post.Sheet kind) course.AllOrNone body answer (inr (same, is)) = same_keeps same
 
   does_keeps : (asked : Asked) (answer : Answer) → Does holds asked old answer new → Kept
   does_keeps (refused status) answer does = same_keeps does.0
   does_keeps (not_allowed verb) answer does = same_keeps does.0
   does_keeps (page text) answer does = same_keeps does.0
   does_keeps (query resource format argument) answer does = same_keeps does.0
-  does_keeps (posted resource resumes body) answer does = posted_keeps (posted_at resource) resumes body answer does
+  does_keeps (posted resource way body) answer does = posted_keeps (posted_at resource) way body answer does
 
   pub request_leaves : (input before after : Option Text) (result : Result ℕ WebFault)
       → IfOk result (λ status. (answer : Answer) × Writes before after status answer × IfSome input (λ bytes. Serves holds bytes old answer new))

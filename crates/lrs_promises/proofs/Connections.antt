@@ -26,12 +26,14 @@ use Rattle.lrs_sheet.specs.declared.reply.Tally.{Tally}
 use Rattle.lrs_sheet.proofs.Waits.{replied-append}
 use Rattle.lrs_web_requests.specs.Request.{Asked, refused, not_allowed, page, query, sheet as posted}
 use Rattle.lrs_web_requests.specs.Text.{Answer}
+use Rattle.lrs_web_requests.specs.declared.request.Course.{Course}
+use Rattle.lrs_web_requests.specs.declared.request.Course.TheVariants as course
 use Rattle.lrs_web.specs.RequestAnswers.{Does, DoesPosted, posted_at}
 use Rattle.lrs_web.specs.declared.request.Posted.{Posted}
 use Rattle.lrs_web.specs.declared.request.Posted.TheVariants as post
 use Rattle.lrs_web.specs.Visits.{Exchange, IsCut, IsFull, Visited, Visits, nobody, full_visit, cut_visit}
 use Rattle.lrs_web.specs.declared.door.Served.{Served}
-use Rattle.lrs_promises.specs.Calls.{GivesAsked, GivesBehind, GivesPosted, GivesRest}
+use Rattle.lrs_promises.specs.Calls.{GivesAllOrNone, GivesAsked, GivesBehind, GivesPosted, GivesRest}
 use Rattle.lrs_promises.specs.Services.{ConnectionGives, ConnectionsGive, CutOffGives, IsService, none_gives, full_gives, cut_gives}
 use Rattle.lrs_promises.proofs.FirstCommands.{first_given}
 use Rattle.lrs_promises.proofs.Framed.{front_begins}
@@ -169,24 +171,34 @@ module _ {K : Type 0} (holds : K → Result Image Table → Type 0) (shown : Opt
   first_made : (G : List Record → Type 0) (old new : DeskView K) → GaveFirst old.limits G (state_of old.image) (state_of new.image) → new.limits ≡ old.limits → Made (GivesFirst G) old new
   first_made G old new gave limits = record { commands = gave.commands; gives = gave.gives; state = gave.state; limits = limits }
 
-  posted_made : (what : Posted) (resumes : Bool) (body : Text) (answer : Answer) (old new : DeskView K) → DoesPosted holds what resumes body old answer new
-      → Made (GivesFirst (GivesPosted what resumes body (state_of old.image))) old new
-  posted_made post.Questions resumes body answer old new (same, told, ahead) = none_made (GivesFirst (GivesPosted post.Questions resumes body (state_of old.image))) old new (inl refl) same
-  posted_made (post.Trial kind) resumes body answer old new (same, told, ahead) = none_made (GivesFirst (GivesPosted (post.Trial kind) resumes body (state_of old.image))) old new (inl refl) same
-  posted_made (post.Sheet kind) false body answer old new (ended, lines, run, is) =
+  posted_made : (what : Posted) (way : Course) (body : Text) (answer : Answer) (old new : DeskView K) → DoesPosted holds what way body old answer new
+      → Made (GivesFirst (GivesPosted what way body (state_of old.image))) old new
+  posted_made post.Questions way body answer old new (same, told, ahead) = none_made (GivesFirst (GivesPosted post.Questions way body (state_of old.image))) old new (inl refl) same
+  posted_made (post.Trial kind) way body answer old new (same, told, ahead) = none_made (GivesFirst (GivesPosted (post.Trial kind) way body (state_of old.image))) old new (inl refl) same
+  posted_made (post.Draft kind) way body answer old new (same, told, ahead) = none_made (GivesFirst (GivesPosted (post.Draft kind) way body (state_of old.image))) old new (inl refl) same
+  posted_made (post.Sheet kind) course.EachRecord body answer old new (ended, lines, run, is) =
       first_made (GivesBehind [] kind body) old new
       (behind_gave [] kind records_together old.limits body (state_of old.image) (state_of new.image) (Some []) (Some lines) ended run.runs) (same_limits old new ended run.desk)
-  posted_made (post.Sheet kind) true body answer old new (inr (twice, repeated, same, is)) = none_made (GivesFirst (GivesPosted (post.Sheet kind) true body (state_of old.image))) old new (inl refl) same
-  posted_made (post.Sheet kind) true body answer old new (inl (ended, lines, run, is)) =
+  posted_made (post.Sheet kind) course.BehindLast body answer old new (inr (twice, repeated, same, is)) = none_made (GivesFirst (GivesPosted (post.Sheet kind) course.BehindLast body (state_of old.image))) old new (inl refl) same
+  posted_made (post.Sheet kind) course.BehindLast body answer old new (inl (ended, lines, run, is)) =
       first_made (GivesRest kind body (state_of old.image)) old new
       (rest_gave_first old.must_reopen kind records_together old.limits body (state_of old.image) (state_of new.image) (Some []) (Some lines) ended run.runs) (same_limits old new ended run.desk)
+  posted_made (post.Sheet kind) course.AllOrNone body answer old new (inl (behind, replies, outcome, tried, inl (accepted, (ended, lines, run, is)))) =
+      first_made (GivesAllOrNone kind body (state_of old.image)) old new
+      (gave_under old.limits (GivesBehind [] kind body) (GivesAllOrNone kind body (state_of old.image)) (state_of old.image) (state_of new.image) (λ commands given. (replies, outcome, tried, inl (accepted, given)))
+      (behind_gave [] kind records_together old.limits body (state_of old.image) (state_of new.image) (Some []) (Some lines) ended run.runs))
+      (same_limits old new ended run.desk)
+  posted_made (post.Sheet kind) course.AllOrNone body answer old new (inl (behind, replies, outcome, tried, inr (refused, same, is))) =
+      none_made (GivesFirst (GivesPosted (post.Sheet kind) course.AllOrNone body (state_of old.image))) old new (inl refl) same
+  posted_made (post.Sheet kind) course.AllOrNone body answer old new (inr (same, is)) =
+      none_made (GivesFirst (GivesPosted (post.Sheet kind) course.AllOrNone body (state_of old.image))) old new (inl refl) same
 
   asked_made : (asked : Asked) (answer : Answer) (old new : DeskView K) → Does holds asked old answer new → Made (GivesFirst (GivesAsked asked (state_of old.image))) old new
   asked_made (refused status) answer old new does = none_made (GivesFirst (GivesAsked (refused status) (state_of old.image))) old new (inl refl) does.0
   asked_made (not_allowed verb) answer old new does = none_made (GivesFirst (GivesAsked (not_allowed verb) (state_of old.image))) old new (inl refl) does.0
   asked_made (page text) answer old new does = none_made (GivesFirst (GivesAsked (page text) (state_of old.image))) old new (inl refl) does.0
   asked_made (query resource format argument) answer old new does = none_made (GivesFirst (GivesAsked (query resource format argument) (state_of old.image))) old new (inl refl) does.0
-  asked_made (posted resource resumes body) answer old new does = posted_made (posted_at resource) resumes body answer old new does
+  asked_made (posted resource way body) answer old new does = posted_made (posted_at resource) way body answer old new does
 
   -- ---- connections
 

@@ -19,6 +19,7 @@ use Rattle.lrs_sheet.specs.Repetition.{HasKeysOnce}
 use Rattle.lrs_sheet.specs.Resumption.{Resumes}
 use Rattle.lrs_sheet_records.specs.Rows.{BeginsWith}
 use Rattle.lrs_sheet.specs.Sheets.{AreAnswered, Runs, RunsBehind, records_together}
+use Rattle.lrs_sheet.specs.Trials.{IsTried}
 use Rattle.lrs_sheet_records.specs.declared.fault.SheetFault.{SheetFault}
 use Rattle.lrs_sheet_records.specs.declared.fault.SheetFault.TheVariants as fault
 use Rattle.lrs_sheet.specs.declared.reply.Reply.{Reply}
@@ -30,18 +31,21 @@ use Rattle.lrs_sheet_questions.specs.Replies.{Reply as QuestionReply, lines_of a
 use Rattle.lrs_sheet_questions.specs.declared.tally.QuestionTally.{QuestionTally}
 use Rattle.lrs_web_requests.specs.Request.{Asked, refused, not_allowed, page, query, sheet as posted}
 use Rattle.lrs_web_requests.specs.Text.{Answer, answer_text, empty_answer}
+use Rattle.lrs_web_requests.specs.declared.request.Course.{Course}
+use Rattle.lrs_web_requests.specs.declared.request.Course.TheVariants as course
 use Rattle.lrs_web.specs.QueryAnswers.{AnswersAsked}
 use Rattle.lrs_web.specs.Questions.{RepliesToQuestions}
 use Rattle.lrs_web.specs.RequestAnswers.{Does, DoesPosted, posted_at}
 use Rattle.lrs_web.specs.declared.request.Posted.{Posted}
 use Rattle.lrs_web.specs.declared.request.Posted.TheVariants as post
-use Rattle.lrs_web.specs.Sheets.{IsAnswerAfter, answer_after}
+use Rattle.lrs_web.specs.Sheets.{DoesAllOrNone, DoesTried, IsAccepted, IsAnswerAfter, RunsSheet, WasTried, answer_after, refusal_after}
 use Rattle.lrs_promises.specs.Calls.{Did, is_decided}
 use Rattle.lrs_promises.specs.Determinism.{AsksNoHistory, CallsEndAlike, EndAlike, IsCallOfState, IsOfNoHistory, IsOfState, IsPostedOfState, IsQuestion, OnlyAsks, QuestionSheetsEndAlike, QuestionsEndAlike, ResumedEndAlike, SameInventories, SheetsEndAlike, StandAlike, WroteAlike}
 use Rattle.lrs_promises.specs.declared.calls.Call.{Call}
 use Rattle.lrs_promises.specs.declared.calls.Call.TheVariants as call
 use Rattle.lrs_promises.proofs.Agreeing.{image_alike, state_alike}
 use Rattle.lrs_promises.proofs.OneInventory.{same_inventories}
+use Rattle.lrs_promises.proofs.FullLimits.{full_alike}
 use Rattle.lrs_promises.proofs.Framed.{Alike, Framed, PassAlike, all_begin, each, empty, framed_alike, neither, other_header, other_width, whole}
 use Rattle.lrs_promises.proofs.Given.{answer_decided, call_gave, undecided}
 use Rattle.lrs_promises.proofs.Replied.{replies_alike}
@@ -121,6 +125,28 @@ gone_on_once : (failed : Bool) (sheet : Sheet) (together : ℕ) (limits : Limits
 gone_on_once failed sheet together limits input before after old new ended d (inl none) = absurd (undecided failed before after old new ended d none)
 gone_on_once failed sheet together limits input before after old new ended d (inr (once, decided, passed, is, runs)) = once
 
+-- ---- a trial
+
+-- a trial is a run from the first record on, of one record after the other
+pub run_of_trial : (sheet : Sheet) (input : Text) (before made : State) (replies : Text) (outcome : Result Tally SheetFault) (tried : IsTried sheet 0 input before made replies outcome)
+    → Runs sheet 1 tried.limits input before made (Some []) (Some replies) outcome
+run_of_trial sheet input before made replies outcome tried = tried.runs [] (inl refl) refl
+
+-- two trials of the same sheet from one state end alike
+trials_alike : (sheet : Sheet) (input : Text) (before start : State) (replies others : Text) (outcome end : Result Tally SheetFault) → before ≡ start → WasTried sheet input before replies outcome → WasTried sheet input start others end
+    → is_decided outcome ≡ true → is_decided end ≡ true → WroteAlike [] replies [] others outcome end
+trials_alike sheet input before start replies others outcome end same (made, tried) (instead, trial) d e =
+    let limits = full_alike tried.limits trial.limits tried.full trial.full in
+    let runs = coe 0 1 (k. Runs sheet 1 (limits k) input (same k) made (Some []) (Some replies) outcome) (run_of_trial sheet input before made replies outcome tried) in
+    (sheets_end_alike sheet 1 1 trial.limits input start made instead [] replies [] others outcome end d e runs (run_of_trial sheet input start instead others end trial)).wrote
+
+-- one by which an answer that is no 503 came about was decided
+tried_decided : {K : Type 0} (holds : K → Result Image Table → Type 0) (sheet : Sheet) (input replies : Text) (outcome : Result Tally SheetFault) (old : DeskView K) (answer : Answer) (new : DeskView K)
+    → DoesTried holds sheet input replies outcome old answer new → (answer.status ≡ 503 → ⊥) → is_decided outcome ≡ true
+tried_decided holds sheet input replies (Ok tally) old answer new does served = refl
+tried_decided holds sheet input replies (Err e) old answer new (inl (accepted, runs)) served = absurd accepted
+tried_decided holds sheet input replies (Err e) old answer new (inr (refused, same, is)) served = answer_decided {T = Tally} (Err e) replies answer (inl is) served
+
 -- ---- a sheet of questions
 
 -- how its run was decided
@@ -192,7 +218,7 @@ of_end : (text other : Text) (after instead : State) (ended end : Result Tally S
 of_end text other after instead ended end h = record { wrote = h.wrote.one ∙ sym h.wrote.same; state = h.state }
 
 -- the answer to a sheet that is no 503 is that of its end
-answer_of_end : {T : Type 0} (ended : Result T SheetFault) (lines : Text) (answer : Answer) → IsAnswerAfter ended lines answer → (answer.status ≡ 503 → ⊥) → answer ≡ answer_after ended lines
+pub answer_of_end : {T : Type 0} (ended : Result T SheetFault) (lines : Text) (answer : Answer) → IsAnswerAfter ended lines answer → (answer.status ≡ 503 → ⊥) → answer ≡ answer_after ended lines
 answer_of_end ended lines answer (inl is) served = is
 answer_of_end ended lines answer (inr is) served = absurd (served (ap (λ (a : Answer). a.status) is))
 
@@ -225,34 +251,69 @@ questions_alike body one two i j same one_inventory asks (ended, lines, runs, is
     same_answer ended end lines more one two h is served too also
 
 module _ {K J : Type 0} (holds : K → Result Image Table → Type 0) (has : J → Result Image Table → Type 0) where
-  posted_alike : (what : Posted) (resumes : Bool) (body : Text) (one two : Answer) (old new : DeskView K) (before after : DeskView J) → IsPostedOfState what body → StandAlike old before
-      → DoesPosted holds what resumes body old one new → (one.status ≡ 503 → ⊥) → DoesPosted has what resumes body before two after → (two.status ≡ 503 → ⊥)
+  -- sheets that are done as a whole from their first record
+  whole_alike : (kind : Sheet) (body : Text) (one two : Answer) (old new : DeskView K) (before after : DeskView J) → StandAlike old before
+      → RunsSheet holds kind false body old one new → (one.status ≡ 503 → ⊥) → RunsSheet has kind false body before two after → (two.status ≡ 503 → ⊥)
       → SameEnd (answer_text one) (answer_text two) (state_of new.image) (state_of after.image)
-  posted_alike (post.Trial kind) resumes body one two old new before after asks stand did served done also = absurd asks
-  posted_alike post.Questions resumes body one two old new before after asks stand did served done also = record {
-    wrote = questions_alike body one two old.image before.image stand.state (same_inventories old.image before.image stand.sound stand.also stand.state) (inl asks) (answered_so _ one served did.1) served (answered_so _ two also done.1) also;
-    state = ap (λ (d : DeskView K). state_of d.image) did.0 ∙ stand.state ∙ sym (ap (λ (d : DeskView J). state_of d.image) done.0);
-  }
-  posted_alike (post.Sheet kind) true body one two old new before after asks stand (inr (twice, repeated, same, is)) served (inr (again, repeats, remains, too)) also = record {
-    wrote = ap answer_text (answered_so _ one served is ∙ sym (answered_so _ two also too));
-    state = ap (λ (d : DeskView K). state_of d.image) same ∙ stand.state ∙ sym (ap (λ (d : DeskView J). state_of d.image) remains);
-  }
-  posted_alike (post.Sheet kind) true body one two old new before after asks stand (inl (ended, lines, run, is)) served (inr (again, repeats, remains, too)) also =
-      let once = gone_on_once old.must_reopen kind records_together old.limits body (state_of old.image) (state_of new.image) (Some []) (Some lines) ended (answer_decided ended lines one is served) run.runs in
-      absurd (repeated_not_once kind body again repeats once)
-  posted_alike (post.Sheet kind) true body one two old new before after asks stand (inr (twice, repeated, same, is)) served (inl (end, more, running, too)) also =
-      let once = gone_on_once before.must_reopen kind records_together before.limits body (state_of before.image) (state_of after.image) (Some []) (Some more) end (answer_decided end more two too also) running.runs in
-      absurd (repeated_not_once kind body twice repeated once)
-  posted_alike (post.Sheet kind) true body one two old new before after asks stand (inl (ended, lines, run, is)) served (inl (end, more, running, too)) also =
-      let runs = coe 0 1 (k. Resumes old.must_reopen kind records_together (stand.limits k) body (stand.state k) (state_of new.image) (Some []) (Some lines) ended) run.runs in
-      let h = resumed_end_alike kind old.must_reopen before.must_reopen records_together records_together before.limits body (state_of before.image) (state_of new.image) (state_of after.image) [] lines [] more ended end
-      (answer_decided ended lines one is served) (answer_decided end more two too also) runs running.runs in
-      record { wrote = same_answer ended end lines more one two h.wrote is served too also; state = h.state }
-  posted_alike (post.Sheet kind) false body one two old new before after asks stand (ended, lines, run, is) served (end, more, running, too) also =
+  whole_alike kind body one two old new before after stand (ended, lines, run, is) served (end, more, running, too) also =
       let runs = coe 0 1 (k. Runs kind records_together (stand.limits k) body (stand.state k) (state_of new.image) (Some []) (Some lines) ended) run.runs in
       let h = sheets_end_alike kind records_together records_together before.limits body (state_of before.image) (state_of new.image) (state_of after.image) [] lines [] more ended end
       (answer_decided ended lines one is served) (answer_decided end more two too also) runs running.runs in
       record { wrote = same_answer ended end lines more one two h.wrote is served too also; state = h.state }
+
+  -- the trial refused nothing, or something, at both desks
+  tried_alike : (kind : Sheet) (body replies more : Text) (outcome other : Result Tally SheetFault) (one two : Answer) (old new : DeskView K) (before after : DeskView J) → StandAlike old before
+      → WroteAlike [] replies [] more outcome other → DoesTried holds kind body replies outcome old one new → (one.status ≡ 503 → ⊥) → DoesTried has kind body more other before two after → (two.status ≡ 503 → ⊥)
+      → SameEnd (answer_text one) (answer_text two) (state_of new.image) (state_of after.image)
+  tried_alike kind body replies more outcome other one two old new before after stand h (inl (accepted, runs)) served (inl (also_accepted, run)) also =
+      whole_alike kind body one two old new before after stand runs served run also
+  tried_alike kind body replies more outcome other one two old new before after stand h (inl (accepted, runs)) served (inr (refused, remains, too)) also =
+      absurd (refused (subst IsAccepted h.ends accepted))
+  tried_alike kind body replies more outcome other one two old new before after stand h (inr (refused, same, is)) served (inl (accepted, run)) also =
+      absurd (refused (subst IsAccepted (sym h.ends) accepted))
+  tried_alike kind body replies more outcome other one two old new before after stand h (inr (refused, same, is)) served (inr (also_refused, remains, too)) also =
+      let lines_are : replies ≡ more = h.one ∙ sym h.same in
+      record {
+        wrote = ap answer_text (is ∙ (λ i. refusal_after (h.ends i) (lines_are i)) ∙ sym too);
+        state = ap (λ (d : DeskView K). state_of d.image) same ∙ stand.state ∙ sym (ap (λ (d : DeskView J). state_of d.image) remains);
+      }
+
+  all_or_none_alike : (kind : Sheet) (body : Text) (one two : Answer) (old new : DeskView K) (before after : DeskView J) → StandAlike old before
+      → DoesAllOrNone holds kind body old one new → (one.status ≡ 503 → ⊥) → DoesAllOrNone has kind body before two after → (two.status ≡ 503 → ⊥)
+      → SameEnd (answer_text one) (answer_text two) (state_of new.image) (state_of after.image)
+  all_or_none_alike kind body one two old new before after stand (inr (same, none)) served done also = absurd (served (ap (λ (a : Answer). a.status) none))
+  all_or_none_alike kind body one two old new before after stand (inl did) served (inr (same, none)) also = absurd (also (ap (λ (a : Answer). a.status) none))
+  all_or_none_alike kind body one two old new before after stand (inl (behind, replies, outcome, tried, does)) served (inl (also_behind, more, other, trial, done)) also =
+      let h = trials_alike kind body (state_of old.image) (state_of before.image) replies more outcome other stand.state tried trial
+      (tried_decided holds kind body replies outcome old one new does served) (tried_decided has kind body more other before two after done also) in
+      tried_alike kind body replies more outcome other one two old new before after stand h does served done also
+
+  posted_alike : (what : Posted) (way : Course) (body : Text) (one two : Answer) (old new : DeskView K) (before after : DeskView J) → IsPostedOfState what body → StandAlike old before
+      → DoesPosted holds what way body old one new → (one.status ≡ 503 → ⊥) → DoesPosted has what way body before two after → (two.status ≡ 503 → ⊥)
+      → SameEnd (answer_text one) (answer_text two) (state_of new.image) (state_of after.image)
+  posted_alike (post.Trial kind) way body one two old new before after asks stand did served done also = absurd asks
+  posted_alike (post.Draft kind) way body one two old new before after asks stand did served done also = absurd asks
+  posted_alike post.Questions way body one two old new before after asks stand did served done also = record {
+    wrote = questions_alike body one two old.image before.image stand.state (same_inventories old.image before.image stand.sound stand.also stand.state) (inl asks) (answered_so _ one served did.1) served (answered_so _ two also done.1) also;
+    state = ap (λ (d : DeskView K). state_of d.image) did.0 ∙ stand.state ∙ sym (ap (λ (d : DeskView J). state_of d.image) done.0);
+  }
+  posted_alike (post.Sheet kind) course.BehindLast body one two old new before after asks stand (inr (twice, repeated, same, is)) served (inr (again, repeats, remains, too)) also = record {
+    wrote = ap answer_text (answered_so _ one served is ∙ sym (answered_so _ two also too));
+    state = ap (λ (d : DeskView K). state_of d.image) same ∙ stand.state ∙ sym (ap (λ (d : DeskView J). state_of d.image) remains);
+  }
+  posted_alike (post.Sheet kind) course.BehindLast body one two old new before after asks stand (inl (ended, lines, run, is)) served (inr (again, repeats, remains, too)) also =
+      let once = gone_on_once old.must_reopen kind records_together old.limits body (state_of old.image) (state_of new.image) (Some []) (Some lines) ended (answer_decided ended lines one is served) run.runs in
+      absurd (repeated_not_once kind body again repeats once)
+  posted_alike (post.Sheet kind) course.BehindLast body one two old new before after asks stand (inr (twice, repeated, same, is)) served (inl (end, more, running, too)) also =
+      let once = gone_on_once before.must_reopen kind records_together before.limits body (state_of before.image) (state_of after.image) (Some []) (Some more) end (answer_decided end more two too also) running.runs in
+      absurd (repeated_not_once kind body twice repeated once)
+  posted_alike (post.Sheet kind) course.BehindLast body one two old new before after asks stand (inl (ended, lines, run, is)) served (inl (end, more, running, too)) also =
+      let runs = coe 0 1 (k. Resumes old.must_reopen kind records_together (stand.limits k) body (stand.state k) (state_of new.image) (Some []) (Some lines) ended) run.runs in
+      let h = resumed_end_alike kind old.must_reopen before.must_reopen records_together records_together before.limits body (state_of before.image) (state_of new.image) (state_of after.image) [] lines [] more ended end
+      (answer_decided ended lines one is served) (answer_decided end more two too also) runs running.runs in
+      record { wrote = same_answer ended end lines more one two h.wrote is served too also; state = h.state }
+  posted_alike (post.Sheet kind) course.EachRecord body one two old new before after asks stand did served done also = whole_alike kind body one two old new before after stand did served done also
+  posted_alike (post.Sheet kind) course.AllOrNone body one two old new before after asks stand did served done also = all_or_none_alike kind body one two old new before after stand did served done also
 
   asked_alike : (asked : Asked) (one two : Answer) (old new : DeskView K) (before after : DeskView J) → IsOfState asked → StandAlike old before
       → Does holds asked old one new → (one.status ≡ 503 → ⊥) → Does has asked before two after → (two.status ≡ 503 → ⊥) → SameEnd (answer_text one) (answer_text two) (state_of new.image) (state_of after.image)
@@ -272,7 +333,7 @@ module _ {K J : Type 0} (holds : K → Result Image Table → Type 0) (has : J �
     wrote = ap answer_text (state_alike format argument one two served also old.image before.image stand.sound stand.also stand.state resource read (answered_so _ one served did.1) (answered_so _ two also done.1));
     state = ap (λ (d : DeskView K). state_of d.image) did.0 ∙ stand.state ∙ sym (ap (λ (d : DeskView J). state_of d.image) done.0);
   }
-  asked_alike (posted resource resumes body) one two old new before after posts stand did served done also = posted_alike (posted_at resource) resumes body one two old new before after posts stand did served done also
+  asked_alike (posted resource way body) one two old new before after posts stand did served done also = posted_alike (posted_at resource) way body one two old new before after posts stand did served done also
 
   sheet_alike : (sheet : Sheet) (input text other : Text) (old new : DeskView K) (before after : DeskView J) (ended end : Result Tally SheetFault) → StandAlike old before → is_decided ended ≡ true → is_decided end ≡ true
       → Runs sheet 1 old.limits input (state_of old.image) (state_of new.image) (Some []) (Some text) ended → Runs sheet 1 before.limits input (state_of before.image) (state_of after.image) (Some []) (Some other) end
@@ -315,13 +376,14 @@ module _ {K J : Type 0} (holds : K → Result Image Table → Type 0) (has : J �
   -- ---- questions
 
   -- a sheet of questions
-  posted_asks : (what : Posted) (resumes : Bool) (body : Text) (one two : Answer) (old new : DeskView K) (before after : DeskView J) → what ≡ post.Questions → old.image ≡ before.image
-      → DoesPosted holds what resumes body old one new → (one.status ≡ 503 → ⊥) → DoesPosted has what resumes body before two after → (two.status ≡ 503 → ⊥)
+  posted_asks : (what : Posted) (way : Course) (body : Text) (one two : Answer) (old new : DeskView K) (before after : DeskView J) → what ≡ post.Questions → old.image ≡ before.image
+      → DoesPosted holds what way body old one new → (one.status ≡ 503 → ⊥) → DoesPosted has what way body before two after → (two.status ≡ 503 → ⊥)
       → (answer_text one ≡ answer_text two) × (new ≡ old) × (after ≡ before)
-  posted_asks post.Questions resumes body one two old new before after asks same did served done also =
+  posted_asks post.Questions way body one two old new before after asks same did served done also =
       (questions_alike body one two old.image before.image (ap state_of same) (equal_inventories old.image before.image same) (inr same) (answered_so _ one served did.1) served (answered_so _ two also done.1) also, did.0, done.0)
-  posted_asks (post.Trial kind) resumes body one two old new before after asks same did served done also = absurd (cc asks)
-  posted_asks (post.Sheet kind) resumes body one two old new before after asks same did served done also = absurd (cc asks)
+  posted_asks (post.Trial kind) way body one two old new before after asks same did served done also = absurd (cc asks)
+  posted_asks (post.Draft kind) way body one two old new before after asks same did served done also = absurd (cc asks)
+  posted_asks (post.Sheet kind) way body one two old new before after asks same did served done also = absurd (cc asks)
 
   question_alike : (asked : Asked) (one two : Answer) (old new : DeskView K) (before after : DeskView J) → OnlyAsks asked → old.image ≡ before.image
       → Does holds asked old one new → (one.status ≡ 503 → ⊥) → Does has asked before two after → (two.status ≡ 503 → ⊥) → (answer_text one ≡ answer_text two) × (new ≡ old) × (after ≡ before)
@@ -334,8 +396,8 @@ module _ {K J : Type 0} (holds : K → Result Image Table → Type 0) (has : J �
     did.0,
     done.0,
   )
-  question_alike (posted resource resumes body) one two old new before after asks same did served done also =
-      posted_asks (posted_at resource) resumes body one two old new before after asks same did served done also
+  question_alike (posted resource way body) one two old new before after asks same did served done also =
+      posted_asks (posted_at resource) way body one two old new before after asks same did served done also
 
   one_question : (next : Call) (text other : Text) (old new : DeskView K) (before after : DeskView J) → IsQuestion next → old.image ≡ before.image → Did holds next text old new → Did has next other before after
       → (text ≡ other) × (new ≡ old) × (after ≡ before)

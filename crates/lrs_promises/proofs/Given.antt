@@ -24,6 +24,8 @@ use Rattle.lrs_sheet.specs.declared.reply.Tally.{Tally}
 use Rattle.lrs_sheet.proofs.Done.{stays, along}
 use Rattle.lrs_web_requests.specs.Request.{Asked, refused, not_allowed, page, query, sheet as posted}
 use Rattle.lrs_web_requests.specs.Text.{Answer}
+use Rattle.lrs_web_requests.specs.declared.request.Course.{Course}
+use Rattle.lrs_web_requests.specs.declared.request.Course.TheVariants as course
 use Rattle.lrs_web.specs.RequestAnswers.{Does, DoesPosted, posted_at}
 use Rattle.lrs_web.specs.declared.request.Posted.{Posted}
 use Rattle.lrs_web.specs.declared.request.Posted.TheVariants as post
@@ -135,30 +137,41 @@ module _ {K : Type 0} (holds : K → Result Image Table → Type 0) where
     along = subst (GoesAlong holds old) (sym e) (stays old);
   }
 
-  posted_gave : (what : Posted) (resumes : Bool) (body : Text) (answer : Answer) (old new : DeskView K) → DoesPosted holds what resumes body old answer new → (answer.status ≡ 503 → ⊥)
-      → DeskGave (GivesPosted what resumes body (state_of old.image)) old new
-  posted_gave post.Questions resumes body answer old new (same, told, ahead) served = desk_stays (GivesPosted post.Questions resumes body (state_of old.image)) old new refl same
-  posted_gave (post.Trial kind) resumes body answer old new (same, told, ahead) served = desk_stays (GivesPosted (post.Trial kind) resumes body (state_of old.image)) old new refl same
-  posted_gave (post.Sheet kind) false body answer old new (ended, lines, run, after) served =
+  posted_gave : (what : Posted) (way : Course) (body : Text) (answer : Answer) (old new : DeskView K) → DoesPosted holds what way body old answer new → (answer.status ≡ 503 → ⊥)
+      → DeskGave (GivesPosted what way body (state_of old.image)) old new
+  posted_gave post.Questions way body answer old new (same, told, ahead) served = desk_stays (GivesPosted post.Questions way body (state_of old.image)) old new refl same
+  posted_gave (post.Trial kind) way body answer old new (same, told, ahead) served = desk_stays (GivesPosted (post.Trial kind) way body (state_of old.image)) old new refl same
+  posted_gave (post.Draft kind) way body answer old new (same, told, ahead) served = desk_stays (GivesPosted (post.Draft kind) way body (state_of old.image)) old new refl same
+  posted_gave (post.Sheet kind) course.EachRecord body answer old new (ended, lines, run, after) served =
       let d = answer_decided ended lines answer after served in
       record {
         gave = sheet_gave [] kind records_together old.limits body (state_of old.image) (state_of new.image) (Some []) (Some lines) ended d run.runs;
         along = decided_goes old new ended d run.desk;
       }
-  posted_gave (post.Sheet kind) true body answer old new (inr (twice, repeated, same, is)) served = desk_stays (GivesPosted (post.Sheet kind) true body (state_of old.image)) old new (inr ((twice, repeated), refl)) same
-  posted_gave (post.Sheet kind) true body answer old new (inl (ended, lines, run, after)) served =
+  posted_gave (post.Sheet kind) course.BehindLast body answer old new (inr (twice, repeated, same, is)) served = desk_stays (GivesPosted (post.Sheet kind) course.BehindLast body (state_of old.image)) old new (inr ((twice, repeated), refl)) same
+  posted_gave (post.Sheet kind) course.BehindLast body answer old new (inl (ended, lines, run, after)) served =
       let d = answer_decided ended lines answer after served in
       record {
         gave = rest_gave old.must_reopen kind records_together old.limits body (state_of old.image) (state_of new.image) (Some []) (Some lines) ended d run.runs;
         along = decided_goes old new ended d run.desk;
       }
+  posted_gave (post.Sheet kind) course.AllOrNone body answer old new (inl (behind, replies, outcome, tried, inl (accepted, (ended, lines, run, after)))) served =
+      let d = answer_decided ended lines answer after served in
+      let g = sheet_gave [] kind records_together old.limits body (state_of old.image) (state_of new.image) (Some []) (Some lines) ended d run.runs in
+      record {
+        gave = record { commands = g.commands; gives = (replies, outcome, tried, inl (accepted, g.gives)); state = g.state };
+        along = decided_goes old new ended d run.desk;
+      }
+  posted_gave (post.Sheet kind) course.AllOrNone body answer old new (inl (behind, replies, outcome, tried, inr (refused, same, is))) served =
+      desk_stays (GivesPosted (post.Sheet kind) course.AllOrNone body (state_of old.image)) old new (replies, outcome, tried, inr (refused, refl)) same
+  posted_gave (post.Sheet kind) course.AllOrNone body answer old new (inr (same, none)) served = absurd (served (ap (λ (a : Answer). a.status) none))
 
   pub asked_gave : (asked : Asked) (answer : Answer) (old new : DeskView K) → Does holds asked old answer new → (answer.status ≡ 503 → ⊥) → DeskGave (GivesAsked asked (state_of old.image)) old new
   asked_gave (refused status) answer old new does served = desk_stays (GivesAsked (refused status) (state_of old.image)) old new refl does.0
   asked_gave (not_allowed verb) answer old new does served = desk_stays (GivesAsked (not_allowed verb) (state_of old.image)) old new refl does.0
   asked_gave (page text) answer old new does served = desk_stays (GivesAsked (page text) (state_of old.image)) old new refl does.0
   asked_gave (query resource format argument) answer old new does served = desk_stays (GivesAsked (query resource format argument) (state_of old.image)) old new refl does.0
-  asked_gave (posted resource resumes body) answer old new does served = posted_gave (posted_at resource) resumes body answer old new does served
+  asked_gave (posted resource way body) answer old new does served = posted_gave (posted_at resource) way body answer old new does served
 
   pub call_gave : (next : Call) (text : Text) (old new : DeskView K) → Did holds next text old new → DeskGave (Gives next (state_of old.image)) old new
   call_gave (call.Edits bytes) text old new did = record {

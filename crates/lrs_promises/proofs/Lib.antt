@@ -11,6 +11,7 @@ pub mod Once
 pub mod Places
 pub mod Translated
 pub mod Framed
+pub mod FullLimits
 pub mod Resumed
 pub mod Replied
 pub mod Pictured
@@ -18,6 +19,7 @@ pub mod OneInventory
 pub mod Asked
 pub mod Agreeing
 pub mod Ends
+pub mod AsTried
 pub mod Fewest
 pub mod Trips
 pub mod Leaving

@@ -24,7 +24,10 @@ use Rattle.lrs_sheet.specs.declared.reply.Tally.{Tally}
 use Rattle.lrs_sheet.specs.declared.resumption.Decided.{Decided}
 use Rattle.lrs_web_requests.specs.Request.{Asked, Asks, refused, not_allowed, page, query, sheet as posted}
 use Rattle.lrs_web_requests.specs.Text.{Answer, answer_text}
+use Rattle.lrs_web_requests.specs.declared.request.Course.{Course}
+use Rattle.lrs_web_requests.specs.declared.request.Course.TheVariants as course
 use Rattle.lrs_web.specs.RequestAnswers.{Does, posted_at}
+use Rattle.lrs_web.specs.Sheets.{IsAccepted, WasTried}
 use Rattle.lrs_web.specs.declared.request.Posted.{Posted}
 use Rattle.lrs_web.specs.declared.request.Posted.TheVariants as post
 use Rattle.lrs_promises.specs.declared.calls.Call.{Call}
@@ -87,12 +90,24 @@ GivesRest sheet input s commands =
     (HasKeysOnce sheet input × (d : Decided) × (passed : List (List Text)) × IsDecidedBy sheet s input d passed × GivesBehind passed sheet input commands)
     ⊎ (((twice : RepeatedKey) × IsRepeated sheet input twice) × (commands ≡ []))
 
--- What is posted gives the commands of a sheet that is done; questions give none, nor does a sheet that is tried.
-abbrev pub GivesPosted : Posted → Bool → Text → State → List Record → Type 0
-GivesPosted post.Questions resumes body s commands = commands ≡ []
-GivesPosted (post.Trial kind) resumes body s commands = commands ≡ []
-GivesPosted (post.Sheet kind) false body s commands = GivesBehind [] kind body commands
-GivesPosted (post.Sheet kind) true body s commands = GivesRest kind body s commands
+-- A sheet that is done as a whole or not at all gives its commands where its trial refused nothing, and else none.
+abbrev pub GivesAllOrNone : Sheet → Text → State → List Record → Type 0
+GivesAllOrNone sheet input s commands =
+    (replies : Text) × (outcome : Result Tally SheetFault) × WasTried sheet input s replies outcome
+    × ((IsAccepted outcome × GivesBehind [] sheet input commands) ⊎ ((IsAccepted outcome → ⊥) × (commands ≡ [])))
+
+-- By its way a sheet that is done gives its commands.
+abbrev pub GivesSheet : Sheet → Course → Text → State → List Record → Type 0
+GivesSheet sheet course.EachRecord input s commands = GivesBehind [] sheet input commands
+GivesSheet sheet course.BehindLast input s commands = GivesRest sheet input s commands
+GivesSheet sheet course.AllOrNone input s commands = GivesAllOrNone sheet input s commands
+
+-- What is posted gives the commands of a sheet that is done; questions give none, nor does a sheet that is tried or drafted.
+abbrev pub GivesPosted : Posted → Course → Text → State → List Record → Type 0
+GivesPosted post.Questions way body s commands = commands ≡ []
+GivesPosted (post.Trial kind) way body s commands = commands ≡ []
+GivesPosted (post.Draft kind) way body s commands = commands ≡ []
+GivesPosted (post.Sheet kind) way body s commands = GivesSheet kind way body s commands
 
 -- A request gives the commands of what it posts, and any other one gives none.
 abbrev pub GivesAsked : Asked → State → List Record → Type 0
@@ -100,7 +115,7 @@ GivesAsked (refused status) s commands = commands ≡ []
 GivesAsked (not_allowed verb) s commands = commands ≡ []
 GivesAsked (page text) s commands = commands ≡ []
 GivesAsked (query resource format argument) s commands = commands ≡ []
-GivesAsked (posted resource resumes body) s commands = GivesPosted (posted_at resource) resumes body s commands
+GivesAsked (posted resource way body) s commands = GivesPosted (posted_at resource) way body s commands
 
 -- The commands that a call gives, in a state.
 abbrev pub Gives : Call → State → List Record → Type 0

@@ -1,5 +1,5 @@
 -- Equal bytes and equal states give equal bytes and equal states.
-use Rattle.std.specs.Prelude.{◌≡◌, ◌⊎◌, ℕ, Bool, true, ◌++◌, List, [], ◌∷◌, codes, Some, Result, ⊤}
+use Rattle.std.specs.Prelude.{◌≡◌, ◌⊎◌, ℕ, Bool, true, ◌++◌, List, [], ◌∷◌, codes, Some, Ok, Result, ⊤}
 use Rattle.std.specs.List.{AllByRecursion}
 use Rattle.lrs_machine.specs.Image.{state_of}
 use Rattle.lrs_machine.specs.Lines.{Text}
@@ -14,13 +14,16 @@ use Rattle.lrs_sheet_records.specs.Rows.{BeginsWith}
 use Rattle.lrs_sheet_records.specs.declared.sheet.Sheet.{Sheet}
 use Rattle.lrs_sheet.specs.Resumption.{Resumes}
 use Rattle.lrs_sheet.specs.Sheets.{Runs}
+use Rattle.lrs_sheet.specs.Trials.{IsFull, IsTried}
 use Rattle.lrs_sheet_records.specs.declared.fault.SheetFault.{SheetFault}
 use Rattle.lrs_sheet.specs.declared.reply.Tally.{Tally}
 use Rattle.lrs_sheet_questions.specs.SheetAnswers.{RunsQuestions}
 use Rattle.lrs_sheet_questions.specs.declared.tally.QuestionTally.{QuestionTally}
 use Rattle.lrs_web_requests.specs.declared.paths.Resource.TheVariants as path
 use Rattle.lrs_web_requests.specs.Request.{Asked, Asks, query, sheet as posted}
+use Rattle.lrs_web_requests.specs.Text.{Answer}
 use Rattle.lrs_web.specs.RequestAnswers.{posted_at}
+use Rattle.lrs_web.specs.Sheets.{DoesAllOrNone, lines_answer}
 use Rattle.lrs_web.specs.declared.request.Posted.{Posted}
 use Rattle.lrs_web.specs.declared.request.Posted.TheVariants as post
 use Rattle.lrs_promises.specs.declared.calls.Call.{Call}
@@ -52,6 +55,12 @@ ResumedEndAlike = (sheet : Sheet) (failed broken : Bool) (together others : ℕ)
     → is_decided ended ≡ true → is_decided end ≡ true
     → Resumes failed sheet together limits input before after (Some old) (Some written) ended → Resumes broken sheet others limits input before instead (Some earlier) (Some other) end
     → EndAlike old written earlier other after instead ended end
+
+-- Whatever keeper a desk of full limits has, it does a sheet as a whole or not at all. Where it answers so, and not with a 503, that is as a trial foretells it: the reply has the lines of the trial, which refused nothing, and the desk's image stands for the state that the trial made. Or something was refused or at fault, and the desk is as it was.
+abbrev pub AllOrNoneIsAsTried : {K : Type 0} → (K → Result Image Table → Type 0) → Type 0
+AllOrNoneIsAsTried {K} holds = (sheet : Sheet) (input : Text) (old new : DeskView K) (answer : Answer) → IsFull old.limits → DoesAllOrNone holds sheet input old answer new → (answer.status ≡ 503 → ⊥)
+    → ((replies : Text) × (tally : Tally) × IsTried sheet 0 input (state_of old.image) (state_of new.image) replies (Ok tally) × (tally.refused ≡ 0) × (answer ≡ lines_answer 200 replies))
+    ⊎ ((new ≡ old) × ((answer.status ≡ 409) ⊎ (answer.status ≡ 422)))
 
 -- ---- the inventory
 
@@ -86,22 +95,23 @@ QuestionSheetsEndAlike = (i j : Image) (input old written earlier other : Text) 
 
 -- ---- what is asked
 
--- whether what is posted is answered by the state: a sheet that is done is, and one of questions that asks for no history. A sheet that is tried is left out, since its advice is told by no definition.
+-- whether what is posted is answered by the state: a sheet that is done is, in whatever way, and one of questions that asks for no history. A sheet that is tried or drafted is left out: the advice of a trial, and why there is no draft, are told by no definition.
 abbrev pub IsPostedOfState : Posted → Text → Type 0
 IsPostedOfState post.Questions body = AsksNoHistory body
 IsPostedOfState (post.Trial kind) body = ⊥
+IsPostedOfState (post.Draft kind) body = ⊥
 IsPostedOfState (post.Sheet kind) body = ⊤
 
--- whether a request asks for anything but what is gone and what became of an asset, which are listed by the rows of the ledgers: it may be refused, and post any sheet but one that is tried, and one of questions that asks for a history
+-- whether a request asks for anything but what is gone and what became of an asset, which are listed by the rows of the ledgers: it may be refused, and post any sheet but one that is tried, what one is drafted by, and one of questions that asks for a history
 abbrev pub IsOfState : Asked → Type 0
 IsOfState (query path.Gone format argument) = ⊥
 IsOfState (query path.History format argument) = ⊥
-IsOfState (posted resource resumes body) = IsPostedOfState (posted_at resource) body
+IsOfState (posted resource way body) = IsPostedOfState (posted_at resource) body
 IsOfState _ = ⊤
 
--- whether a request asks, and changes nothing: it may be refused, and ask for anything, but post no sheet other than of questions. A sheet that is tried changes nothing either, but is left out, since its advice is told by no definition.
+-- whether a request asks, and changes nothing: it may be refused, and ask for anything, but post no sheet other than of questions. A sheet that is tried or drafted changes nothing either, but is left out for the same.
 abbrev pub OnlyAsks : Asked → Type 0
-OnlyAsks (posted resource resumes body) = posted_at resource ≡ post.Questions
+OnlyAsks (posted resource way body) = posted_at resource ≡ post.Questions
 OnlyAsks _ = ⊤
 
 -- The bytes of a request ask for one thing, and this passes.
@@ -112,7 +122,7 @@ pub record AsksOneThing (Passes : Asked → Type 0) (input : Text) : Type 0 wher
 
 -- ---- of calls
 
--- a sheet, a survey, or a request for anything but what is gone, histories and trials
+-- a sheet, a survey, or a request for anything but what is gone, histories, trials and drafts
 abbrev pub IsCallOfState : Call → Type 0
 IsCallOfState (call.Edits bytes) = ⊤
 IsCallOfState (call.Survey bytes) = ⊤

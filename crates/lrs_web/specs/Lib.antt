@@ -2,6 +2,8 @@ pub use Rattle.lrs_sheet.specs.DeskView
 pub mod Sheets
 pub mod Questions
 pub mod Trials
+pub mod DraftForms
+pub mod Drafts
 pub mod QueryAnswers
 pub mod RequestAnswers
 pub mod Door

@@ -8,6 +8,7 @@ use Rattle.lrs_sheet.specs.DeskView.{DeskView}
 use Rattle.lrs_sheet_records.specs.declared.sheet.Sheet.TheVariants.{Edits, Survey}
 use Rattle.lrs_web_requests.specs.declared.paths.Resource.{Resource}
 use Rattle.lrs_web_requests.specs.declared.paths.Resource.TheVariants as path
+use Rattle.lrs_web_requests.specs.declared.request.Course.{Course}
 use Rattle.lrs_web_requests.specs.declared.response.RequestMethod.{RequestMethod}
 use Rattle.lrs_web_requests.specs.declared.response.ContentType.TheVariants.{Html}
 use Rattle.lrs_web_requests.specs.Request.{Asked, Asks, refused, not_allowed, page, query, sheet}
@@ -16,6 +17,7 @@ use Rattle.lrs_web.specs.QueryAnswers.{AnswersAsked}
 use Rattle.lrs_web.specs.Sheets.{DoesSheet}
 use Rattle.lrs_web.specs.Questions.{AnswersQuestions}
 use Rattle.lrs_web.specs.Trials.{AnswersTrial}
+use Rattle.lrs_web.specs.Drafts.{AnswersDraft}
 use Rattle.lrs_web.specs.declared.request.Posted.{Posted}
 use Rattle.lrs_web.specs.declared.request.Posted.TheVariants as post
 
@@ -24,6 +26,7 @@ abbrev pub posted_at : Resource → Posted
 posted_at path.Questions = post.Questions
 posted_at path.EditsCheck = post.Trial Edits
 posted_at path.SurveysCheck = post.Trial Survey
+posted_at (path.Draft kind) = post.Draft kind
 posted_at path.Surveys = post.Sheet Survey
 posted_at _ = post.Sheet Edits
 
@@ -41,11 +44,12 @@ allowed_answer verb = record { status = 405; content_type = None; allow = Some v
 abbrev pub page_answer : Text → Answer
 page_answer text = record { status = 200; content_type = Some Html; allow = None; body = text }
 
--- Questions are answered, and a sheet is tried, or done, or gone on with.
-abbrev pub DoesPosted : {K : Type 0} → (K → Result Image Table → Type 0) → Posted → Bool → Text → DeskView K → Answer → DeskView K → Type 0
-DoesPosted holds post.Questions resumes bytes old answer new = AnswersQuestions bytes old answer new
-DoesPosted holds (post.Trial kind) resumes bytes old answer new = AnswersTrial kind bytes old answer new
-DoesPosted holds (post.Sheet kind) resumes bytes old answer new = DoesSheet holds kind resumes bytes old answer new
+-- Questions are answered, a sheet is tried or drafted, or it is done in its way.
+abbrev pub DoesPosted : {K : Type 0} → (K → Result Image Table → Type 0) → Posted → Course → Text → DeskView K → Answer → DeskView K → Type 0
+DoesPosted holds post.Questions way bytes old answer new = AnswersQuestions bytes old answer new
+DoesPosted holds (post.Trial kind) way bytes old answer new = AnswersTrial kind bytes old answer new
+DoesPosted holds (post.Draft kind) way bytes old answer new = AnswersDraft kind bytes old answer new
+DoesPosted holds (post.Sheet kind) way bytes old answer new = DoesSheet holds kind way bytes old answer new
 
 -- What is asked for is done at the desk, and answered, or what is posted. The page leaves the desk as it is, and has an empty 503 where memory runs out. A query leaves the desk as it is. It has an empty 503 where memory runs out, or the reply would have more bytes than it may, and once a commit of several commands has failed: the image may be ahead of what is kept then. What needs commits has an empty 503 once any commit has failed: no command is done then.
 abbrev pub Does : {K : Type 0} → (K → Result Image Table → Type 0) → Asked → DeskView K → Answer → DeskView K → Type 0
@@ -55,7 +59,7 @@ Does holds (page text) old answer new = (new ≡ old) × ((answer ≡ page_answe
 Does holds (query resource format argument) old answer new =
     (new ≡ old) × (AnswersAsked old.image format resource argument answer ⊎ (answer ≡ empty_answer 503)) × (old.is_ahead ≡ true → answer ≡ empty_answer 503)
     × (needs_commits resource ≡ true → old.must_reopen ≡ true → answer ≡ empty_answer 503)
-Does holds (sheet resource resumes bytes) old answer new = DoesPosted holds (posted_at resource) resumes bytes old answer new
+Does holds (sheet resource way bytes) old answer new = DoesPosted holds (posted_at resource) way bytes old answer new
 
 -- What is asked for is done; the answer, or for lack of memory an empty 503, is given.
 abbrev pub Responds : {K : Type 0} → (K → Result Image Table → Type 0) → Asked → DeskView K → Answer → DeskView K → Type 0

@@ -1,6 +1,8 @@
 -- What a sheet over HTTP is answered.
 use Rattle.std.specs.Prelude.{◌≡◌, ◌⊎◌, ℕ, Bool, true, false, [], ◌∷◌, ◌++◌, Option, Some, None, Result, Ok, Err, codes}
+use Rattle.lrs_machine.specs.Image.{state_of}
 use Rattle.lrs_machine.specs.Lines.{Text}
+use Rattle.lrs_machine.specs.State.{State}
 use Rattle.lrs_machine.specs.declared.image.Image.{Image}
 use Rattle.lrs_machine.specs.declared.table.Table.{Table}
 use Rattle.lrs_sheet.specs.DeskView.{DeskView}
@@ -12,6 +14,9 @@ use Rattle.lrs_sheet_records.specs.declared.sheet.Sheet.{Sheet}
 use Rattle.lrs_sheet.specs.Repetition.{IsRepeated}
 use Rattle.lrs_sheet.specs.Runs.{IsResumedRun, IsWholeRun}
 use Rattle.lrs_sheet.specs.Sheets.{records_together}
+use Rattle.lrs_sheet.specs.Trials.{IsTried}
+use Rattle.lrs_web_requests.specs.declared.request.Course.{Course}
+use Rattle.lrs_web_requests.specs.declared.request.Course.TheVariants as course
 use Rattle.lrs_web_requests.specs.declared.response.ContentType.{ContentType}
 use Rattle.lrs_web_requests.specs.declared.response.ContentType.TheVariants.{Csv}
 use Rattle.lrs_web_requests.specs.Text.{Answer, empty_answer}
@@ -58,7 +63,41 @@ abbrev pub RefusesRepetition : {K : Type 0} → Sheet → Text → DeskView K �
 RefusesRepetition sheet input old answer new =
     (twice : RepeatedKey) × IsRepeated sheet input twice × (new ≡ old) × ((answer ≡ fault_answer (codes "-,fault,RepeatedKey\n") []) ⊎ (answer ≡ empty_answer 503))
 
--- A sheet is done at a desk, or gone on with, and answered.
-abbrev pub DoesSheet : {K : Type 0} → (K → Result Image Table → Type 0) → Sheet → Bool → Text → DeskView K → Answer → DeskView K → Type 0
-DoesSheet holds sheet false input old answer new = RunsSheet holds sheet false input old answer new
-DoesSheet holds sheet true input old answer new = RunsSheet holds sheet true input old answer new ⊎ RefusesRepetition sheet input old answer new
+-- ---- all of a sheet, or nothing
+
+-- A sheet was tried from a state, and these are the lines of its replies.
+abbrev pub WasTried : Sheet → Text → State → Text → Result Tally SheetFault → Type 0
+WasTried sheet input before replies outcome = (made : State) × IsTried sheet 0 input before made replies outcome
+
+-- the trial ran to the end of the sheet, and refused no record
+abbrev pub IsAccepted : Result Tally SheetFault → Type 0
+IsAccepted (Ok tally) = tally.refused ≡ 0
+IsAccepted (Err e) = ⊥
+
+-- the reply to a sheet of which the trial refused something: the lines of the trial, and behind them the fault if it ended in one
+abbrev pub refusal_after : Result Tally SheetFault → Text → Answer
+refusal_after (Ok tally) replies = lines_answer 409 replies
+refusal_after (Err e) replies = answer_after {X = Tally} (Err e) replies
+
+-- Where the trial refused nothing, the sheet is done; where it refused something, nothing is done.
+abbrev pub DoesTried : {K : Type 0} → (K → Result Image Table → Type 0) → Sheet → Text → Text → Result Tally SheetFault → DeskView K → Answer → DeskView K → Type 0
+DoesTried holds sheet input replies outcome old answer new =
+    (IsAccepted outcome × RunsSheet holds sheet false input old answer new)
+    ⊎ ((IsAccepted outcome → ⊥) × (new ≡ old) × (answer ≡ refusal_after outcome replies))
+
+-- Nothing is done, and there is an empty 503.
+abbrev pub IsUndone : {K : Type 0} → DeskView K → Answer → DeskView K → Type 0
+IsUndone old answer new = (new ≡ old) × (answer ≡ empty_answer 503)
+
+-- A sheet is tried, and done if nothing of it is refused. Or it is not tried, or the reply would have more bytes than it may, or its client is gone: nothing is done then. Nothing is tried once a commit of several commands has failed.
+abbrev pub DoesAllOrNone : {K : Type 0} → (K → Result Image Table → Type 0) → Sheet → Text → DeskView K → Answer → DeskView K → Type 0
+DoesAllOrNone holds sheet input old answer new =
+    ((old.is_ahead ≡ false) × (replies : Text) × (outcome : Result Tally SheetFault) × WasTried sheet input (state_of old.image) replies outcome
+    × DoesTried holds sheet input replies outcome old answer new)
+    ⊎ IsUndone old answer new
+
+-- A sheet is done at a desk in its way, and answered.
+abbrev pub DoesSheet : {K : Type 0} → (K → Result Image Table → Type 0) → Sheet → Course → Text → DeskView K → Answer → DeskView K → Type 0
+DoesSheet holds sheet course.EachRecord input old answer new = RunsSheet holds sheet false input old answer new
+DoesSheet holds sheet course.BehindLast input old answer new = RunsSheet holds sheet true input old answer new ⊎ RefusesRepetition sheet input old answer new
+DoesSheet holds sheet course.AllOrNone input old answer new = DoesAllOrNone holds sheet input old answer new

@@ -2,6 +2,8 @@
 #![tactic(auto)]
 
 mod door;
+mod draft;
+mod draft_form;
 mod questions;
 mod recipient;
 mod request;

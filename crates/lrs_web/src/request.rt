@@ -9,6 +9,7 @@ ghost use Rattle.lrs_web.specs.QueryAnswers.{AnswersAsked, AnswersKnown, Answers
 ghost use Rattle.lrs_web.specs.RequestAnswers as spec;
 ghost use Rattle.lrs_web.specs.RequestAnswers.{Does, DoesPosted, Responds, Serves, Writes, allowed_answer, page_answer};
 
+use crate::draft::answer_draft;
 use crate::questions::answer_questions;
 use crate::recipient::{AnyClient, Client, Recipient, limited};
 use crate::sheet::do_sheet;
@@ -19,8 +20,8 @@ use lrs_web_replies::{
     Page, page_of, question_of, reply_to, unasked, unknown_in, unknown_reply, unpaged,
 };
 use lrs_web_requests::{
-    BodyFault, Content, ContentType, Format, Request, RequestMethod, Resource, Response, receive,
-    routes, write_reply, write_unavailable,
+    BodyFault, Content, ContentType, Course, DraftKind, Format, Request, RequestMethod, Resource,
+    Response, receive, routes, write_reply, write_unavailable,
 };
 use std::alloc::{AllocError, Global};
 use std::io::{Read, Write};
@@ -41,7 +42,9 @@ pub enum Posted {
     Questions,
     /// A sheet that is tried.
     Trial(Sheet),
-    /// A sheet that is done, or gone on with.
+    /// What a sheet is drafted by.
+    Draft(DraftKind),
+    /// A sheet that is done.
     Sheet(Sheet),
 }
 
@@ -52,6 +55,7 @@ fn posted_at(resource: Resource) -> Posted
         Resource::Questions => Posted::Questions,
         Resource::EditsCheck => Posted::Trial(Sheet::Edits),
         Resource::SurveysCheck => Posted::Trial(Sheet::Survey),
+        Resource::Draft(kind) => Posted::Draft(kind),
         Resource::Surveys => Posted::Sheet(Sheet::Survey),
         Resource::At
         | Resource::Route
@@ -107,7 +111,8 @@ fn needs_commits(resource: Resource) -> bool
         | Resource::EditsCheck
         | Resource::Surveys
         | Resource::SurveysCheck
-        | Resource::Questions => false,
+        | Resource::Questions
+        | Resource::Draft(_) => false,
     }
 }
 
@@ -234,21 +239,22 @@ fn page_reply(alloc: Global, most: usize, page: &str) -> Response
     }
 }
 
-/// Does a sheet, or tries it, or answers questions.
+/// Does a sheet, or tries it or drafts one, or answers questions.
 fn do_posted<C: Client, K: Keeper>(
     alloc: Global,
     to: &Recipient<'_, C>,
     posted: Posted,
-    resumes: bool,
+    course: Course,
     bytes: &[u8],
     desk: &mut Desk<K>,
 ) -> Response
-    ensures { DoesPosted K.may_hold posted resumes bytes.now desk.old (answer_of result) desk.new }
+    ensures { DoesPosted K.may_hold posted course bytes.now desk.old (answer_of result) desk.new }
 {
     match posted {
         Posted::Questions => answer_questions(alloc, to, bytes, desk),
         Posted::Trial(kind) => answer_trial(alloc, to, kind, bytes, desk),
-        Posted::Sheet(kind) => do_sheet(alloc, to, kind, resumes, bytes, desk),
+        Posted::Draft(kind) => answer_draft(alloc, to, kind, bytes, desk),
+        Posted::Sheet(kind) => do_sheet(alloc, to, kind, course, bytes, desk),
     }
 }
 
@@ -276,9 +282,9 @@ pub(crate) fn do_task<C: Client, K: Keeper>(
                 desk,
             )
         }
-        Request::Sheet(resource, resumes, bytes) => {
+        Request::Sheet(resource, course, bytes) => {
             let posted = posted_at(*resource);
-            do_posted(alloc, to, posted, *resumes, bytes.as_slice(), desk)
+            do_posted(alloc, to, posted, *course, bytes.as_slice(), desk)
         }
     }
 }

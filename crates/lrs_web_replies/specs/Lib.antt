@@ -4,6 +4,7 @@ pub mod Answers
 pub mod Questions
 pub mod Faults
 pub mod Replies
+pub mod DraftFaults
 pub mod Pages
 pub mod Listings
 pub mod Parts

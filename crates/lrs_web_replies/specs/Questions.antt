@@ -377,4 +377,5 @@ passes_over path.Surveys = true
 passes_over path.EditsCheck = true
 passes_over path.SurveysCheck = true
 passes_over path.Questions = true
+passes_over (path.Draft kind) = true
 passes_over _ = false

@@ -475,7 +475,8 @@ fn json_page(alloc: Global, resource: Resource, query: &[u8]) -> Result<Page, Pa
         | Resource::Surveys
         | Resource::EditsCheck
         | Resource::SurveysCheck
-        | Resource::Questions => Ok(Page::whole()),
+        | Resource::Questions
+        | Resource::Draft(_) => Ok(Page::whole()),
     }
 }
 
@@ -536,6 +537,7 @@ pub(crate) fn is_paged(
         | Resource::Surveys
         | Resource::EditsCheck
         | Resource::SurveysCheck
-        | Resource::Questions => Ok(false),
+        | Resource::Questions
+        | Resource::Draft(_) => Ok(false),
     }
 }

@@ -243,6 +243,7 @@ pub fn question_of(
         | Resource::Surveys
         | Resource::EditsCheck
         | Resource::SurveysCheck
-        | Resource::Questions => unreachable!(),
+        | Resource::Questions
+        | Resource::Draft(_) => unreachable!(),
     }
 }

@@ -38,7 +38,7 @@ pub(crate) fn found_reply(bytes: Vec<u8>) -> Response
 }
 
 /// The reply with a list or an edit sheet, as these bytes of CSV.
-pub(crate) fn csv_reply(bytes: Vec<u8>) -> Response
+pub fn csv_reply(bytes: Vec<u8>) -> Response
     ensures { answer_of result ≡ spec.csv_answer bytes.items }
 {
     reply_with(StatusCode::OK, ContentType::Csv, bytes)

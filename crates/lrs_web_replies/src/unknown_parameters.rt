@@ -54,7 +54,8 @@ fn unknown_apart<'q>(
         | Resource::Surveys
         | Resource::EditsCheck
         | Resource::SurveysCheck
-        | Resource::Questions => Ok(None),
+        | Resource::Questions
+        | Resource::Draft(_) => Ok(None),
     }
 }
 
@@ -105,7 +106,8 @@ fn unknown_in_page<'q>(
         | Resource::Surveys
         | Resource::EditsCheck
         | Resource::SurveysCheck
-        | Resource::Questions => unreachable!(),
+        | Resource::Questions
+        | Resource::Draft(_) => unreachable!(),
     }
 }
 

@@ -49,10 +49,10 @@ rows_for entries = map (λ entry. plain entry.0 entry.1) entries
 
 -- the paths in front of that of a route, and those behind it
 abbrev front : List (List ℕ × Named)
-front = take 26 literal_paths
+front = take 33 literal_paths
 
 abbrev back : List (List ℕ × Named)
-back = drop 26 literal_paths
+back = drop 33 literal_paths
 
 -- the path of a route, and what is behind it
 abbrev route_and_back : RowsOf (RouteOf Named)
@@ -121,7 +121,7 @@ IsFound entry = named_at entry.0 ≡ Some entry.1
 literal_is_found : (path : List ℕ) (named : Named) → Contains literal_paths (path, named) → named_at path ≡ Some named
 unfolding matchit_on_literals rows IsFound
 literal_is_found path named has =
-    All-contains IsFound literal_paths (path, named) (All-from_recursion IsFound literal_paths (refl, (refl, (refl, (refl, (refl, (refl, (refl, (refl, (refl, (refl, (refl, (refl, (refl, (refl, (refl, (refl, (refl, (refl, (refl, (refl, (refl, (refl, (refl, (refl, (refl, (refl, (refl, (refl, (refl, (refl, (refl, (refl, (refl, (refl, (refl, (refl, tt))))))))))))))))))))))))))))))))))))) has
+    All-contains IsFound literal_paths (path, named) (All-from_recursion IsFound literal_paths (refl, (refl, (refl, (refl, (refl, (refl, (refl, (refl, (refl, (refl, (refl, (refl, (refl, (refl, (refl, (refl, (refl, (refl, (refl, (refl, (refl, (refl, (refl, (refl, (refl, (refl, (refl, (refl, (refl, (refl, (refl, (refl, (refl, (refl, (refl, (refl, (refl, (refl, (refl, (refl, (refl, (refl, (refl, tt)))))))))))))))))))))))))))))))))))))))))))) has
 
 route_is_found : (word : List ℕ) → IsWord word → named_at (codes "/v1/route/" ++ word) ≡ Some (Route, Json)
 unfolding rows

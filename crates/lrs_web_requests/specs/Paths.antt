@@ -1,7 +1,7 @@
--- What a path names, a resource and the format of its answer: 36 paths stand for themselves, and the path of a route ends in the route's name.
+-- What a path names, a resource and the format of its answer: 43 paths stand for themselves, and the path of a route ends in the route's name.
 use Rattle.std.specs.Prelude.{◌≡◌, ◌≢◌, ◌⊎◌, ◌↔◌, ℕ, List, [], ◌∷◌, ◌++◌, codes, None, Some, Contains}
-use Rattle.lrs_web_requests.specs.declared.paths.Resource.{Resource}
-use Rattle.lrs_web_requests.specs.declared.paths.Resource.TheVariants.{At, Route, Segments, Totals, Translate, Diagram, Routes, Find, Log, Health, Links, Classes, Refs, Marks, Pieces, Rows, Overlay, Lengths, Gone, History, Where, Edits, Surveys, EditsCheck, SurveysCheck, Questions}
+use Rattle.lrs_web_requests.specs.declared.paths.Resource.TheVariants.{At, Route, Segments, Totals, Translate, Diagram, Routes, Find, Log, Health, Links, Classes, Refs, Marks, Pieces, Rows, Overlay, Lengths, Gone, History, Where, Edits, Surveys, EditsCheck, SurveysCheck, Questions, Draft}
+use Rattle.lrs_web_requests.specs.declared.paths.DraftKind.TheVariants as kind
 use Rattle.lrs_web_requests.specs.declared.paths.Format.TheVariants.{Json, Csv}
 use Rattle.lrs_web_requests.specs.Routes.{Named, named_at}
 
@@ -10,7 +10,10 @@ abbrev pub literal_paths : List (List ℕ × Named)
 literal_paths =
     (codes "/health", (Health, Json)) ∷ (codes "/v1/at", (At, Json)) ∷ (codes "/v1/classes.csv", (Classes, Csv))
     ∷ (codes "/v1/classes", (Classes, Json)) ∷ (codes "/v1/diagram", (Diagram, Json))
-    ∷ (codes "/v1/edits/check", (EditsCheck, Json)) ∷ (codes "/v1/edits", (Edits, Json))
+    ∷ (codes "/v1/draft/bypass", (Draft kind.Bypass, Json)) ∷ (codes "/v1/draft/merge", (Draft kind.Merge, Json))
+    ∷ (codes "/v1/draft/move", (Draft kind.Move, Json)) ∷ (codes "/v1/draft/replace", (Draft kind.Replace, Json))
+    ∷ (codes "/v1/draft/retire", (Draft kind.Retire, Json)) ∷ (codes "/v1/draft/split", (Draft kind.Split, Json))
+    ∷ (codes "/v1/draft/undo", (Draft kind.Undo, Json)) ∷ (codes "/v1/edits/check", (EditsCheck, Json)) ∷ (codes "/v1/edits", (Edits, Json))
     ∷ (codes "/v1/find", (Find, Json)) ∷ (codes "/v1/gone.csv", (Gone, Csv)) ∷ (codes "/v1/gone", (Gone, Json))
     ∷ (codes "/v1/history.csv", (History, Csv)) ∷ (codes "/v1/history", (History, Json))
     ∷ (codes "/v1/lengths.csv", (Lengths, Csv)) ∷ (codes "/v1/lengths", (Lengths, Json)) ∷ (codes "/v1/links.csv", (Links, Csv))

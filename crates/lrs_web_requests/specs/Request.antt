@@ -13,26 +13,28 @@ use Rattle.lrs_web_requests.specs.declared.response.RequestMethod.{RequestMethod
 use Rattle.lrs_web_requests.specs.declared.response.RequestMethod.TheVariants.{Get, Post}
 use Rattle.lrs_web_requests.specs.Text.{method_name}
 use Rattle.lrs_web_requests.specs.declared.paths.Resource.{Resource}
-use Rattle.lrs_web_requests.specs.declared.paths.Resource.TheVariants.{At, Route, Segments, Totals, Translate, Diagram, Routes, Find, Log, Health, Links, Classes, Refs, Marks, Pieces, Rows, Overlay, Lengths, Gone, History, Where, Edits, Surveys, EditsCheck, SurveysCheck, Questions}
+use Rattle.lrs_web_requests.specs.declared.paths.Resource.TheVariants.{At, Route, Segments, Totals, Translate, Diagram, Routes, Find, Log, Health, Links, Classes, Refs, Marks, Pieces, Rows, Overlay, Lengths, Gone, History, Where, Edits, Surveys, EditsCheck, SurveysCheck, Questions, Draft}
 use Rattle.lrs_web_requests.specs.declared.paths.Format.{Format}
+use Rattle.lrs_web_requests.specs.declared.request.Course.{Course}
+use Rattle.lrs_web_requests.specs.declared.request.Course.TheVariants as course
 use Rattle.lrs_web_requests.specs.Routes.{Named, named_at}
 use Rattle.lrs_web_requests.specs.declared.request.Request.{Request}
 use Rattle.lrs_web_requests.specs.declared.request.Request.TheVariants as task
 
--- what is asked for: nothing that is served, the page, which is this text, an answer to a question in a format, with what it is asked by, or that a sheet is done, gone on with or, of questions, answered
+-- what is asked for: nothing that is served, the page, which is this text, an answer to a question in a format, with what it is asked by, or that a sheet is done in this way or, of questions, answered
 pub data Asked : Type 0 where
   refused : ℕ → Asked
   not_allowed : RequestMethod → Asked
   page : List ℕ → Asked
   query : Resource → Format → List ℕ → Asked
-  sheet : Resource → Bool → List ℕ → Asked
+  sheet : Resource → Course → List ℕ → Asked
 
 abbrev pub asked_by : Request → Asked
 asked_by (task.Refused status) = refused status
 asked_by (task.NotAllowed verb) = not_allowed verb
 asked_by (task.Page text) = page text.now
 asked_by (task.Query resource format text) = query resource format text.items
-asked_by (task.Sheet resource resumes bytes) = sheet resource resumes bytes.items
+asked_by (task.Sheet resource way bytes) = sheet resource way bytes.items
 
 abbrev pub is_question_mark : ℕ → Bool
 is_question_mark b = b == 63
@@ -82,24 +84,32 @@ verb_of Surveys = Post
 verb_of EditsCheck = Post
 verb_of SurveysCheck = Post
 verb_of Questions = Post
+verb_of (Draft kind) = Post
 
--- whether a sheet goes on behind its last record that is an edit
-abbrev pub resumes : List ℕ → Option Bool
-resumes target = switched (codes "resume") (query_of target)
+-- how a sheet is done, by two switches: whether it goes on, and whether all of it is done or nothing
+abbrev pub switched_course : Option Bool → Option Bool → Option Course
+switched_course (Some false) (Some false) = Some course.EachRecord
+switched_course (Some true) (Some false) = Some course.BehindLast
+switched_course (Some false) (Some true) = Some course.AllOrNone
+switched_course resumes all = None
 
-abbrev pub with_body : Resource → Option Bool → Option (List ℕ) → Asked
+-- how a sheet is to be done, by the parameters `resume` and `all`
+abbrev pub course_of : List ℕ → Option Course
+course_of target = switched_course (switched (codes "resume") (query_of target)) (switched (codes "all") (query_of target))
+
+abbrev pub with_body : Resource → Option Course → Option (List ℕ) → Asked
 with_body resource None body = refused 400
-with_body resource (Some resumes) None = refused 400
-with_body resource (Some resumes) (Some body) = sheet resource resumes body
+with_body resource (Some way) None = refused 400
+with_body resource (Some way) (Some body) = sheet resource way body
 
-abbrev pub with_length : Resource → Option Bool → Result ℕ ℕ → List ℕ → Asked
-with_length resource resumes (Err status) rest = refused status
-with_length resource resumes (Ok length) rest = with_body resource resumes (body_at length rest)
+abbrev pub with_length : Resource → Option Course → Result ℕ ℕ → List ℕ → Asked
+with_length resource way (Err status) rest = refused status
+with_length resource way (Ok length) rest = with_body resource way (body_at length rest)
 
 -- by the verb of the resource; rest is what follows the head
 abbrev pub by_verb : RequestMethod → Named → List ℕ → List Field → List ℕ → Asked
 by_verb Get (resource, format) target fields rest = query resource format (argument_of resource target)
-by_verb Post (resource, format) target fields rest = with_length resource (resumes target) (body_length fields) rest
+by_verb Post (resource, format) target fields rest = with_length resource (course_of target) (body_length fields) rest
 
 abbrev pub at_resource : Option Named → List ℕ → List ℕ → List Field → List ℕ → Asked
 at_resource None method target fields rest = refused 404
@@ -149,7 +159,7 @@ IsServed (refused status) = ⊤
 IsServed (not_allowed verb) = ⊤
 IsServed (page text) = ⊤
 IsServed (query resource format argument) = verb_of resource ≡ Get
-IsServed (sheet resource resumes bytes) = verb_of resource ≡ Post
+IsServed (sheet resource way bytes) = verb_of resource ≡ Post
 
 -- what an input asks for where this page is shown, or none; one whose head has several faults may be refused for either
 abbrev pub AsksWith : Option (List ℕ) → List ℕ → Asked → Type 0

@@ -5,7 +5,8 @@ use Rattle.matchit.specs.Rows.{RowsOf, param_token}
 use Rattle.matchit.specs.Router.{RouteOf}
 use Rattle.matchit.specs.Seek.{first}
 use Rattle.lrs_web_requests.specs.declared.paths.Resource.{Resource}
-use Rattle.lrs_web_requests.specs.declared.paths.Resource.TheVariants.{At, Route, Segments, Totals, Translate, Diagram, Routes, Find, Log, Health, Links, Classes, Refs, Marks, Pieces, Rows, Overlay, Lengths, Gone, History, Where, Edits, Surveys, EditsCheck, SurveysCheck, Questions}
+use Rattle.lrs_web_requests.specs.declared.paths.Resource.TheVariants.{At, Route, Segments, Totals, Translate, Diagram, Routes, Find, Log, Health, Links, Classes, Refs, Marks, Pieces, Rows, Overlay, Lengths, Gone, History, Where, Edits, Surveys, EditsCheck, SurveysCheck, Questions, Draft}
+use Rattle.lrs_web_requests.specs.declared.paths.DraftKind.TheVariants as kind
 use Rattle.lrs_web_requests.specs.declared.paths.Format.{Format}
 use Rattle.lrs_web_requests.specs.declared.paths.Format.TheVariants.{Json, Csv}
 
@@ -32,7 +33,9 @@ csv path resource = plain path (resource, Csv)
 unfoldable pub rows : RowsOf (RouteOf Named)
 rows =
     json (codes "/health") Health ∷ json (codes "/v1/at") At ∷ csv (codes "/v1/classes.csv") Classes ∷ json (codes "/v1/classes") Classes
-    ∷ json (codes "/v1/diagram") Diagram ∷ json (codes "/v1/edits/check") EditsCheck ∷ json (codes "/v1/edits") Edits
+    ∷ json (codes "/v1/diagram") Diagram ∷ json (codes "/v1/draft/bypass") (Draft kind.Bypass) ∷ json (codes "/v1/draft/merge") (Draft kind.Merge)
+    ∷ json (codes "/v1/draft/move") (Draft kind.Move) ∷ json (codes "/v1/draft/replace") (Draft kind.Replace) ∷ json (codes "/v1/draft/retire") (Draft kind.Retire)
+    ∷ json (codes "/v1/draft/split") (Draft kind.Split) ∷ json (codes "/v1/draft/undo") (Draft kind.Undo) ∷ json (codes "/v1/edits/check") EditsCheck ∷ json (codes "/v1/edits") Edits
     ∷ json (codes "/v1/find") Find ∷ csv (codes "/v1/gone.csv") Gone
     ∷ json (codes "/v1/gone") Gone ∷ csv (codes "/v1/history.csv") History ∷ json (codes "/v1/history") History
     ∷ csv (codes "/v1/lengths.csv") Lengths ∷ json (codes "/v1/lengths") Lengths ∷ csv (codes "/v1/links.csv") Links
@@ -90,6 +93,11 @@ is_sheet (Questions, Json) = true
 is_sheet (Surveys, Json) = true
 is_sheet (SurveysCheck, Json) = true
 is_sheet named = false
+
+-- what drafts sheets
+abbrev pub is_draft : Named → Bool
+is_draft (Draft kind, Json) = true
+is_draft named = false
 
 -- lists as CSV
 abbrev pub is_table : Named → Bool

@@ -14,7 +14,7 @@ mod response;
 mod sites;
 
 pub use body::BodyFault;
-pub use paths::{Format, Resource, routes};
+pub use paths::{DraftKind, Format, Resource, routes};
 pub use query::{switched, unknown_name, value_of, values_of};
-pub use request::{Request, receive};
+pub use request::{Course, Request, receive};
 pub use response::{Content, ContentType, RequestMethod, Response, write_reply, write_unavailable};

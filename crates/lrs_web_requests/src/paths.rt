@@ -1,10 +1,22 @@
 //! Which resource a path names, and in which format.
 
 ghost use Rattle.std.specs.Prelude.{◌≡◌, IfOk, OnOk};
-ghost use Rattle.lrs_web_requests.specs.Routes.{rows, named_at, rows_of, with_all, is_answer, is_summary, is_list, is_sheet, is_table};
+ghost use Rattle.lrs_web_requests.specs.Routes.{rows, named_at, rows_of, with_all, is_answer, is_summary, is_list, is_sheet, is_draft, is_table};
 
 use matchit::{InsertError, Router};
 use std::alloc::Global;
+
+/// What an edit sheet is drafted for.
+#[derive(Clone, Copy, PartialEq, Eq)]
+pub enum DraftKind {
+    Split,
+    Bypass,
+    Merge,
+    Retire,
+    Replace,
+    Move,
+    Undo,
+}
 
 /// What can be asked for.
 #[derive(Clone, Copy, PartialEq, Eq)]
@@ -35,6 +47,7 @@ pub enum Resource {
     EditsCheck,
     SurveysCheck,
     Questions,
+    Draft(DraftKind),
 }
 
 /// In which format a list is answered. It plays no part in other answers.
@@ -99,6 +112,41 @@ fn add_sheets(router: &mut Router<(Resource, Format)>) -> Result<(), InsertError
     Ok(())
 }
 
+/// Adds the paths that draft sheets.
+fn add_drafts(router: &mut Router<(Resource, Format)>) -> Result<(), InsertError>
+    ensures { OnOk result (router.new ≡ with_all (rows_of is_draft) router.old) }
+{
+    router.insert(
+        "/v1/draft/bypass",
+        (Resource::Draft(DraftKind::Bypass), Format::Json),
+    )?;
+    router.insert(
+        "/v1/draft/merge",
+        (Resource::Draft(DraftKind::Merge), Format::Json),
+    )?;
+    router.insert(
+        "/v1/draft/move",
+        (Resource::Draft(DraftKind::Move), Format::Json),
+    )?;
+    router.insert(
+        "/v1/draft/replace",
+        (Resource::Draft(DraftKind::Replace), Format::Json),
+    )?;
+    router.insert(
+        "/v1/draft/retire",
+        (Resource::Draft(DraftKind::Retire), Format::Json),
+    )?;
+    router.insert(
+        "/v1/draft/split",
+        (Resource::Draft(DraftKind::Split), Format::Json),
+    )?;
+    router.insert(
+        "/v1/draft/undo",
+        (Resource::Draft(DraftKind::Undo), Format::Json),
+    )?;
+    Ok(())
+}
+
 /// Adds the paths of lists as CSV.
 fn add_tables(router: &mut Router<(Resource, Format)>) -> Result<(), InsertError>
     ensures { OnOk result (router.new ≡ with_all (rows_of is_table) router.old) }
@@ -126,6 +174,7 @@ pub fn routes(alloc: Global) -> Result<Router<(Resource, Format)>, InsertError>
     add_summaries(&mut router)?;
     add_lists(&mut router)?;
     add_sheets(&mut router)?;
+    add_drafts(&mut router)?;
     add_tables(&mut router)?;
     Ok(router)
 }

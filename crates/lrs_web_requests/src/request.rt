@@ -6,7 +6,7 @@ ghost use Rattle.httparse.specs.Spans.{header_bytes, IsHeaderWithin, IsRequestOf
 ghost use Rattle.lrs_web_requests.specs.Routes.{rows};
 ghost use Rattle.lrs_web_requests.specs.BodyLengths.{body_length};
 ghost use Rattle.lrs_web_requests.specs.declared.response.RequestMethod.TheVariants.{Post};
-ghost use Rattle.lrs_web_requests.specs.Request.{asked_by, asked_at, asked_ahead, asked_with, AsksByHead, AsksWith, most_head, most_fields, page_text, path_of, query_of, argument_of, name_in, resumes, verb_of, with_length, by_verb, IsServed};
+ghost use Rattle.lrs_web_requests.specs.Request.{asked_by, asked_at, asked_ahead, asked_with, AsksByHead, AsksWith, most_head, most_fields, page_text, path_of, query_of, argument_of, name_in, course_of, switched_course, verb_of, with_length, by_verb, IsServed};
 
 use crate::body::{BodyFault, read_body};
 use crate::framing::length_of_body;
@@ -39,9 +39,20 @@ pub enum Request {
     Page(&'static str),
     /// An answer in a format: to a query, or of a route to the name in its path.
     Query(Resource, Format, Vec<u8>),
-    /// That the sheet in the body is done, or that it goes on behind its last record that is an edit; or that the questions
-    /// in the body are answered, whatever the second part says.
-    Sheet(Resource, bool, Vec<u8>),
+    /// That the sheet in the body is done in a way; or that it is tried, that the questions in the body are answered or a
+    /// sheet is drafted by it, whatever the second part says.
+    Sheet(Resource, Course, Vec<u8>),
+}
+
+/// How a sheet is done.
+#[derive(Clone, Copy, PartialEq, Eq)]
+pub enum Course {
+    /// Each record by itself, from the first on.
+    EachRecord,
+    /// Each record by itself, behind the last one that is an edit.
+    BehindLast,
+    /// All records, or nothing where one of them is refused.
+    AllOrNone,
 }
 
 fn verb_for(resource: Resource) -> RequestMethod
@@ -73,7 +84,8 @@ fn verb_for(resource: Resource) -> RequestMethod
         | Resource::Surveys
         | Resource::EditsCheck
         | Resource::SurveysCheck
-        | Resource::Questions => RequestMethod::Post,
+        | Resource::Questions
+        | Resource::Draft(_) => RequestMethod::Post,
     }
 }
 
@@ -130,17 +142,30 @@ fn argument(resource: Resource, target: &str) -> &[u8]
         | Resource::Surveys
         | Resource::EditsCheck
         | Resource::SurveysCheck
-        | Resource::Questions => query.as_bytes(),
+        | Resource::Questions
+        | Resource::Draft(_) => query.as_bytes(),
     }
 }
 
-/// Whether a sheet goes on behind its last record that is an edit; `None` where the parameter that says so has another
-/// value than 1.
-fn resumes(alloc: Global, target: &str) -> Result<Option<bool>, AllocError>
-    ensures { IfOk result (λ found. found ≡ resumes target.now) }
+fn switched_course(resumes: Option<bool>, all: Option<bool>) -> Option<Course>
+    ensures { result ≡ switched_course resumes all }
+{
+    match (resumes, all) {
+        (Some(false), Some(false)) => Some(Course::EachRecord),
+        (Some(true), Some(false)) => Some(Course::BehindLast),
+        (Some(false), Some(true)) => Some(Course::AllOrNone),
+        _ => None,
+    }
+}
+
+/// How a sheet is to be done; `None` where a parameter that says so has another value than 1, or both are there.
+fn course_of(alloc: Global, target: &str) -> Result<Option<Course>, AllocError>
+    ensures { IfOk result (λ found. found ≡ course_of target.now) }
 {
     let (_, query) = split_target(target);
-    switched(alloc, query.as_bytes(), "resume")
+    let resumes = switched(alloc, query.as_bytes(), "resume")?;
+    let all = switched(alloc, query.as_bytes(), "all")?;
+    Ok(switched_course(resumes, all))
 }
 
 /// The parts of a head, and the front of what follows it.
@@ -163,15 +188,15 @@ fn read_sheet<R: Read>(
     requires verb { verb_of resource ≡ Post }
     ensures served { IfOk result (λ task. IsServed (asked_by task)) }
     ensures asked { IfOk result (λ task. IfSome (R.remaining reader.old) (λ more.
-        asked_by task ≡ with_length resource (resumes head.entry.target.now) (body_length (map (header_bytes head.entry.text.now) head.entry.fields.now)) (head.entry.front.now ++ more))) }
+        asked_by task ≡ with_length resource (course_of head.entry.target.now) (body_length (map (header_bytes head.entry.text.now) head.entry.fields.now)) (head.entry.front.now ++ more))) }
 {
     let length = match length_of_body(head.text, head.fields) {
         Ok(length) => length,
         Err(status) => return Ok(Request::Refused(status)),
     };
     let body = read_body(alloc, reader, head.front, length)?;
-    match (resumes(alloc, head.target)?, body) {
-        (Some(resumes), Some(body)) => Ok(Request::Sheet(resource, resumes, body)),
+    match (course_of(alloc, head.target)?, body) {
+        (Some(course), Some(body)) => Ok(Request::Sheet(resource, course, body)),
         (None, _) | (_, None) => Ok(Request::Refused(StatusCode::BAD_REQUEST)),
     }
 }

@@ -8,5 +8,6 @@ returns c =
     let b = c.in_ok-add_summaries.ensures in
     let d = c.in_ok-add_lists.ensures in
     let e = c.in_ok-add_sheets.ensures in
-    let f = c.in_ok-add_tables.ensures in
-    rw (f, e, d, b, a, c.new-router.ensures)
+    let f = c.in_ok-add_drafts.ensures in
+    let g = c.in_ok-add_tables.ensures in
+    rw (g, f, e, d, b, a, c.new-router.ensures)
