@@ -1,0 +1,59 @@
+// Sheets that the program writes: what is wanted is said in fields, and the sheet is looked at as any other one.
+
+import { $, attempt, blame, make, say } from "./parts.js";
+import { send } from "./requests.js";
+import { causeOf, reason } from "./words.js";
+import { lookAt } from "./sheets.js";
+
+// What each kind of sheet is told: fields and their labels. A field with a question mark may be empty.
+const DRAFTS = {
+  split: { route: "Route", place: "Place", new: "Name of the new route behind it" },
+  bypass: { route: "Route", from: "It leaves the old road at", to: "It comes back at", pieces: "New ground, as 2:0:2500000:+", old: "Name for the old road" },
+  merge: { route: "Routes, as A1 A2 A3, in their order" },
+  retire: { asset: "Number of the asset" },
+  replace: { asset: "Number of the asset", number: "Number of the new one", value: "Value of the new one" },
+  move: { asset: "Number of the asset", number: "Number of the new one", route: "Route", from: "Place, or from", "to?": "To, for a stretch" },
+  undo: { "since?": "Edit", "number?": "Number of the first asset that comes back" },
+};
+
+const fieldsSaid = () => [...$("drafting").querySelectorAll("input")];
+
+function fieldOf([name, text]) {
+  const label = make("label", `${text} `), isOptional = name.endsWith("?");
+  label.append(make("input", "", { name: name.replace("?", ""), className: "short", autocomplete: "off", required: !isOptional }));
+  return label;
+}
+
+export function showFields() {
+  $("fields").replaceChildren(...Object.entries(DRAFTS[$("draft").value]).map(fieldOf));
+  say("draft-said", "");
+}
+
+// What is said: an empty field says nothing, of routes that are joined each is said by itself, and a point has one place.
+function pairsOf(kind, fields) {
+  const pairs = fields.map(({ name, value }) => [name, value.trim()]).filter(([, value]) => value), isPoint = !pairs.some(([name]) => name === "to");
+  if (kind === "merge") return pairs.flatMap(([name, value]) => (name === "route" ? value.split(/\s+/) : [value]).map(word => [name, word]));
+  return kind === "move" && isPoint ? pairs.map(([name, value]) => [name === "from" ? "place" : name, value]) : pairs;
+}
+
+// The sheet that the program writes. The type is that of sheets: proxies let no other one pass, since any page can send a form.
+async function sheetFor(kind, fields) {
+  const settings = { method: "POST", headers: { "Content-Type": "text/csv" }, body: new URLSearchParams(pairsOf(kind, fields)) };
+  const { status, text } = await send(`v1/draft/${kind}`, settings);
+  if (status === 200) return text;
+  const [, wrong] = (causeOf(text) || "").split(":"), isWrong = ({ name }) => name === wrong || (name === "from" && wrong === "place");
+  for (const field of fields.filter(isWrong)) blame(field, true, "draft-said");
+  throw new Error(reason(status, text));
+}
+
+export function draft() {
+  const kind = $("draft").value, fields = fieldsSaid();
+  for (const field of fields) blame(field, false);
+  say("draft-said", "The sheet is being written.");
+  return attempt("draft-said", async () => {
+    const text = await sheetFor(kind, fields);
+    say("draft-said", "The sheet is written, and shown below. Nothing is done before you send it.");
+    $("sheets").open = $("all-or-none").checked = true;
+    await lookAt([new File([text], `${kind}.csv`)]);
+  });
+}
