@@ -1,6 +1,6 @@
 // Sheets that the program writes: what is wanted is said in fields, and the sheet is looked at as any other one.
 
-import { $, attempt, blame, make, say } from "./parts.js";
+import { $, attempt, blame, make, offer, say } from "./parts.js";
 import { send } from "./requests.js";
 import { causeOf, reason } from "./words.js";
 import { lookAt } from "./sheets.js";
@@ -12,15 +12,15 @@ const DRAFTS = {
   merge: { route: "Routes, as A1 A2 A3, in their order" },
   retire: { asset: "Number of the asset" },
   replace: { asset: "Number of the asset", number: "Number of the new one", value: "Value of the new one" },
-  move: { asset: "Number of the asset", number: "Number of the new one", route: "Route", from: "Place, or from", "to?": "To, for a stretch" },
-  undo: { "since?": "Edit", "number?": "Number of the first asset that comes back" },
+  move: { asset: "Number of the asset", number: "Number of the new one", route: "Route", from: "Place, or where it begins", "to?": "Where it ends, if it is no point" },
+  undo: { "since?": "First edit to undo, if not the last alone", "number?": "Number for assets that come back, if there are any" },
 };
 
 const fieldsSaid = () => [...$("drafting").querySelectorAll("input")];
 
 function fieldOf([name, text]) {
   const label = make("label", `${text} `), isOptional = name.endsWith("?");
-  label.append(make("input", "", { name: name.replace("?", ""), className: "short", autocomplete: "off", required: !isOptional }));
+  label.append(make("input", "", { name: name.replace("?", ""), className: "short", required: !isOptional }));
   return label;
 }
 
@@ -49,10 +49,13 @@ async function sheetFor(kind, fields) {
 export function draft() {
   const kind = $("draft").value, fields = fieldsSaid();
   for (const field of fields) blame(field, false);
+  $("drafted").hidden = true;
   say("draft-said", "The sheet is being written.");
   return attempt("draft-said", async () => {
     const text = await sheetFor(kind, fields);
     say("draft-said", "The sheet is written, and shown below. Nothing is done before you send it.");
+    $("drafted").download = `${kind}.csv`;
+    offer($("drafted"), [text], "text/csv");
     $("sheets").open = $("all-or-none").checked = true;
     await lookAt([new File([text], `${kind}.csv`)]);
   });

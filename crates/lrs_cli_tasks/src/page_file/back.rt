@@ -234,9 +234,9 @@ const goOn = refresh => enqueue(async () => stopped && sendParts(stopped, refres
 const DRAFTS = {split: { route: "Route", place: "Place", new: "Name of the new route behind it" },
 bypass: { route: "Route", from: "It leaves the old road at", to: "It comes back at", pieces: "New ground, as 2:0:2500000:+", old: "Name for the old road" },merge: { route: "Routes, as A1 A2 A3, in their order" },
 retire: { asset: "Number of the asset" },replace: { asset: "Number of the asset", number: "Number of the new one", value: "Value of the new one" },
-move: { asset: "Number of the asset", number: "Number of the new one", route: "Route", from: "Place, or from", "to?": "To, for a stretch" },undo: { "since?": "Edit", "number?": "Number of the first asset that comes back" },};
-const fieldsSaid = () => [...$("drafting").querySelectorAll("input")];function fieldOf([name, text]) {const label = make("label", `${text} `), isOptional = name.endsWith("?");
-label.append(make("input", "", { name: name.replace("?", ""), className: "short", autocomplete: "off", required: !isOptional }));return label;}
+move: { asset: "Number of the asset", number: "Number of the new one", route: "Route", from: "Place, or where it begins", "to?": "Where it ends, if it is no point" },
+undo: { "since?": "First edit to undo, if not the last alone", "number?": "Number for assets that come back, if there are any" },};const fieldsSaid = () => [...$("drafting").querySelectorAll("input")];function fieldOf([name, text]) {
+const label = make("label", `${text} `), isOptional = name.endsWith("?");label.append(make("input", "", { name: name.replace("?", ""), className: "short", required: !isOptional }));return label;}
 function showFields() {$("fields").replaceChildren(...Object.entries(DRAFTS[$("draft").value]).map(fieldOf));say("draft-said", "");}
 function pairsOf(kind, fields) {const pairs = fields.map(({ name, value }) => [name, value.trim()]).filter(([, value]) => value), isPoint = !pairs.some(([name]) => name === "to");
 if (kind === "merge") return pairs.flatMap(([name, value]) => (name === "route" ? value.split(/\s+/) : [value]).map(word => [name, word]));
@@ -244,9 +244,9 @@ return kind === "move" && isPoint ? pairs.map(([name, value]) => [name === "from
 async function sheetFor(kind, fields) {const settings = { method: "POST", headers: { "Content-Type": "text/csv" }, body: new URLSearchParams(pairsOf(kind, fields)) };const { status, text } = await send(`v1/draft/${kind}`, settings);
 if (status === 200) return text;const [, wrong] = (causeOf(text) || "").split(":"), isWrong = ({ name }) => name === wrong || (name === "from" && wrong === "place");
 for (const field of fields.filter(isWrong)) blame(field, true, "draft-said");throw new Error(reason(status, text));}
-function draft() {const kind = $("draft").value, fields = fieldsSaid();for (const field of fields) blame(field, false);say("draft-said", "The sheet is being written.");return attempt("draft-said", async () => {
-const text = await sheetFor(kind, fields);say("draft-said", "The sheet is written, and shown below. Nothing is done before you send it.");$("sheets").open = $("all-or-none").checked = true;await lookAt([new File([text], `${kind}.csv`)]);});
-}
+function draft() {const kind = $("draft").value, fields = fieldsSaid();for (const field of fields) blame(field, false);$("drafted").hidden = true;say("draft-said", "The sheet is being written.");return attempt("draft-said", async () => {
+const text = await sheetFor(kind, fields);say("draft-said", "The sheet is written, and shown below. Nothing is done before you send it.");$("drafted").download = `${kind}.csv`;offer($("drafted"), [text], "text/csv");
+$("sheets").open = $("all-or-none").checked = true;await lookAt([new File([text], `${kind}.csv`)]);});}
 const PAUSE = 120, LEAST_DRAG = 4;let wanted = null, timer, drag = null, wasDragged = false, pinch = null;function zoom(times) {const middle = (seen.from + seen.to) / 2, half = ((seen.to - seen.from) * times) / 2;
 return showRange(middle - half, middle + half);}
 const move = times => showRange(seen.from + (seen.to - seen.from) * times, seen.to + (seen.to - seen.from) * times);function preview(from, to) {const svg = shownDiagram(), [start, end] = within(from, to, view.route.length);

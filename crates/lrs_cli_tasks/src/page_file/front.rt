@@ -8,7 +8,7 @@ macro_rules! page_front {
 <meta charset="utf-8">
 <meta name="viewport" content="width=device-width, initial-scale=1">
 <meta name="color-scheme" content="light dark">
-<meta http-equiv="Content-Security-Policy" content="default-src 'none'; style-src 'unsafe-inline'; script-src 'sha256-+S87T3RDRFRcX17RdT+uGQclMQzljcPi3dnk05TPKQE='; img-src data:; connect-src 'self'; form-action 'none'; base-uri 'none'">
+<meta http-equiv="Content-Security-Policy" content="default-src 'none'; style-src 'unsafe-inline'; script-src 'sha256-MZGCKhRO/joXmlo1623LR/WqlGhdn/JbsPco3tT7QYU='; img-src data:; connect-src 'self'; form-action 'none'; base-uri 'none'">
 <title>Road inventory</title>
 <link rel="icon" href="data:,">
 <style>
@@ -20,7 +20,7 @@ macro_rules! page_front {
 header{display:flex;flex-wrap:wrap;gap:.4rem 1.5rem;align-items:end;padding:.6rem 1rem;background:var(--head);color:#fff;}header p{margin:0 0 0 auto;}header .bad{color:var(--bad);}h1{margin:0 auto 0 0;font-size:1.2rem;}
 h1 a{color:inherit;text-decoration:none;}h2{margin:0 0 .5rem;font-size:1.05rem;}h3{margin:.6rem 0 .2rem;font-size:1rem;}p{margin:0 0 .5rem;}a{color:var(--link);}main{display:grid;gap:.8rem;padding:.8rem;grid-template-columns:minmax(0,1fr);}
 [tabindex="-1"]:focus{outline:none;}#network,#route,#edit,#asset{display:grid;gap:.8rem;grid-template-columns:minmax(0,1fr);}section,details{padding:.8rem;background:var(--paper);border:1px solid var(--line);border-radius:4px;min-width:0;}
-summary{cursor:pointer;font-weight:bold;min-height:1.5rem;}form,.buttons{display:flex;flex-wrap:wrap;gap:.5rem;align-items:end;margin:0 0 .5rem;}label{display:inline-flex;flex-direction:column;font-size:.85rem;}
+summary{cursor:pointer;font-weight:bold;min-height:1.5rem;}form,.buttons{display:flex;flex-wrap:wrap;gap:.5rem;align-items:end;margin:0 0 .5rem;}form .buttons{margin:0;}label{display:inline-flex;flex-direction:column;font-size:.85rem;}
 input,select,button{font:inherit;padding:.25rem .5rem;border:1px solid var(--field);border-radius:3px;background:var(--paper);color:var(--text);max-width:100%;min-height:1.9rem;}button{background:var(--press);cursor:pointer;}
 button:hover{background:var(--over);}:focus-visible{outline:3px solid var(--focus);outline-offset:1px;}header :focus-visible,#skip{outline-color:var(--on-head);}#skip{position:absolute;left:-100rem;}
 #skip:focus{left:.5rem;top:.5rem;z-index:2;}ul{list-style:none;margin:0;padding:0;}#results{max-height:15rem;overflow-y:auto;margin-bottom:.5rem;}li{padding:.1rem 0;}.note{font-size:.9rem;overflow-wrap:anywhere;}.note:empty{display:none;}
@@ -146,13 +146,14 @@ fieldset{max-height:none;overflow:visible;border:0;padding:0;}.swatch,.track svg
 </div>
 <details id="drafts" aria-label="Write a sheet for me"><summary>Write a sheet for me</summary>
 <p>Say what is wanted. The program writes the sheet that does it, tries it, and does nothing: you send the sheet below.</p>
-<form id="drafting"><label>What is wanted <select id="draft"><option value="split">divide a route</option><option value="bypass">lead a route over new ground</option>
+<form id="drafting" autocomplete="off"><label>What is wanted <select id="draft"><option value="split">divide a route</option><option value="bypass">lead a route over new ground</option>
 <option value="merge">join routes</option><option value="retire">take an asset away</option><option value="replace">replace an asset</option>
 <option value="move">move an asset</option><option value="undo">undo the last edits</option></select></label>
 <div id="fields" class="buttons" role="group" aria-label="What the sheet is for"></div>
-<label>Keys begin with, if not with DRAFT- <input name="key" class="short" autocomplete="off"></label>
+<label>Keys begin with, if not with DRAFT- <input name="key" class="short"></label>
 <button>Write the sheet</button></form>
 <p id="draft-said" class="note" role="status"></p>
+<p><a id="drafted" hidden>Save the sheet</a></p>
 <p class="note">A place is a measure (abs:3000), millimetres from a referent (rel:KM2+500), a proportion (int:1/3), or millimetres from the start (3000). Pieces of links have a space between two: 2:0:2500000:+ is link 2 from 0 to 2500000 mm, and with - at its end against the link.</p>
 </details>
 <details id="sheets" aria-label="Send a sheet"><summary>Send a sheet</summary>
