@@ -285,6 +285,17 @@ def test_each_function_is_reached_by_keys(full):
     keys.reaches("#save")
     keys.presses("#refresh")
     assert keys.at("#refresh")
+    # a sheet that is written: what is wanted, its fields, and the look at it
+    keys.presses("#drafts summary")
+    keys.reaches("#draft", most=1)
+    browser.presses(*[DOWN] * 3)
+    keys.reaches("#fields [name=asset]", most=1)
+    keys.types("51" + ENTER)
+    browser.shows("#looked", "retire.csv: an edit sheet of 1 record")
+    browser.waits_for("the look", lambda browser: keys.at("#send"))
+    keys.presses("#forget")
+    browser.shows("#sheet-said", "Nothing was sent.")
+    keys.is_somewhere()
     assert browser.complaints() == []
 
 
