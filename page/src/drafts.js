@@ -2,7 +2,7 @@
 
 import { $, attempt, blame, make, offer, say } from "./parts.js";
 import { send } from "./requests.js";
-import { causeOf, reason } from "./words.js";
+import { reason } from "./words.js";
 import { lookAt } from "./sheets.js";
 
 // What each kind of sheet is told: fields and their labels. A field with a question mark may be empty.
@@ -15,6 +15,8 @@ const DRAFTS = {
   move: { asset: "Number of the asset", number: "Number of the new one", route: "Route", from: "Place, or where it begins", "to?": "Where it ends, if it is no point" },
   undo: { "since?": "First edit to undo, if not the last alone", "number?": "Number for assets that come back, if there are any" },
 };
+// Fields whose words have another name in what the program says.
+const CALLED = { edit: "since", place: "from" };
 
 const fieldsSaid = () => [...$("drafting").querySelectorAll("input")];
 
@@ -41,9 +43,15 @@ async function sheetFor(kind, fields) {
   const settings = { method: "POST", headers: { "Content-Type": "text/csv" }, body: new URLSearchParams(pairsOf(kind, fields)) };
   const { status, text } = await send(`v1/draft/${kind}`, settings);
   if (status === 200) return text;
-  const [, wrong] = (causeOf(text) || "").split(":"), isWrong = ({ name }) => name === wrong || (name === "from" && wrong === "place");
-  for (const field of fields.filter(isWrong)) blame(field, true, "draft-said");
-  throw new Error(reason(status, text));
+  throw new Error(blamed(reason(status, text), fields));
+}
+
+// A sentence that begins with a field, as `PLACE is no place`, calls it by its label, and the field is marked.
+function blamed(told, fields) {
+  const [word] = /^[A-Z]+(?= is )/.exec(told) || [""], name = word.toLowerCase(), field = fields.find(each => each.name === name) || fields.find(each => each.name === CALLED[name]);
+  if (!field) return told;
+  blame(field, true, "draft-said");
+  return `"${field.labels[0].textContent.trim()}"${told.slice(word.length)}`;
 }
 
 export function draft() {

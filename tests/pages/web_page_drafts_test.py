@@ -82,29 +82,31 @@ def test_a_sheet_that_is_not_wanted_is_not_sent(page):
     assert len(re.findall("retire.csv", browser.text("#looked"))) == 1
 
 
-# What the program answers, and whether that blames a field.
+# What is wanted, the field that is wrong, if one is, and how what is told begins.
 NOT_WRITTEN = [
-    ("split", {"route": "A1", "place": "3km", "new": "A1N"}, ["place"]),
-    ("move", {"asset": "12", "number": "112", "route": "A1", "from": "3km"}, ["from"]),
-    ("move", {"asset": "11", "number": "112", "route": "A1", "from": "0", "to": "3km"}, ["to"]),
-    ("replace", {"asset": "twelve", "number": "112", "value": "STOP"}, ["asset"]),
-    ("split", {"route": "A9", "place": "3000", "new": "A1N"}, []),
-    ("retire", {"asset": "99"}, []),
-    ("merge", {"route": "A1"}, []),
+    ("split", {"route": "A1", "place": "3km", "new": "A1N"}, ["place"], '"Place" is no place: '),
+    ("move", {"asset": "12", "number": "112", "route": "A1", "from": "3km"}, ["from"], '"Place, or where it begins" is no place: '),
+    ("move", {"asset": "11", "number": "112", "route": "A1", "from": "0", "to": "3km"}, ["to"], '"Where it ends, if it is no point" is no place: '),
+    ("replace", {"asset": "twelve", "number": "112", "value": "STOP"}, ["asset"], '"Number of the asset" is no asset number.'),
+    ("bypass", {"route": "A1", "from": "0", "to": "500", "pieces": "8:0:1000:+", "old": "a1"}, ["old"], '"Name for the old road" is no route name.'),
+    ("undo", {"number": "x"}, ["number"], '"Number for assets that come back, if there are any" is no asset number.'),
+    ("split", {"route": "A9", "place": "3000", "new": "A1N"}, [], "There is no route"),
+    ("retire", {"asset": "99"}, [], "There is no such asset"),
+    ("merge", {"route": "A1"}, [], "Merge wants "),
 ]
 
 
 def test_why_no_sheet_is_written_is_told_beside_the_fields(page):
     browser = page.browser
     page.opens()
-    for what, fields, blamed in NOT_WRITTEN:
+    for what, fields, blamed, told in NOT_WRITTEN:
         writes(page, what, fields)
         said = browser.text("#draft-said")
-        assert re.fullmatch(r"Error: [A-Z].{10,}\.", said) and "(Status" not in said, said
+        assert said.startswith(f"Error: {told}") and said.endswith("."), said
         wrong = browser.runs("return [...document.querySelectorAll('#fields [aria-invalid=true]')].map(e => [e.name, e.getAttribute('aria-describedby')])")
         assert wrong == [[name, "draft-said"] for name in blamed], (what, fields, said)
         assert browser.runs("return document.querySelector('#drafted').hidden && document.querySelector('#preview').hidden")
-    assert posts(page) == [f"draft/{what}" for what, _, _ in NOT_WRITTEN]
+    assert posts(page) == [f"draft/{what}" for what, *_ in NOT_WRITTEN]
     assert browser.runs("return document.querySelector('#draft-said').role") == "status"
     page.pictured("no_draft")
     # what was wrong is forgotten with the next try
@@ -139,8 +141,9 @@ def test_a_program_that_has_ended_writes_no_sheet(page):
 
 # An answer of the program, and what is told.
 ANSWERS = [
-    (409, '{"error":"Impossible","why":"<b>this</b> is not possible"}', "Error: <b>this</b> is not possible."),
-    (400, '{"error":"Malformed:since","why":"SINCE is no edit!"}', "Error: SINCE is no edit!"),
+    (409, '{"error":"NotDrafted","why":"<b>this</b> is not possible"}', "Error: <b>this</b> is not possible."),
+    (400, '{"error":"BadDraft","why":"EDIT is no edit number"}', 'Error: "First edit to undo, if not the last alone" is no edit number.'),
+    (400, '{"error":"Unknown:since"}', "Error: Unknown:since."),
     (409, '{"error":"NoRoute"}', "Error: NoRoute: there is no route of this name."),
     (409, "", "Error: It cannot be done. (Status 409.)"),
     (404, "", "Error: There is nothing at this path: perhaps the program is older than this page. (Status 404.)"),

@@ -2,8 +2,7 @@
 
 macro_rules! page_back {
     ($front:literal) => {
-        concat!($front, r##"run.forEach(({ d }, at) => (joined.get(looks[at]) || joined.set(looks[at], new Set()).get(looks[at])).add(d));return [...joined].map(([look, parts]) => `<path ${look} d='${[...parts].join("")}'/>`).concat(besides);}
-function cutsOf(rows) {const isWide = ({ x, end }) => end - x >= LEAST_PARTED;const cuts = rows.filter((row, at) => at && rows[at - 1].end === row.x && rows[at - 1].value !== row.value && isWide(row) && isWide(rows[at - 1]));
+        concat!($front, r##"function cutsOf(rows) {const isWide = ({ x, end }) => end - x >= LEAST_PARTED;const cuts = rows.filter((row, at) => at && rows[at - 1].end === row.x && rows[at - 1].value !== row.value && isWide(row) && isWide(rows[at - 1]));
 return cuts.length ? [`<path data-cut='${cuts.length}' d='${cuts.map(({ x }) => `M${x} -65v130`).join("")}'/>`] : [];}
 function countsOf(points) {const counts = new Map(), texts = [];for (const { x } of points) counts.set(x, (counts.get(x) || 0) + 1);let free = 0;for (const [x, count] of counts) {if (count === 1 || x < free) continue;
 texts.push(`<text data-count='${count}' x='${x - 20}' y='-25' text-anchor='end'>${count}\u00d7<\/text>`);free = x + WIDE_COUNT;}
@@ -235,15 +234,17 @@ const DRAFTS = {split: { route: "Route", place: "Place", new: "Name of the new r
 bypass: { route: "Route", from: "It leaves the old road at", to: "It comes back at", pieces: "New ground, as 2:0:2500000:+", old: "Name for the old road" },merge: { route: "Routes, as A1 A2 A3, in their order" },
 retire: { asset: "Number of the asset" },replace: { asset: "Number of the asset", number: "Number of the new one", value: "Value of the new one" },
 move: { asset: "Number of the asset", number: "Number of the new one", route: "Route", from: "Place, or where it begins", "to?": "Where it ends, if it is no point" },
-undo: { "since?": "First edit to undo, if not the last alone", "number?": "Number for assets that come back, if there are any" },};const fieldsSaid = () => [...$("drafting").querySelectorAll("input")];function fieldOf([name, text]) {
-const label = make("label", `${text} `), isOptional = name.endsWith("?");label.append(make("input", "", { name: name.replace("?", ""), className: "short", required: !isOptional }));return label;}
+undo: { "since?": "First edit to undo, if not the last alone", "number?": "Number for assets that come back, if there are any" },};const CALLED = { edit: "since", place: "from" };
+const fieldsSaid = () => [...$("drafting").querySelectorAll("input")];function fieldOf([name, text]) {const label = make("label", `${text} `), isOptional = name.endsWith("?");
+label.append(make("input", "", { name: name.replace("?", ""), className: "short", required: !isOptional }));return label;}
 function showFields() {$("fields").replaceChildren(...Object.entries(DRAFTS[$("draft").value]).map(fieldOf));say("draft-said", "");}
 function pairsOf(kind, fields) {const pairs = fields.map(({ name, value }) => [name, value.trim()]).filter(([, value]) => value), isPoint = !pairs.some(([name]) => name === "to");
 if (kind === "merge") return pairs.flatMap(([name, value]) => (name === "route" ? value.split(/\s+/) : [value]).map(word => [name, word]));
 return kind === "move" && isPoint ? pairs.map(([name, value]) => [name === "from" ? "place" : name, value]) : pairs;}
 async function sheetFor(kind, fields) {const settings = { method: "POST", headers: { "Content-Type": "text/csv" }, body: new URLSearchParams(pairsOf(kind, fields)) };const { status, text } = await send(`v1/draft/${kind}`, settings);
-if (status === 200) return text;const [, wrong] = (causeOf(text) || "").split(":"), isWrong = ({ name }) => name === wrong || (name === "from" && wrong === "place");
-for (const field of fields.filter(isWrong)) blame(field, true, "draft-said");throw new Error(reason(status, text));}
+if (status === 200) return text;throw new Error(blamed(reason(status, text), fields));}
+function blamed(told, fields) {const [word] = /^[A-Z]+(?= is )/.exec(told) || [""], name = word.toLowerCase(), field = fields.find(each => each.name === name) || fields.find(each => each.name === CALLED[name]);if (!field) return told;
+blame(field, true, "draft-said");return `"${field.labels[0].textContent.trim()}"${told.slice(word.length)}`;}
 function draft() {const kind = $("draft").value, fields = fieldsSaid();for (const field of fields) blame(field, false);$("drafted").hidden = true;say("draft-said", "The sheet is being written.");return attempt("draft-said", async () => {
 const text = await sheetFor(kind, fields);say("draft-said", "The sheet is written, and shown below. Nothing is done before you send it.");$("drafted").download = `${kind}.csv`;offer($("drafted"), [text], "text/csv");
 $("sheets").open = $("all-or-none").checked = true;await lookAt([new File([text], `${kind}.csv`)]);});}

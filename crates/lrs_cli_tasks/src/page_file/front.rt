@@ -8,7 +8,7 @@ macro_rules! page_front {
 <meta charset="utf-8">
 <meta name="viewport" content="width=device-width, initial-scale=1">
 <meta name="color-scheme" content="light dark">
-<meta http-equiv="Content-Security-Policy" content="default-src 'none'; style-src 'unsafe-inline'; script-src 'sha256-MZGCKhRO/joXmlo1623LR/WqlGhdn/JbsPco3tT7QYU='; img-src data:; connect-src 'self'; form-action 'none'; base-uri 'none'">
+<meta http-equiv="Content-Security-Policy" content="default-src 'none'; style-src 'unsafe-inline'; script-src 'sha256-zZU6gET6UIsbADVnQQcyAiUqLy4MLrYps4zQJIqfZcY='; img-src data:; connect-src 'self'; form-action 'none'; base-uri 'none'">
 <title>Road inventory</title>
 <link rel="icon" href="data:,">
 <style>
@@ -359,6 +359,7 @@ return [lines.join("\n"), things];}
 function shapesOf(run, isMany) {const isPoints = run[0]?.kind === "point", joined = new Map(), besides = isPoints ? countsOf(run) : cutsOf(run);
 const looks = run.map(({ class: name, value, side }) => (isPoints ? `data-side='${side}'` : `class='${shadeOf(name, value)}'`));
 if (!isMany) return run.map(({ d, asset, value }, at) => `<path ${looks[at]} d='${d}'><title>${asset}: ${value}<\/title><\/path>`).concat(besides);
+run.forEach(({ d }, at) => (joined.get(looks[at]) || joined.set(looks[at], new Set()).get(looks[at])).add(d));return [...joined].map(([look, parts]) => `<path ${look} d='${[...parts].join("")}'/>`).concat(besides);}
 "##)
     };
 }
