@@ -1,8 +1,8 @@
 """Puts the page together, and writes it into the program.
 
 page/src/index.html is a page with its style sheets and modules beside it. `python3 tools/embed.py` puts them into the one file
-page/index.html, and that as one text into crates/lrs_cli_tasks/src/page_file/text.rt. With `--check` nothing is written, and the
-status is 1 where one of the two differs.
+page/index.html, and that in two parts into crates/lrs_cli_tasks/src/page_file/front.rt and back.rt. With `--check` nothing is
+written, and the status is 1 where one of the three differs.
 
 A module is plain JavaScript. Its imports stand each on a line, of names of another module; what it exports, it exports where it is
 declared. In the page all modules are one script, each behind those that it imports, so no two declare one name.
@@ -17,10 +17,29 @@ import sys
 TOP = pathlib.Path(__file__).resolve().parent.parent
 SOURCE = TOP / "page" / "src"
 PAGE = TOP / "page" / "index.html"
-MODULE = TOP / "crates" / "lrs_cli_tasks" / "src" / "page_file" / "text.rt"
+MODULES = TOP / "crates" / "lrs_cli_tasks" / "src" / "page_file"
 
-FRONT = '//! The web page, as page/index.html has it: tools/embed.py writes this file.\n\n/// The page.\npub static PAGE: &str = r##"'
-BACK = '"##;\n'
+# A text that is put together of others takes literals alone, so each part is a macro: that of the front hands its text to that of the back.
+FRONT = '''//! The front of the web page, page/index.html: tools/embed.py writes this file.
+
+macro_rules! page_front {
+    ($back:ident) => {
+        $back!(r##"%s"##)
+    };
+}
+
+pub(super) use page_front;
+'''
+BACK = '''//! The back of the web page, page/index.html: tools/embed.py writes this file.
+
+macro_rules! page_back {
+    ($front:literal) => {
+        concat!($front, r##"%s"##)
+    };
+}
+
+pub(super) use page_back;
+'''
 
 # What a raw text of the source cannot have.
 FORBIDDEN = {'"##': "the end of a raw text", "\t": "a tabulator", "\r": "a carriage return", " \n": "a blank at the end of a line"}
@@ -117,18 +136,19 @@ def page_of(folder):
     return text.replace("style-src 'self' ", "style-src ").replace("script-src 'self'", f"script-src 'sha256-{allowed}'").encode()
 
 
-def module_of(page):
-    """The bytes of the module that has this page."""
+def modules_of(page):
+    """The modules that have this page, cut at the end of the line in its middle; each with its bytes."""
     text = page.decode("utf-8")
     for part, what in FORBIDDEN.items():
         if part in text:
             refuse(f"line {text[: text.index(part)].count(chr(10)) + 1} of the page has {what}")
-    return f"{FRONT}{text}{BACK}".encode()
+    cut = text.index("\n", len(text) // 2) + 1
+    return {MODULES / "front.rt": (FRONT % text[:cut]).encode(), MODULES / "back.rt": (BACK % text[cut:]).encode()}
 
 
 def main(words):
     page = page_of(SOURCE)
-    written = {PAGE: page, MODULE: module_of(page)}
+    written = {PAGE: page, **modules_of(page)}
     if words == ["--check"]:
         for path, content in written.items():
             if not path.exists() or path.read_bytes() != content:

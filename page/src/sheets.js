@@ -6,7 +6,7 @@ import { GO_ON, STATUSES, reason, sentence } from "./words.js";
 import { counted, metres } from "./numbers.js";
 
 const MOST_ADVICE = 20, MOST_NAMES = 10;
-const MOST_LINES = 500, MOST_BYTES = 1000000, FIRST_RECORDS = 6, MOST_SHOWN = 2000;
+const MOST_LINES = 500, MOST_BYTES = 1000000, FIRST_RECORDS = 20, MOST_SHOWN = 4000;
 const PATHS = {
   "key,verb,a,b,c,d,e,f,g,h,i": ["v1/edits", "an edit sheet"],
   "key,asset,class,route,side,method,from,to,value,offset": ["v1/surveys", "a survey"],
@@ -85,43 +85,51 @@ function changesOf(lines) {
   ].join("; ");
 }
 
+// What to do about the records that are refused: a line for each.
+function adviceOf({ advice }) {
+  if (!advice.length) return [];
+  const list = make("ul");
+  list.append(...advice.slice(0, MOST_ADVICE).map(line => make("li", line.text ?? line)));
+  return [list];
+}
+
 function shownTrial(trial) {
-  const { fault, replies, advice, difference } = trial, changes = changesOf(difference);
+  const { fault, replies, difference } = trial, changes = changesOf(difference);
   const count = word => `${replies.filter(line => line.split(",")[1] === word).length} ${word}`, counts = ["done", "again", "refused"].map(count).join(", ");
-  const shown = [make("p", `It would be: ${counts}${fault ? `, and then ${sentence(fault)}` : ""}.`, { className: "trial" })];
-  if (advice.length) {
-    const list = make("ul");
-    list.append(...advice.slice(0, MOST_ADVICE).map(line => make("li", line)));
-    shown.push(list);
-  }
+  const shown = [make("p", `It would be: ${counts}${fault ? `, and then ${sentence(fault)}` : ""}.`, { className: "trial" }), ...adviceOf(trial)];
   shown.push(make("p", changes ? `It ${changes}.` : "It changes nothing of the network or its assets.", { className: "changes" }));
   if (difference.length) {
-    const rest = difference.length > MOST_LINES ? `\n${difference.length - MOST_LINES} lines more are not shown here: check --diff prints them.` : "", details = make("details");
-    details.append(make("summary", `What changes, in ${counted(difference.length, "line")}`), make("pre", difference.slice(0, MOST_LINES).join("\n") + rest, { tabIndex: 0 }));
+    const rest = difference.length > MOST_LINES ? `\n${difference.length - MOST_LINES} lines more are not shown here: check --diff prints them.` : "", name = `What changes, in ${counted(difference.length, "line")}`;
+    const details = make("details", "", { ariaLabel: name });
+    details.append(make("summary", name), make("pre", difference.slice(0, MOST_LINES).join("\n") + rest, { tabIndex: 0 }));
     shown.push(details);
   }
   return shown;
 }
 
 // ---- looked at
-let ready = [], stopped;
+let ready = [], looks = 0, stopped;
 
+// Looks at files, and forgets what was looked at before.
 export async function lookAt(files) {
-  const shown = [];
+  const mine = ++looks, sheets = [], shown = [];
   ready = [];
   $("preview").hidden = true;
   $("looked").replaceChildren();
   say("sheet-said", "");
   for (const file of files) {
     const bytes = new Uint8Array(await file.arrayBuffer()), [path, kind] = kindOf(bytes, file.name), { count, first } = recordsIn(bytes);
-    const bodies = bodiesOf(bytes), parts = bodies.length > 1 ? `, in ${bodies.length} parts` : "";
-    ready.push({ name: file.name, path, bodies, at: 0, resumes: false });
+    const bodies = bodiesOf(bytes), parts = bodies.length > 1 ? `, in ${bodies.length} parts, so not all or nothing` : "";
+    sheets.push({ name: file.name, path, bodies, at: 0, resumes: false });
     shown.push(make("p", `${file.name}: ${kind} of ${counted(count, "record")}, ${bytes.length} bytes${parts}. It begins:`), make("pre", first, { tabIndex: 0 }));
     const trial = bodies.length > 1 ? undefined : await trialOf(path, bodies[0]);
     if (trial) shown.push(...shownTrial(trial));
   }
+  if (mine !== looks) return;
+  ready = sheets;
   $("looked").replaceChildren(...shown);
   $("preview").hidden = !ready.length;
+  $("all-or-none").disabled = ready.some(({ bodies }) => bodies.length > 1);
   $("send").focus();
 }
 
@@ -141,45 +149,49 @@ function startReplies() {
   $("lines").replaceChildren(tableOf(["Key", "Reply", "Edit, or cause"], []));
   $("replies").hidden = false;
   $("lines").hidden = $("save").hidden = $("resume").hidden = true;
+  $("advice").replaceChildren();
   say("counts", "");
 }
 
-function showReplies(text) {
+// Shows the lines of a part that was done, or of a sheet of which nothing was done: what they would have been.
+function showReplies(text, isDone = true) {
   replied.push(text);
   const body = $("lines").querySelector("tbody"), rows = [];
   for (const line of text.split("\n")) {
     const [key, word, more] = line.split(",");
     if (!word) continue;
     counts[word]++;
-    if (body.rows.length + rows.length < MOST_LINES * (word === "done" || word === "again" ? 1 : 2)) rows.push(replyRow(key, word, more));
+    if (body.rows.length + rows.length < MOST_LINES * (word === "done" || word === "again" ? 1 : 2)) rows.push(replyRow(key, word, more, isDone));
     else notShown++;
   }
   body.append(...rows);
   $("lines").hidden = !body.rows.length;
   const faults = counts.fault ? ", 1 fault" : "", rest = notShown ? ` ${notShown} lines more are not shown here: save them to see all.` : "";
-  say("counts", `${counts.done} done, ${counts.again} again, ${counts.refused} refused${faults}.${rest}`);
+  say("counts", `${isDone ? "" : "Nothing was done. It would have been: "}${counts.done} done, ${counts.again} again, ${counts.refused} refused${faults}.${rest}`);
   offer($("save"), replied, "text/csv");
 }
 
-function replyRow(key, word, more) {
-  const row = rowOf([key, word, word === "done" || word === "again" ? `edit ${more}` : sentence(more)]);
-  row.className = word;
+function replyRow(key, word, more, isDone) {
+  const wouldBe = word === "done" && !isDone;
+  const row = rowOf([key, wouldBe ? "would be done" : word, word === "done" || word === "again" ? `edit ${more}` : sentence(more)]);
+  row.className = wouldBe ? "" : word;
   row.cells[1].className = "word";
   return row;
 }
 
 // ---- sent
-// Sends the parts of a sheet from one on. The program goes on by itself with a part whose reply was lost.
+// Sends the parts of a sheet from one on. The program goes on by itself with a part whose reply was lost; of all or nothing it is told
+// the same again, and knows what was done.
 async function sendParts(sheet, refresh) {
-  const { name, path, bodies } = sheet;
+  const { name, bodies, isWhole } = sheet, ending = isWhole ? "Nothing of it was refused." : "Look at the lines: a record that is refused changes nothing.";
   stopped = undefined;
   leaving(["resume"], "file", () => ($("resume").hidden = true));
   try {
     for (; sheet.at < bodies.length; sheet.at++, sheet.resumes = false) {
       say("sheet-said", `${name}: part ${sheet.at + 1} of ${bodies.length} is being sent.`);
-      await sendPart(path + (sheet.resumes ? "?resume=1" : ""), bodies[sheet.at]);
+      await sendPart(sheet, bodies[sheet.at]);
     }
-    say("sheet-said", `${name} was sent to its end, in ${bodies.length === 1 ? "one part" : `${bodies.length} parts`}. Look at the lines: a record that is refused changes nothing.`);
+    say("sheet-said", `${name} was sent to its end, in ${bodies.length === 1 ? "one part" : `${bodies.length} parts`}. ${ending}`);
   } catch (error) {
     if (error.message.endsWith(GO_ON)) (stopped = { ...sheet, resumes: true }), ($("resume").hidden = false);
     throw error;
@@ -188,15 +200,34 @@ async function sendParts(sheet, refresh) {
   }
 }
 
-async function sendPart(path, body) {
-  const settings = { method: "POST", headers: { "Content-Type": "text/csv" }, body };
-  const { status, text } = await send(path, settings).catch(error => { throw new Error(error.message + GO_ON); });
-  if (status === 200 || status === 422) showReplies(text);
+async function sendPart({ path, isWhole, resumes }, body) {
+  const settings = { method: "POST", headers: { "Content-Type": "text/csv" }, body }, way = isWhole ? "?all=1" : resumes ? "?resume=1" : "";
+  const { status, text } = await send(path + way, settings).catch(error => { throw new Error(error.message + GO_ON); });
+  if (status === 200 || status === 409 || status === 422) showReplies(text, status === 200 || !isWhole);
+  if (isWhole && (status === 409 || status === 422)) return tellNothing(path, body, status);
   if (status === 422) throw new Error(`${STATUSES[422]} The last line says why. The records before it are done. Mend the sheet, and send the header and the records behind the last one that was done.`);
   if (status !== 200) throw new Error(reason(status, text) + ([500, 502, 503, 504].includes(status) ? GO_ON : " The sheet was not sent on."));
 }
 
-// One sheet after the other. Who leaves the page before they are sent is asked.
+// Nothing was done of a sheet that was to be done wholly: what to do about it.
+async function tellNothing(path, body, status) {
+  const trial = await trialOf(path, body);
+  if (trial) $("advice").replaceChildren(...adviceOf(trial));
+  throw new Error(`Nothing was done. ${status === 409 ? "Not all of the sheet would be done: mend what is refused, or send it without all or nothing." : `${STATUSES[422]} The last line says why.`}`);
+}
+
+// Sends one sheet after the other, up to the first that cannot be sent to its end.
+async function sendEach(named, refresh) {
+  for (const [at, sheet] of named.entries()) {
+    startReplies();
+    await sendParts(sheet, refresh).catch(error => {
+      const rest = named.slice(at + 1).map(({ name }) => name).join(", ");
+      throw new Error(rest ? `${error.message} Not sent: ${rest}.` : error.message);
+    });
+  }
+}
+
+// One after the other. Who leaves the page before they are sent is asked.
 let sheets = Promise.resolve(), waiting = 0;
 function enqueue(work) {
   waiting++;
@@ -204,7 +235,8 @@ function enqueue(work) {
 }
 
 export function sendReady(refresh) {
-  for (const sheet of ready) enqueue(() => (startReplies(), sendParts(sheet, refresh)));
+  const isWhole = $("all-or-none").checked && !$("all-or-none").disabled, named = ready.map(sheet => ({ ...sheet, isWhole }));
+  enqueue(() => sendEach(named, refresh));
   ready = [];
   $("preview").hidden = true;
   $("sheet-said").scrollIntoView({ block: "nearest" });

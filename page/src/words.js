@@ -20,6 +20,7 @@ const CAUSES = {
 export const STATUSES = {
   400: "The request could not be read.", 401: "You are not logged in.", 403: "You may not do this.",
   404: "There is nothing at this path: perhaps the program is older than this page.",
+  409: "It cannot be done.",
   413: "The sheet is too long, or has a part that cannot be cut. Nothing of this part was done.",
   415: "The web server takes no sheet of this type.", 422: "The sheet could not be read to its end.", 502: "The program does not run.",
   503: "The program has too little memory, or could not write to its disk. If this comes again and again, the disk must be mended and the program started again.",
@@ -35,16 +36,20 @@ export function sentence(cause) {
   return known ? `${cause}: ${known.replace("%", () => argument)}` : cause;
 }
 
-// The cause that a body names, where it names one.
-export function causeOf(text) {
+// The cause that a body names, where it names one, and the sentence on it, where it has one.
+function faultOf(text) {
   try {
-    return JSON.parse(text).error;
+    const { error, why } = JSON.parse(text);
+    return { error, why };
   } catch {
-    return undefined;
+    return {};
   }
 }
 
+export const causeOf = text => faultOf(text).error;
+
 export function reason(status, text) {
-  const cause = causeOf(text);
-  return cause ? `${sentence(cause)}.` : `${STATUSES[status] || "The request failed."} (Status ${status}.)`;
+  const { error, why } = faultOf(text);
+  if (why) return `${why[0].toUpperCase()}${why.slice(1)}${/[.!?]$/.test(why) ? "" : "."}`;
+  return error ? `${sentence(error)}.` : `${STATUSES[status] || "The request failed."} (Status ${status}.)`;
 }

@@ -37,6 +37,11 @@ def tried(server, sheet, kind="edits"):
     return lines(*json.loads(body)["replies"])
 
 
+def refused(replied):
+    """Those of some lines that refuse a record."""
+    return b"".join(line for line in replied.splitlines(keepends=True) if b",refused," in line)
+
+
 def stays(server, asked, sheet, expected):
     """The sheet is answered so, and nothing changes."""
     before = told(server)
@@ -62,9 +67,9 @@ def test_nothing_is_done_where_a_record_is_refused(path):
         sheet = sheet_of(SOUND[0], "x1,close,NONE", *SOUND[1:])
         replied = tried(server, sheet)
         assert replied.count(b",done,") == 3 and replied.count(b",refused,") == 1, replied
-        stays(server, "edits?all=1", sheet, sheet_reply(replied, 409))
+        stays(server, "edits?all=1", sheet, sheet_reply(refused(replied), 409))
         # and once more
-        stays(server, "edits?all=1", sheet, sheet_reply(replied, 409))
+        stays(server, "edits?all=1", sheet, sheet_reply(refused(replied), 409))
         settle(path)
         assert rows_of(path) == before
         # mended, it is done
@@ -76,7 +81,7 @@ def test_nothing_is_done_where_a_record_is_refused(path):
 def test_wherever_the_record_stands(path, at):
     with started(db=path) as server:
         sheet = sheet_of(*SOUND[:at], "x1,close,NONE", *SOUND[at:])
-        stays(server, "edits?all=1", sheet, sheet_reply(tried(server, sheet), 409))
+        stays(server, "edits?all=1", sheet, sheet_reply(refused(tried(server, sheet)), 409))
 
 
 def test_keys_that_were_accepted_before_are_no_refusals(path):
@@ -85,14 +90,14 @@ def test_keys_that_were_accepted_before_are_no_refusals(path):
         stays(server, "edits?all=1", sheet_of(*SOUND), sheet_reply(AGAIN))
         server.does("edits?all=1", sheet_of(*SOUND, "n4,link,10,5"), AGAIN + b"n4,done,17\n")
         # under another command the key is used
-        stays(server, "edits?all=1", sheet_of("n5,link,11,5", "n4,link,12,5"), sheet_reply(b"n5,done,18\nn4,refused,KeyUsed:17\n", 409))
+        stays(server, "edits?all=1", sheet_of("n5,link,11,5", "n4,link,12,5"), sheet_reply(b"n4,refused,KeyUsed:17\n", 409))
 
 
 def test_a_survey(path):
     sound = SURVEY_HEADER + b"a1,20,SIGN,A1,L,abs,10,,STOP,0\na2,21,SIGN,A1,L,abs,10,,STOP,0\n"
     with started(db=path) as server:
         bad = sound + b"a3,20,SIGN,A1,L,abs,10,,STOP,0\n"
-        stays(server, "surveys?all=1", bad, sheet_reply(b"a1,done,14\na2,done,15\na3,refused,AssetKnown\n", 409))
+        stays(server, "surveys?all=1", bad, sheet_reply(b"a3,refused,AssetKnown\n", 409))
         server.does("surveys?all=1", sound, b"a1,done,14\na2,done,15\n")
 
 
@@ -101,9 +106,9 @@ def test_a_sheet_at_fault(path):
         for asked in ["edits?all=1", "surveys?all=1"]:
             stays(server, asked, b"a,b\n", sheet_reply(b"-,fault,BadHeader\n", 422))
         short = sheet_of(*SOUND) + b"short,record\n"
-        stays(server, "edits?all=1", short, sheet_reply(DONE + b"-,fault,BadCsv\n", 422))
-        refused = sheet_of("x1,close,NONE") + b"short,record\n"
-        stays(server, "edits?all=1", refused, sheet_reply(tried(server, refused) + b"-,fault,BadCsv\n", 422))
+        stays(server, "edits?all=1", short, sheet_reply(b"-,fault,BadCsv\n", 422))
+        bad = sheet_of("x1,close,NONE") + b"short,record\n"
+        stays(server, "edits?all=1", bad, sheet_reply(refused(tried(server, bad)) + b"-,fault,BadCsv\n", 422))
         # of an empty sheet, and of one with no records, nothing is refused
         for empty in [b"", HEADER]:
             stays(server, "edits?all=1", empty, reply(200))
@@ -144,7 +149,7 @@ def test_drawn_sheets(tmp_path):
         replied = edit(other, sheet).stdout
         status = 409 if b",refused," in replied else 200
         with started(db=path) as server:
-            server.answers(request("POST /v1/edits?all=1", sheet), sheet_reply(replied, status))
+            server.answers(request("POST /v1/edits?all=1", sheet), sheet_reply(refused(replied) if status == 409 else replied, status))
         settle(path)
         settle(other)
         assert rows_of(path) == (before if status == 409 else rows_of(other)), seed

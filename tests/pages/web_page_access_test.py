@@ -45,12 +45,29 @@ def views(page):
     browser.shows("#edits", "x1")
     page.finds("class", "SIGN")
     yield "network"
+    browser.runs("document.getElementById('drafts').open = true")
+    for field, text in [("route", "A1"), ("place", "abs:3000"), ("new", "A1N")]:
+        browser.types(f"#fields [name={field}]", text)
+    browser.clicks("#drafting button")
+    browser.shows("#looked", "split.csv")
+    yield "draft"
+    page.chooses("#draft", "retire")
+    browser.types("#fields [name=asset]", "99" + ENTER)
+    browser.shows("#draft-said", "Error: ")
+    yield "no draft"
     page.goes_to("#A1/chainage:1.000..8.000/abs:4500/asset:10")
     browser.shows("#hits", "SPEED")
     browser.shows("#rows-said", "rows of this stretch")
     browser.waits_for("a mark", lambda browser: browser.runs("return document.querySelectorAll('[data-mark] rect').length > 1"))
     page.looks_at(page.file("roads.csv", MIXED))
     yield "route"
+    browser.clicks("#all-or-none")
+    browser.clicks("#send")
+    browser.shows("#sheet-said", "Error: Nothing was done.")
+    browser.shows("#advice", "q2")
+    yield "nothing done"
+    page.looks_at(page.file("roads.csv", MIXED))
+    browser.clicks("#all-or-none")
     browser.clicks("#send")
     browser.shows("#sheet-said", "to its end")
     browser.types("#pos", "99999" + ENTER)
@@ -116,14 +133,15 @@ NAMED = {"button", "link", "textbox", "searchbox", "combobox", "checkbox", "regi
 
 
 def test_each_control_has_a_name(full):
-    """As the browser tells it to a reader of the screen."""
+    """As the browser tells it to a reader of the screen; also what opens and closes, which is a group."""
+    groups = set()
     for view in views(full):
         nodes = full.commands("Accessibility.getFullAXTree")["nodes"]
         told = [(node["role"]["value"], node.get("name", {}).get("value", "").strip()) for node in nodes if not node["ignored"]]
         assert len([role for role, _ in told if role in NAMED]) > 10
-        # what a sheet would change is disclosed by a summary, which names it
-        disclosed = ["group"] * full.browser.runs("return document.querySelectorAll('#looked details').length")
-        assert [role for role, name in told if role in NAMED and not name] in ([], disclosed), view
+        assert [role for role, name in told if role in NAMED and not name] == [], view
+        groups |= {name for role, name in told if role == "group"}
+    assert groups >= {"Write a sheet for me", "Send a sheet", "What changes, in 3 lines"}, groups
 
 
 # ---- by keys alone
@@ -267,6 +285,17 @@ def test_each_function_is_reached_by_keys(full):
     keys.reaches("#save")
     keys.presses("#refresh")
     assert keys.at("#refresh")
+    # a sheet that is written: what is wanted, its fields, and the look at it
+    keys.presses("#drafts summary")
+    keys.reaches("#draft", most=1)
+    browser.presses(*[DOWN] * 3)
+    keys.reaches("#fields [name=asset]", most=1)
+    keys.types("51" + ENTER)
+    browser.shows("#looked", "retire.csv: an edit sheet of 1 record")
+    browser.waits_for("the look", lambda browser: keys.at("#send"))
+    keys.presses("#forget")
+    browser.shows("#sheet-said", "Nothing was sent.")
+    keys.is_somewhere()
     assert browser.complaints() == []
 
 

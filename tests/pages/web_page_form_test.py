@@ -171,16 +171,23 @@ def test_of_a_very_long_table_the_paper_says_how_much_is_left(page):
 
 # ---- how it is put together
 
-PAGE_FILE = "crates/lrs_cli_tasks/src/page_file/text.rt"
+MODULES = "crates/lrs_cli_tasks/src/page_file"
 
 
 def embed(folder, *words):
     return subprocess.run([sys.executable, "-B", "tools/embed.py", *words], cwd=folder, capture_output=True, text=True, timeout=PATIENCE)
 
 
+def embedded(folder):
+    """The texts of the two modules that have the page, one behind the other."""
+    texts = [(folder / MODULES / name).read_text() for name in ("front.rt", "back.rt")]
+    return "".join(re.fullmatch(r'.*r##"(.*)"##.*', text, re.S)[1] for text in texts)
+
+
 def test_the_modules_the_page_and_the_text_of_the_program_are_one():
     done = embed(TOP, "--check")
     assert (done.returncode, done.stderr) == (0, "")
+    assert embedded(TOP) == (TOP / "page" / "index.html").read_text()
 
 
 FRAME = '<p title="#">\\ {} \u00e9\n<link rel="stylesheet" href="a.css">\n<link rel="stylesheet" href="b.css">\n<script type="module" src="main.js"></script>\n'
@@ -213,8 +220,8 @@ MISTAKES = [
 
 
 def test_the_parts_are_put_together_or_refused(tmp_path):
-    source, module = tmp_path / "page" / "src", tmp_path / PAGE_FILE
-    for folder in [source, tmp_path / "tools", module.parent]:
+    source, modules = tmp_path / "page" / "src", tmp_path / MODULES
+    for folder in [source, tmp_path / "tools", modules]:
         folder.mkdir(parents=True)
     shutil.copy(TOP / "tools" / "embed.py", tmp_path / "tools")
     for name, text in SOURCES.items():
@@ -222,14 +229,14 @@ def test_the_parts_are_put_together_or_refused(tmp_path):
     assert embed(tmp_path, "--check").returncode == 1
     assert embed(tmp_path).returncode == 0 and embed(tmp_path, "--check").returncode == 0
     assert (tmp_path / "page" / "index.html").read_text() == TOGETHER
-    assert module.read_text().endswith(f'= r##"{TOGETHER}"##;\n')
+    assert embedded(tmp_path) == TOGETHER
     for name, text, told in MISTAKES:
         (source / name).write_text(text)
         ended = embed(tmp_path)
         assert ended.returncode == 1 and told in ended.stderr, (told, ended)
         (source / name).write_text(SOURCES[name])
-    for path in [tmp_path / "page" / "index.html", module]:
-        path.write_text(path.read_text().replace("red", "blue"))
+    for path in [tmp_path / "page" / "index.html", modules / "front.rt", modules / "back.rt"]:
+        path.write_text(path.read_text().replace("e", "E", 1))
         assert embed(tmp_path, "--check").returncode == 1
         assert embed(tmp_path).returncode == 0
 

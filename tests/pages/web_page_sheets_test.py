@@ -73,6 +73,76 @@ def test_what_a_sheet_would_change_is_shown_before_it_is_sent(page):
     assert browser.text("#looked .changes") == "It changes nothing of the network or its assets."
 
 
+# One record of it is refused.
+REFUSED = sheet_of("q1,class,WIDTH,exclusive", "q2,close,NONE")
+NOTHING = "Error: Nothing was done. Not all of the sheet would be done: mend what is refused, or send it without all or nothing."
+
+
+def sends_wholly(page, *paths):
+    """Sends sheets all or nothing."""
+    page.looks_at(*paths)
+    page.browser.runs("document.getElementById('all-or-none').checked = true")
+    page.browser.clicks("#send")
+
+
+def test_a_sheet_is_done_wholly_or_not_at_all(page):
+    browser = page.browser
+    page.opens()
+    sends_wholly(page, page.file("roads.csv", REFUSED))
+    browser.shows("#sheet-said", NOTHING)
+    assert browser.text("#counts") == "Nothing was done. It would have been: 1 done, 0 again, 1 refused."
+    assert page.rows("#lines") == [["q1", "would be done", "edit 167"], ["q2", "refused", "NoRoute: there is no route of this name"]]
+    assert browser.text("#advice li").startswith("line 3") and browser.runs("return document.querySelectorAll('#lines tr.done').length") == 0
+    browser.shows("#health", "166 edits.")
+    page.pictured("nothing_done")
+    # what was chosen stays so, and the sheet is mended
+    page.sends(page.file("roads.csv", sheet_of("q1,class,WIDTH,exclusive", "q2,class,LANES,exclusive")))
+    browser.shows("#sheet-said", "roads.csv was sent to its end, in one part. Nothing of it was refused.")
+    browser.shows("#counts", "2 done, 0 again, 0 refused.")
+    assert browser.text("#advice") == "" and browser.text("#health").startswith("168 edits.")
+    assert [name.partition("?")[2] for name in sent(page)] == ["all=1", "all=1"]
+    # without it the rest is done
+    page.looks_at(page.file("roads.csv", sheet_of("q3,class,KERB,stretch", "q4,close,NONE")))
+    browser.clicks("#all-or-none")
+    browser.clicks("#send")
+    browser.shows("#counts", "1 done, 0 again, 1 refused.")
+    assert sent(page)[-1].endswith("/v1/edits") and browser.text("#health").startswith("169 edits.")
+
+
+def test_of_a_survey_that_is_not_done_the_sheets_behind_it_are_not_sent(page):
+    browser = page.browser
+    page.opens()
+    survey = page.file("survey.csv", SURVEY_HEADER + b"w1,30,SIGN,A1,L,abs,1000,,TOWN,0\nw2,30,SIGN,A1,L,abs,2000,,TOWN,0\n")
+    sends_wholly(page, survey, page.file("one.csv", sheet_of("q1,class,WIDTH,exclusive")), page.file("two.csv", sheet_of("q2,class,LANES,exclusive")))
+    browser.shows("#sheet-said", f"{NOTHING} Not sent: one.csv, two.csv.")
+    assert page.rows("#lines")[1][:2] == ["w2", "refused"] and len(sent(page)) == 1
+    browser.shows("#health", "166 edits.")
+
+
+def test_a_sheet_that_is_broken_is_not_done_where_all_of_it_was_wanted(page):
+    browser = page.browser
+    page.opens()
+    sends_wholly(page, page.file("roads.csv", sheet_of("q1,class,WIDTH,exclusive") + b"of one field\n"))
+    browser.shows("#sheet-said", "Error: Nothing was done. The sheet could not be read to its end. The last line says why.")
+    browser.shows("#health", "166 edits.")
+
+
+def test_a_whole_sheet_whose_reply_is_lost_is_sent_again_as_a_whole(page):
+    browser = page.browser
+    page.opens()
+    page.looks_at(page.file("roads.csv", sheet_of("q1,class,WIDTH,exclusive")))
+    db = page.folder.parent / "roads.db"
+    page.server.stop()
+    browser.clicks("#all-or-none")
+    browser.clicks("#send")
+    browser.shows("#sheet-said", "Error: The program does not run. (Status 502.) It is not known how far the sheet was done. Go on with it")
+    with started(db=db, port=page.server.port):
+        browser.clicks("#resume")
+        browser.shows("#sheet-said", "Nothing of it was refused.")
+        assert page.rows("#lines") == [["q1", "done", "edit 167"]]
+        assert [name.partition("?")[2] for name in sent(page)] == ["all=1", "all=1"]
+
+
 def test_two_sheets_are_looked_at_and_sent_one_after_the_other(page):
     browser = page.browser
     page.opens()
@@ -101,7 +171,8 @@ def test_a_long_sheet_goes_in_parts(page):
     rows = [b'"w%d",link,%d,5,,,,,,,\r\n' % (n, 100 + n) for n in range(50_000)]
     page.looks_at(page.file("long.csv", b"\xef\xbb\xbf" + HEADER + b"".join(rows)))
     browser.shows("#looked", "long.csv: an edit sheet of 50000 records, ")
-    browser.shows("#looked", " bytes, in 2 parts. It begins:")
+    browser.shows("#looked", " bytes, in 2 parts, so not all or nothing. It begins:")
+    assert browser.runs("return document.querySelector('#all-or-none').disabled")
     browser.clicks("#send")
     browser.shows("#sheet-said", "long.csv was sent to its end, in 2 parts.")
     assert browser.text("#counts").startswith("50000 done, 0 again, 0 refused. 49500 lines more are not shown here")

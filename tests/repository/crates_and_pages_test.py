@@ -164,10 +164,8 @@ def test_each_wrong_body_still_stands_in_its_crate():
 
 
 def test_no_file_is_too_long():
-    # the page, as tools/embed.py writes it, is no code that anybody reads there
-    page = CRATES / "lrs_cli_tasks" / "src" / "page_file" / "text.rt"
     for path in [*CRATES.rglob("*.rt"), *CRATES.rglob("*.antt")]:
-        if "out" not in path.relative_to(CRATES).parts and path != page:
+        if "out" not in path.relative_to(CRATES).parts:
             assert len(path.read_text().splitlines()) <= 600, path
 
 

@@ -16,11 +16,6 @@ pub acted_on : {K A E : Type 0} (holds : K → Result Image Table → Type 0) (f
 acted_on holds found image_of desk (Ok a) acts same = (desk, acts, same)
 acted_on holds found image_of desk (Err e) acts same = tt
 
--- what is said of a value says more of it
-pub weaker : {A E : Type 0} (P Q : A → Type 0) (given : Result A E) → ((a : A) → P a → Q a) → IfOk given P → IfOk given Q
-weaker P Q (Ok a) gives is = gives a is
-weaker P Q (Err e) gives is = tt
-
 -- the difference of two was told, or not all of it was written
 pub told : {W : Type 0} (contents : W → Option Text) (IsOne IsOther : Image → Type 0) (expected old : Option Text) (before after : Image) (result : Result (W × Ending) ProgramFault) → IsOne before → IsOther after → IsExpected expected (identity_at before) → IfOk result (λ done. EndsDifference before after old (contents done.0) done.1) → IfErr result (λ e. e ≡ Write) → EndsCompared IsOne IsOther expected old (printed contents result)
 told contents IsOne IsOther expected old before after (Ok done) one other is ended failed = inl (before, after, one, other, is, contents done.0, done.1, refl, ended)

@@ -1,2 +1,3 @@
 pub mod Services
 pub mod Jobs
+pub mod SourceDesks

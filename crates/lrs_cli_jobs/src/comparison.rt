@@ -1,9 +1,10 @@
-//! Two inventories that are compared, as copies in memory.
+//! Two inventories that are compared, at the desks that have them.
 
 ghost use Rattle.std.specs.Prelude.{◌≡◌, ◌⊎◌, IfErr, IfOk};
 ghost use Rattle.lrs_machine.specs.Image.{nothing};
-ghost use Rattle.lrs_cli_sheets.specs.Differences.{HasNoInventory};
+ghost use Rattle.lrs_cli_sheets.specs.Differences.{HasNoInventory, IsMadeByLog};
 ghost use Rattle.lrs_cli_jobs.specs.Jobs.{EndsCompared, IsActedOn, IsExpected, IsSourceOf, identity_at, printed};
+ghost use Rattle.lrs_cli_jobs.specs.SourceDesks.{image_at};
 
 use crate::desk::{identity_at, is_expected};
 use crate::target::{Target, look_at_target, open_target, settled_site};
@@ -16,6 +17,14 @@ use std::alloc::{AllocError, Global};
 use std::io::Write;
 use std::rt::HostRuntime;
 
+// The desk that has the inventory of a source.
+enum SourceDesk<K: Keeper> {
+    // In memory.
+    Plain(Desk<Plain>),
+    // Over a file that was looked at, which nobody has: others may open it meanwhile, and this run once more.
+    Seen(Desk<K>),
+}
+
 // How the program ends where an inventory is not had, by this fault.
 fn stopped(fault: ProgramFault) -> Ending
     ensures { HasNoInventory result }
@@ -24,33 +33,23 @@ fn stopped(fault: ProgramFault) -> Ending
 }
 
 // A copy of the inventory of a desk.
-fn copy_of<K: Keeper>(alloc: Global, desk: &Desk<K>) -> Result<Desk<Plain>, Ending>
-    ensures image { IfOk result (λ copy. copy.image ≡ desk.now.image) }
+fn copy_of<K: Keeper, J: Keeper>(alloc: Global, desk: &Desk<K>) -> Result<SourceDesk<J>, Ending>
+    ensures image { IfOk result (λ copy. image_at copy ≡ desk.now.image) }
     ensures fault { IfErr result HasNoInventory }
 {
     match copy_desk(alloc, desk) {
-        Ok(copy) => Ok(copy),
+        Ok(copy) => Ok(SourceDesk::Plain(copy)),
         Err(AllocError) => Err(stopped(ProgramFault::Memory)),
     }
 }
 
-// The same, of a desk that only looks, which is then dropped with what it keeps.
-fn copy_of_seen<F: Files>(alloc: Global, desk: Desk<F::Seen>) -> Result<Desk<Plain>, Ending>
-    ensures image { IfOk result (λ copy. copy.image ≡ desk.image) }
-    ensures fault { IfErr result HasNoInventory }
-{
-    let copy = copy_of(alloc, &desk);
-    F::discard_seen(desk.into_keeper());
-    copy
-}
-
-// The same, of a desk whose keeper is then closed.
+// The same, of a desk whose keeper is then closed: it has its file alone, which may be that of the other source too.
 fn copy_and_close<F: Files>(
     alloc: Global,
     files: &mut F,
     desk: Desk<F::Kept>,
-) -> Result<Desk<Plain>, Ending>
-    ensures image { IfOk result (λ copy. copy.image ≡ desk.image) }
+) -> Result<SourceDesk<F::Seen>, Ending>
+    ensures image { IfOk result (λ copy. image_at copy ≡ desk.image) }
     ensures fault { IfErr result HasNoInventory }
 {
     let copy = copy_of(alloc, &desk);
@@ -64,8 +63,9 @@ fn copied_with_log<F: Files>(
     files: &mut F,
     target: Target<'_>,
     shown: ProgressDisplay,
-) -> Result<Desk<Plain>, Ending>
-    ensures source { IfOk result (λ copy. IsActedOn F.Kept.may_hold F.has_opened copy.image) }
+) -> Result<SourceDesk<F::Seen>, Ending>
+    ensures source { IfOk result (λ copy.
+        IsActedOn F.Kept.may_hold F.has_opened (image_at copy)) }
     ensures fault { IfErr result HasNoInventory }
 {
     match open_target(rt, files, target, shown) {
@@ -74,34 +74,34 @@ fn copied_with_log<F: Files>(
     }
 }
 
-// A copy of the inventory of a file, which is looked at, or opened where that does not take it.
-fn copied_in_file<F: Files>(
+// The inventory of a file, which is looked at, or copied where that does not take it.
+fn desk_in_file<F: Files>(
     rt: &HostRuntime,
     files: &mut F,
     target: Target<'_>,
     shown: ProgressDisplay,
-) -> Result<Desk<Plain>, Ending>
-    ensures source { IfOk result (λ copy. IsActedOn F.Seen.may_hold F.has_read copy.image
-        ⊎ IsActedOn F.Kept.may_hold F.has_opened copy.image) }
+) -> Result<SourceDesk<F::Seen>, Ending>
+    ensures source { IfOk result (λ desk. IsActedOn F.Seen.may_hold F.has_read (image_at desk)
+        ⊎ IsActedOn F.Kept.may_hold F.has_opened (image_at desk)) }
     ensures fault { IfErr result HasNoInventory }
 {
     match look_at_target(rt, files, target, shown) {
-        Ok(Some(desk)) => copy_of_seen::<F>(rt.alloc(), desk),
+        Ok(Some(desk)) => Ok(SourceDesk::Seen(desk)),
         Ok(None) => copied_with_log(rt, files, target, shown),
         Err(fault) => Err(stopped(ProgramFault::from(fault))),
     }
 }
 
-// A copy of the inventory of a path, by what stands there. None is made.
-fn copied_at_path<F: Files>(
+// The inventory of a path, by what stands there. None is made.
+fn desk_at_path<F: Files>(
     rt: &HostRuntime,
     files: &mut F,
     path: &str,
     wait: u64,
     shown: ProgressDisplay,
-) -> Result<Desk<Plain>, Ending>
-    ensures source { IfOk result (λ copy. IsActedOn F.Seen.may_hold F.has_read copy.image
-        ⊎ IsActedOn F.Kept.may_hold F.has_opened copy.image) }
+) -> Result<SourceDesk<F::Seen>, Ending>
+    ensures source { IfOk result (λ desk. IsActedOn F.Seen.may_hold F.has_read (image_at desk)
+        ⊎ IsActedOn F.Kept.may_hold F.has_opened (image_at desk)) }
     ensures fault { IfErr result HasNoInventory }
 {
     let target = Target {
@@ -113,37 +113,52 @@ fn copied_at_path<F: Files>(
         expected: None,
     };
     match settled_site(rt, target) {
-        Site::Inventory => copied_in_file(rt, files, target, shown),
+        Site::Inventory => desk_in_file(rt, files, target, shown),
         _ => Err(stopped(ProgramFault::Open)),
     }
 }
 
 // A fresh inventory in memory.
-fn fresh(alloc: Global) -> Result<Desk<Plain>, Ending>
-    ensures fresh { IfOk result (λ desk. desk.image ≡ nothing) }
+fn fresh<K: Keeper>(alloc: Global) -> Result<SourceDesk<K>, Ending>
+    ensures fresh { IfOk result (λ desk. image_at desk ≡ nothing) }
     ensures fault { IfErr result HasNoInventory }
 {
     match open_in_memory(alloc) {
-        Ok(desk) => Ok(desk),
+        Ok(desk) => Ok(SourceDesk::Plain(desk)),
         Err(fault) => Err(stopped(fault)),
     }
 }
 
-// A copy of the inventory of a source, in memory: of a file, an empty one, or what a log makes.
-fn copied<F: Files, S: Sheets>(
+// What the log of a name makes, in memory.
+fn desk_by_log<K: Keeper, S: Sheets>(
+    world: &World<'_, HostRuntime, S>,
+    name: &str,
+) -> Result<SourceDesk<K>, Ending>
+    ensures made { IfOk result (λ desk.
+        IsMadeByLog (S.text_of world.now.sheets.now name.now) (image_at desk)) }
+    ensures fault { IfErr result HasNoInventory }
+{
+    match made_by_log(world, name) {
+        Ok(desk) => Ok(SourceDesk::Plain(desk)),
+        Err(ending) => Err(ending),
+    }
+}
+
+// The inventory of a source: of a file, an empty one, or what a log makes.
+fn desk_of<F: Files, S: Sheets>(
     world: &World<'_, HostRuntime, S>,
     files: &mut F,
     source: Source<'_>,
     wait: u64,
-) -> Result<Desk<Plain>, Ending>
-    ensures source { IfOk result (λ copy. IsSourceOf F.Kept.may_hold F.Seen.may_hold
-        F.has_opened F.has_read (S.text_of world.now.sheets.now) source.entry copy.image) }
+) -> Result<SourceDesk<F::Seen>, Ending>
+    ensures source { IfOk result (λ desk. IsSourceOf F.Kept.may_hold F.Seen.may_hold
+        F.has_opened F.has_read (S.text_of world.now.sheets.now) source.entry (image_at desk)) }
     ensures fault { IfErr result HasNoInventory }
 {
     match source {
-        Source::Log(name) => made_by_log(world, name),
+        Source::Log(name) => desk_by_log(world, name),
         Source::Inventory(db) if is_in_memory(db) => fresh(world.rt.alloc()),
-        Source::Inventory(db) => copied_at_path(world.rt, files, db, wait, world.shown),
+        Source::Inventory(db) => desk_at_path(world.rt, files, db, wait, world.shown),
     }
 }
 
@@ -162,10 +177,15 @@ fn compare_with<G: Files, S: Sheets, W: Write + Drop, K: Keeper>(
         (S.text_of world.now.sheets.now) after.entry)
         options.expected (W.contents to) (printed W.contents result) }
 {
-    match copied(world, other, after, options.wait) {
-        Ok(copy) => {
-            let given = do_difference(world.rt.alloc(), before, &copy, to);
-            copy.into_keeper().discard();
+    match desk_of(world, other, after, options.wait) {
+        Ok(SourceDesk::Plain(plain)) => {
+            let given = do_difference(world.rt.alloc(), before, &plain, to);
+            plain.into_keeper().discard();
+            given
+        }
+        Ok(SourceDesk::Seen(seen)) => {
+            let given = do_difference(world.rt.alloc(), before, &seen, to);
+            G::discard_seen(seen.into_keeper());
             given
         }
         Err(ending) => Ok((to, ending)),
@@ -215,10 +235,15 @@ pub(crate) fn do_comparison<F: Files, G: Files, S: Sheets, W: Write + Drop>(
         (S.text_of world.now.sheets.now) after.entry)
         options.expected (W.contents to) (printed W.contents result) }
 {
-    match copied(world, files, before, options.wait) {
-        Ok(copy) => {
-            let given = compare_expected(world, &copy, other, after, options, to);
-            copy.into_keeper().discard();
+    match desk_of(world, files, before, options.wait) {
+        Ok(SourceDesk::Plain(plain)) => {
+            let given = compare_expected(world, &plain, other, after, options, to);
+            plain.into_keeper().discard();
+            given
+        }
+        Ok(SourceDesk::Seen(seen)) => {
+            let given = compare_expected(world, &seen, other, after, options, to);
+            F::discard_seen(seen.into_keeper());
             given
         }
         Err(ending) => Ok((to, ending)),

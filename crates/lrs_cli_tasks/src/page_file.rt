@@ -1,13 +1,18 @@
 //! The web page of an inventory: one file, which stands anywhere and asks a served inventory.
 
-mod text;
+mod back;
+mod front;
 
 ghost use Rattle.std.specs.Prelude.{OnOk};
 ghost use Rattle.std.specs.Io.KnownBytes.{Appends};
 
+use back::page_back;
+use front::page_front;
 use std::io;
 use std::io::Write;
-pub use text::PAGE;
+
+/// The page: its front, and behind that its back.
+pub static PAGE: &str = page_front!(page_back);
 
 /// Writes the page, byte for byte.
 ///

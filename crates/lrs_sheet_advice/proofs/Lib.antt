@@ -1,4 +1,5 @@
 pub mod WrittenLines
+pub mod RefusedLines
 pub mod SlotRows
 pub mod ListWords
 pub mod TidyForms

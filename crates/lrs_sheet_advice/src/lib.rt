@@ -17,6 +17,7 @@ mod part;
 mod place;
 mod records;
 mod refused;
+mod refused_lines;
 mod reply;
 mod sentence;
 mod slot;
@@ -27,6 +28,7 @@ mod whole;
 
 pub use advice::write_advice;
 pub use fault::AdviceFault;
+pub use refused_lines::refusals;
 pub use summary::write_summary;
 pub use tidy_sheet::{TidyFault, tidy};
 pub use whole::{SheetFlaw, write_fault_advice};

@@ -15,6 +15,8 @@ use Rattle.lrs_sheet.specs.Repetition.{IsRepeated}
 use Rattle.lrs_sheet.specs.Runs.{IsResumedRun, IsWholeRun}
 use Rattle.lrs_sheet.specs.Sheets.{records_together}
 use Rattle.lrs_sheet.specs.Trials.{IsTried}
+use Rattle.lrs_sheet_advice.specs.AdviceLines.{lines_text}
+use Rattle.lrs_sheet_advice.specs.Refusals.{refusals}
 use Rattle.lrs_web_requests.specs.declared.request.Course.{Course}
 use Rattle.lrs_web_requests.specs.declared.request.Course.TheVariants as course
 use Rattle.lrs_web_requests.specs.declared.response.ContentType.{ContentType}
@@ -74,10 +76,14 @@ abbrev pub IsAccepted : Result Tally SheetFault → Type 0
 IsAccepted (Ok tally) = tally.refused ≡ 0
 IsAccepted (Err e) = ⊥
 
--- the reply to a sheet of which the trial refused something: the lines of the trial, and behind them the fault if it ended in one
+-- the reply to a sheet that is refused as a whole, with these lines: a conflict, or the fault of the sheet behind them
+abbrev pub refused_answer : Result Tally SheetFault → Text → Answer
+refused_answer (Ok tally) lines = lines_answer 409 lines
+refused_answer (Err e) lines = answer_after {X = Tally} (Err e) lines
+
+-- the reply to a sheet of which the trial refused something: of its lines those that refuse a record, so that none says what is not done
 abbrev pub refusal_after : Result Tally SheetFault → Text → Answer
-refusal_after (Ok tally) replies = lines_answer 409 replies
-refusal_after (Err e) replies = answer_after {X = Tally} (Err e) replies
+refusal_after outcome replies = refused_answer outcome (lines_text (refusals replies))
 
 -- Where the trial refused nothing, the sheet is done; where it refused something, nothing is done.
 abbrev pub DoesTried : {K : Type 0} → (K → Result Image Table → Type 0) → Sheet → Text → Text → Result Tally SheetFault → DeskView K → Answer → DeskView K → Type 0

@@ -15,6 +15,7 @@ ghost use Rattle.lrs_web.specs.Sheets.{
   fault_answer,
   lines_answer,
   refusal_after,
+  refused_answer,
 };
 
 use crate::recipient::{AnyClient, Client, Recipient, ReplyLines, limited};
@@ -23,6 +24,7 @@ use lrs_sheet::{
     Desk, Keeper, RECORDS_TOGETHER, ResumeFault, Sheet, SheetFault, Tally, Trial, copy_desk,
     discard_copy, resume_sheet, run_sheet, try_sheet,
 };
+use lrs_sheet_advice::refusals;
 use lrs_web_requests::{Content, ContentType, Course, Response};
 use std::alloc::{AllocError, Global};
 
@@ -130,24 +132,41 @@ fn is_accepted(outcome: Result<Tally, SheetFault>) -> bool
     matches!(outcome, Ok(tally) if tally.refused == 0)
 }
 
-/// The reply to a sheet of which the trial refused something, or an empty 503 where memory runs out for it.
-fn refusal(outcome: Result<Tally, SheetFault>, replies: Vec<u8>) -> Response
-    ensures { (answer_of result ≡ refusal_after outcome replies.items)
+/// The reply to a sheet that is refused as a whole, with these lines, or an empty 503 where memory runs out for it.
+fn refused_reply(outcome: Result<Tally, SheetFault>, lines: Vec<u8>) -> Response
+    ensures { (answer_of result ≡ refused_answer outcome lines.items)
         ⊎ (answer_of result ≡ empty_answer 503) }
 {
     match outcome {
-        Ok(_) => lines_reply(StatusCode::CONFLICT, replies),
-        Err(fault) => reply_after::<Tally>(Err(fault), replies),
+        Ok(_) => lines_reply(StatusCode::CONFLICT, lines),
+        Err(fault) => reply_after::<Tally>(Err(fault), lines),
+    }
+}
+
+/// The reply to a sheet of which the trial refused something: those lines of its replies that refuse. It is an empty 503
+/// where memory runs out.
+fn refusal(alloc: Global, outcome: Result<Tally, SheetFault>, replies: &[u8]) -> Response
+    ensures { (answer_of result ≡ refusal_after outcome replies.now)
+        ⊎ (answer_of result ≡ empty_answer 503) }
+{
+    match refusals(alloc, replies) {
+        Ok(lines) => refused_reply(outcome, lines),
+        Err(_) => Response::empty(StatusCode::SERVICE_UNAVAILABLE),
     }
 }
 
 /// The same, or an empty 503 where it would have too many bytes.
 #[tactic(auto, using(crate::proofs::AllOrNone::limited_so))]
-fn limited_refusal(most: usize, outcome: Result<Tally, SheetFault>, replies: Vec<u8>) -> Response
-    ensures { (answer_of result ≡ refusal_after outcome replies.items)
+fn limited_refusal(
+    alloc: Global,
+    most: usize,
+    outcome: Result<Tally, SheetFault>,
+    replies: &[u8],
+) -> Response
+    ensures { (answer_of result ≡ refusal_after outcome replies.now)
         ⊎ (answer_of result ≡ empty_answer 503) }
 {
-    limited(refusal(outcome, replies), most)
+    limited(refusal(alloc, outcome, replies), most)
 }
 
 /// Does a sheet of which its trial refused nothing, unless its client is gone or the reply would have too many bytes. It
@@ -190,7 +209,7 @@ fn do_tried<C: Client, K: Keeper>(
     if is_accepted(trial.outcome) {
         do_accepted(alloc, to, sheet, bytes, trial.replies.len(), desk)
     } else {
-        limited_refusal(to.most, trial.outcome, trial.replies)
+        limited_refusal(alloc, to.most, trial.outcome, trial.replies.as_slice())
     }
 }
 

@@ -1,13 +1,14 @@
-//! The web page, as page/index.html has it: tools/embed.py writes this file.
+//! The front of the web page, page/index.html: tools/embed.py writes this file.
 
-/// The page.
-pub static PAGE: &str = r##"<!doctype html>
+macro_rules! page_front {
+    ($back:ident) => {
+        $back!(r##"<!doctype html>
 <html lang="en">
 <head>
 <meta charset="utf-8">
 <meta name="viewport" content="width=device-width, initial-scale=1">
 <meta name="color-scheme" content="light dark">
-<meta http-equiv="Content-Security-Policy" content="default-src 'none'; style-src 'unsafe-inline'; script-src 'sha256-2IJklq83m1mZpLBCv1Qxq18WrLnERQZ/2YYQqwNslUM='; img-src data:; connect-src 'self'; form-action 'none'; base-uri 'none'">
+<meta http-equiv="Content-Security-Policy" content="default-src 'none'; style-src 'unsafe-inline'; script-src 'sha256-zZU6gET6UIsbADVnQQcyAiUqLy4MLrYps4zQJIqfZcY='; img-src data:; connect-src 'self'; form-action 'none'; base-uri 'none'">
 <title>Road inventory</title>
 <link rel="icon" href="data:,">
 <style>
@@ -19,7 +20,7 @@ pub static PAGE: &str = r##"<!doctype html>
 header{display:flex;flex-wrap:wrap;gap:.4rem 1.5rem;align-items:end;padding:.6rem 1rem;background:var(--head);color:#fff;}header p{margin:0 0 0 auto;}header .bad{color:var(--bad);}h1{margin:0 auto 0 0;font-size:1.2rem;}
 h1 a{color:inherit;text-decoration:none;}h2{margin:0 0 .5rem;font-size:1.05rem;}h3{margin:.6rem 0 .2rem;font-size:1rem;}p{margin:0 0 .5rem;}a{color:var(--link);}main{display:grid;gap:.8rem;padding:.8rem;grid-template-columns:minmax(0,1fr);}
 [tabindex="-1"]:focus{outline:none;}#network,#route,#edit,#asset{display:grid;gap:.8rem;grid-template-columns:minmax(0,1fr);}section,details{padding:.8rem;background:var(--paper);border:1px solid var(--line);border-radius:4px;min-width:0;}
-summary{cursor:pointer;font-weight:bold;min-height:1.5rem;}form,.buttons{display:flex;flex-wrap:wrap;gap:.5rem;align-items:end;margin:0 0 .5rem;}label{display:inline-flex;flex-direction:column;font-size:.85rem;}
+summary{cursor:pointer;font-weight:bold;min-height:1.5rem;}form,.buttons{display:flex;flex-wrap:wrap;gap:.5rem;align-items:end;margin:0 0 .5rem;}form .buttons{margin:0;}label{display:inline-flex;flex-direction:column;font-size:.85rem;}
 input,select,button{font:inherit;padding:.25rem .5rem;border:1px solid var(--field);border-radius:3px;background:var(--paper);color:var(--text);max-width:100%;min-height:1.9rem;}button{background:var(--press);cursor:pointer;}
 button:hover{background:var(--over);}:focus-visible{outline:3px solid var(--focus);outline-offset:1px;}header :focus-visible,#skip{outline-color:var(--on-head);}#skip{position:absolute;left:-100rem;}
 #skip:focus{left:.5rem;top:.5rem;z-index:2;}ul{list-style:none;margin:0;padding:0;}#results{max-height:15rem;overflow-y:auto;margin-bottom:.5rem;}li{padding:.1rem 0;}.note{font-size:.9rem;overflow-wrap:anywhere;}.note:empty{display:none;}
@@ -35,7 +36,7 @@ button.plain{border:0;padding:0;background:none;font-weight:bold;min-height:1.5r
 #diagram [data-cut]{stroke:var(--ink);stroke-width:14;stroke-opacity:1;}#diagram .t path{stroke:var(--point);}#diagram .p path{stroke:var(--piece-0);}#diagram .p path:nth-of-type(even){stroke:var(--piece-1);}
 #diagram [data-mark] rect{fill:none;stroke:var(--mark);}#diagram [data-mark] text{fill:var(--mark);stroke:var(--sheet);}#diagram.moving{overflow:hidden;}
 #diagram svg{display:block;width:100%;min-width:900px;height:auto;cursor:crosshair;user-select:none;}.moving svg{cursor:grabbing;}#under{min-height:1.4em;font-size:.9rem;}
-fieldset{margin:.5rem 0;padding:.3rem .6rem .5rem;border:1px solid var(--line);max-height:14rem;overflow-y:auto;}fieldset label{flex-direction:row;gap:.3rem;align-items:center;font-size:1rem;}
+fieldset{margin:.5rem 0;padding:.3rem .6rem .5rem;border:1px solid var(--line);max-height:14rem;overflow-y:auto;}fieldset label,label.row{flex-direction:row;gap:.3rem;align-items:center;font-size:1rem;}
 input[type=checkbox]{min-height:0;width:1.5rem;height:1.5rem;}.class{display:flex;flex-wrap:wrap;gap:.2rem 1rem;align-items:center;}.class label{min-width:8rem;}.values{display:flex;flex-wrap:wrap;gap:.1rem 1rem;font-size:.9rem;}
 .swatch{display:inline-block;width:1.6rem;height:.9rem;margin-right:.3rem;vertical-align:middle;border:1px solid var(--field);}[aria-current=true]{font-weight:bold;}
 pre{overflow:auto;max-height:10rem;padding:.4rem;border:1px solid var(--line);}tr.done td.word{background:var(--good-ground);color:var(--good);border-left:6px solid currentColor;}
@@ -143,15 +144,29 @@ fieldset{max-height:none;overflow:visible;border:0;padding:0;}.swatch,.track svg
 <div id="past" class="long" role="region" aria-label="Parts. The arrow keys go from row to row."></div>
 </section>
 </div>
+<details id="drafts" aria-label="Write a sheet for me"><summary>Write a sheet for me</summary>
+<p>Say what is wanted. The program writes the sheet that does it, tries it, and does nothing: you send the sheet below.</p>
+<form id="drafting" autocomplete="off"><label>What is wanted <select id="draft"><option value="split">divide a route</option><option value="bypass">lead a route over new ground</option>
+<option value="merge">join routes</option><option value="retire">take an asset away</option><option value="replace">replace an asset</option>
+<option value="move">move an asset</option><option value="undo">undo the last edits</option></select></label>
+<div id="fields" class="buttons" role="group" aria-label="What the sheet is for"></div>
+<label>Keys begin with, if not with DRAFT- <input name="key" class="short"></label>
+<button>Write the sheet</button></form>
+<p id="draft-said" class="note" role="status"></p>
+<p><a id="drafted" hidden>Save the sheet</a></p>
+<p class="note">A place is a measure (abs:3000), millimetres from a referent (rel:KM2+500), a proportion (int:1/3), or millimetres from the start (3000). Pieces of links have a space between two: 2:0:2500000:+ is link 2 from 0 to 2500000 mm, and with - at its end against the link.</p>
+</details>
 <details id="sheets" aria-label="Send a sheet"><summary>Send a sheet</summary>
 <div id="drop"><p>Drop an edit sheet or a survey on this page. You see what it has and what it would change before it is sent.</p>
 <label>Or choose a file <input id="file" type="file" accept=".csv,text/csv,text/plain" multiple></label></div>
 <div id="preview" hidden><div id="looked"></div>
+<p><label class="row"><input id="all-or-none" type="checkbox"> All or nothing: if a record is refused, nothing is done</label></p>
 <p><button id="send" type="button">Send</button> <button id="forget" type="button">Do not send</button></p></div>
 <p id="sheet-said" class="note" role="status"></p>
 <div id="replies" hidden>
 <p id="counts" class="note" role="status"></p>
 <p><button id="resume" type="button" hidden>Go on with the sheet</button> <a id="save" download="replies.csv" hidden>Save all reply lines</a></p>
+<div id="advice"></div>
 <div id="lines" class="table" tabindex="0" role="region" aria-label="Reply lines"></div></div>
 </details>
 </main>
@@ -178,14 +193,15 @@ NothingLeft: "nothing would be left of the route", OffRoute: "the position is no
 RefKnown: "there is a referent of this name", RepeatedKey: "two records have one key, and nothing was done",RouteKnown: "there is a route of this name", SameRoute: "the two routes are one", SideB: "a single side is wanted",
 Taken: "ground of piece % (the first is 0) is on a route, or twice on this one", TooFine: "the position is too fine: its denominator is too large",
 TooLong: "the route would be too long", TooMany: "the inventory has as many % as it can have", WrongKind: "the class is of another kind",};const STATUSES = {
-400: "The request could not be read.", 401: "You are not logged in.", 403: "You may not do this.",404: "There is nothing at this path: perhaps the program is older than this page.",
+400: "The request could not be read.", 401: "You are not logged in.", 403: "You may not do this.",404: "There is nothing at this path: perhaps the program is older than this page.",409: "It cannot be done.",
 413: "The sheet is too long, or has a part that cannot be cut. Nothing of this part was done.",415: "The web server takes no sheet of this type.", 422: "The sheet could not be read to its end.", 502: "The program does not run.",
 503: "The program has too little memory, or could not write to its disk. If this comes again and again, the disk must be mended and the program started again.",504: "The program took too long to reply.",};
 const LOST = "No reply came: the connection broke, or the web server does not run.";const GO_ON = " It is not known how far the sheet was done. Go on with it once the program runs: what was done is passed over, and nothing is done twice.";
 function sentence(cause) {const [name, argument] = cause.split(":"), known = CAUSES[name];return known ? `${cause}: ${known.replace("%", () => argument)}` : cause;}
-function causeOf(text) {try {return JSON.parse(text).error;} catch {return undefined;}
+function faultOf(text) {try {const { error, why } = JSON.parse(text);return { error, why };} catch {return {};}
 }
-function reason(status, text) {const cause = causeOf(text);return cause ? `${sentence(cause)}.` : `${STATUSES[status] || "The request failed."} (Status ${status}.)`;}
+const causeOf = text => faultOf(text).error;function reason(status, text) {const { error, why } = faultOf(text);if (why) return `${why[0].toUpperCase()}${why.slice(1)}${/[.!?]$/.test(why) ? "" : "."}`;
+return error ? `${sentence(error)}.` : `${STATUSES[status] || "The request failed."} (Status ${status}.)`;}
 const MOST_KEPT = 100000000;const kept = new Map(), lengths = new WeakMap();let edits;const query = pairs => "?" + new URLSearchParams(pairs);async function send(path, settings) {try {
 const reply = await fetch(path, { cache: "no-store", ...settings });return { status: reply.status, text: await reply.text() };} catch {throw new Error(LOST);}
 }
@@ -344,267 +360,8 @@ function shapesOf(run, isMany) {const isPoints = run[0]?.kind === "point", joine
 const looks = run.map(({ class: name, value, side }) => (isPoints ? `data-side='${side}'` : `class='${shadeOf(name, value)}'`));
 if (!isMany) return run.map(({ d, asset, value }, at) => `<path ${looks[at]} d='${d}'><title>${asset}: ${value}<\/title><\/path>`).concat(besides);
 run.forEach(({ d }, at) => (joined.get(looks[at]) || joined.set(looks[at], new Set()).get(looks[at])).add(d));return [...joined].map(([look, parts]) => `<path ${look} d='${[...parts].join("")}'/>`).concat(besides);}
-function cutsOf(rows) {const isWide = ({ x, end }) => end - x >= LEAST_PARTED;const cuts = rows.filter((row, at) => at && rows[at - 1].end === row.x && rows[at - 1].value !== row.value && isWide(row) && isWide(rows[at - 1]));
-return cuts.length ? [`<path data-cut='${cuts.length}' d='${cuts.map(({ x }) => `M${x} -65v130`).join("")}'/>`] : [];}
-function countsOf(points) {const counts = new Map(), texts = [];for (const { x } of points) counts.set(x, (counts.get(x) || 0) + 1);let free = 0;for (const [x, count] of counts) {if (count === 1 || x < free) continue;
-texts.push(`<text data-count='${count}' x='${x - 20}' y='-25' text-anchor='end'>${count}\u00d7<\/text>`);free = x + WIDE_COUNT;}
-return texts;}
-function pointNear(tick, x) {const { side } = tick.dataset, { class: name } = tick.closest("g[data-class]").dataset;const points = seen.things.filter(thing => thing.class === name && thing.side === side);
-return points.reduce((best, thing) => (best && Math.abs(best.x - x) <= Math.abs(thing.x - x) ? best : thing), undefined);}
-function drawMarks(marks) {const svg = shownDiagram();if (!svg) return;for (const old of svg.querySelectorAll("[data-mark]")) old.remove();const tall = svg.viewBox.baseVal.height;for (const { from, to, text } of marks) {
-if (to <= seen.from || from >= seen.to) continue;const left = across(Math.max(from, seen.from)), wide = Math.max(across(Math.min(to, seen.to)) - left, 30);const group = drawn("g", { "data-mark": text, "pointer-events": "none" });
-group.append(drawn("rect", { x: left - 20, y: 20, width: wide + 40, height: tall - 40, "stroke-width": 30, "stroke-dasharray": "90 45" }),
-drawn("text", { x: Math.min(left + 40, 9800), y: 170, "font-size": 150, "stroke-width": 40, "paint-order": "stroke" }, text),);svg.append(group);}
+"##)
+    };
 }
-function unitsAt(event) {return new DOMPoint(event.clientX, event.clientY).matrixTransform(shownDiagram().getScreenCTM().inverse()).x;}
-function thingsAt(x, off) {const found = seen.things.filter(thing => !off.has(thing.class) && (thing.kind === "point" ? Math.abs(thing.x - x) <= NEAR : thing.x <= x && x < thing.end));
-const names = found.slice(0, MOST_UNDER).map(({ class: name, side, asset, value }) => `${name} ${side} ${value} (asset ${asset})`);return found.length > names.length ? [...names, `and ${found.length - names.length} more`] : names;}
-const ONE_GESTURE = 1500, LEAST_SPAN = 10;const view = { route: null, address: {}, from: 0, to: 0, asset: [], place: [] };let shows = () => {}, lastGesture = 0;function start(showing) {shows = showing;
-window.onhashchange = () => shows(readAddress(location.hash.slice(1)));return shows(readAddress(location.hash.slice(1)));}
-function showAgain() {view.address = {};return shows(readAddress(location.hash.slice(1)));}
-function go(address, isGesture = false) {const now = Date.now(), target = `#${writeAddress(address)}`;if (isGesture && now - lastGesture < ONE_GESTURE) history.replaceState(null, "", target);
-else if (target !== location.hash) history.pushState(null, "", target);lastGesture = isGesture ? now : 0;return shows(address);}
-function within(from, to, length) {const span = Math.min(Math.max(Math.round(to - from), LEAST_SPAN), length), start = Math.min(Math.max(Math.round(from), 0), length - span);return [start, start + span];}
-function showRange(from, to, isGesture) {const { length } = view.route, [start, end] = within(from, to, length), { route, place, asset } = view.address;
-return go({ route, stretch: end - start === length ? undefined : stretchBetween(view.route, start, end), place, asset }, isGesture);}
-function aroundAsset(route, from, to, asset, length = Infinity) {const around = Math.max(Math.round((to - from) / 4), 5000), start = Math.max(from - around, 0), end = Math.min(to + around, length);
-return { route, stretch: start === 0 && end === length ? undefined : stretchAt(start, end), asset };}
-const MOST_VALUES = 40;const off = new Set();const whenSwitched = [];let classes = [], legendOf;async function loadClasses(route) {
-const [lists, { lengths }] = await Promise.all([known("v1/classes"), known("v1/lengths", [["route", route]])]);if (legendOf === lengths) return;legendOf = lengths;classes = lists.classes.map(entry => entry.class);
-$("classes").replaceChildren(...lists.classes.map(({ class: name, kind }) => classItem(name, kind, lengths.filter(entry => entry.class === name))));hideClasses();}
-function classItem(name, kind, values) {const item = make("div", "", { className: "class" }), label = make("label"), list = make("ul", "", { className: "values" });
-const box = make("input", "", { type: "checkbox", checked: !off.has(name), value: name });box.onchange = () => switchClasses([name], box.checked);label.append(box, name);
-list.append(...values.slice(0, MOST_VALUES).map(entry => valueItem(name, kind, entry)));if (values.length > MOST_VALUES) list.append(make("li", `and ${values.length - MOST_VALUES} more`));item.append(label, list);return item;}
-function valueItem(name, kind, { value, length }) {const item = make("li");if (kind !== "point") item.append(make("span", "", { className: `swatch ${shadeOf(name, value)}` }));
-item.append(`${value}: `, kind === "point" ? counted(length, "place") : `${metres(length)} m`);return item;}
-function switchClasses(names, on) {for (const name of names) on ? off.delete(name) : off.add(name);for (const box of $("classes").querySelectorAll("input")) box.checked = !off.has(box.value);hideClasses();
-for (const listener of whenSwitched) listener();}
-const switchAll = on => switchClasses(classes, on);function hideClasses() {for (const group of $("diagram").querySelectorAll("g[data-class]")) group.style.display = off.has(group.dataset.class) ? "none" : "";if (!view.route) return;
-const on = classes.filter(name => !off.has(name)), chosen = on.length < classes.length ? on.map(name => ["class", name]) : [];$("plain").href = "v1/diagram" + query([["route", view.route.name], ...rangeOf(view), ...chosen]);}
-function rangeOf({ route, from, to }) {return from === 0 && to === route.length ? [] : [["from", from], ["to", to]];}
-const COLUMNS = { class: "Class", value: "Value", side: "Side", from_measure: "From measure", to_measure: "To measure", from: "From, m", to: "To, m", asset: "Asset", offset: "Offset, mm", entry: "Edit" };const HISTORY = "History";
-const SAVED = ["route", "from", "to", "from_measure", "to_measure", "side", "asset", "class", "value", "offset", "entry"];const sorted = { by: "from", down: false }, listed = {};let table, rows = [], chosen = [];const sorterOf = name => {
-const head = make("th", "", { scope: "col" }), button = make("button", COLUMNS[name], { type: "button", className: "plain", value: name });button.onclick = () => sortBy(name);head.append(button);return head;};async function loadRows() {
-const { route, from, to } = view;table ||= new LongTable($("rows"), [...Object.keys(COLUMNS).map(sorterOf), ...headsOf([HISTORY])], assetRow);const all = await rowsOf(view);
-if (view.route !== route || view.from !== from || view.to !== to) return;const name = `${from} ${to}`;if (listed.all === all && listed.name === name) return table.show(chosen);Object.assign(listed, { all, name });
-rows = all.filter(row => row.from < to && row.to > from);listRows();}
-function rowsOf({ route, from, to }) {return known("v1/rows", [["route", route.name]])
-.catch(error => (rangeOf({ route, from, to }).length ? known("v1/rows", [["route", route.name], ["from", from], ["to", to]]) : Promise.reject(error)))
-.then(found => found.rows);}
-function keyOf(row, name) {const key = row[name], [n, d = 1] = name.endsWith("measure") ? key.split("/").map(Number) : [Number(key)];return Number.isNaN(n) ? key : n / d;}
-function compared(a, b) {if (typeof a === typeof b) return a < b ? -1 : Number(a > b);return typeof a === "number" ? -1 : 1;}
-function sortBy(name) {Object.assign(sorted, { down: sorted.by === name && !sorted.down, by: name });listRows();}
-function matches(row, words) {const text = `${row.class} ${row.value} ${row.asset} ${SIDES[row.side]}`.toLowerCase();return words.every(word => text.includes(word));}
-function listRows() {const words = $("row-filter").value.toLowerCase().split(/\s+/).filter(Boolean), sign = sorted.down ? -1 : 1;
-const keyed = rows.filter(row => !off.has(row.class) && matches(row, words)).map(row => [keyOf(row, sorted.by), row]);chosen = keyed.sort(([a, x], [b, y]) => sign * compared(a, b) || x.from - y.from).map(([, row]) => row);
-for (const button of table.head.querySelectorAll("button")) {const way = button.value === sorted.by ? (sorted.down ? "descending" : "ascending") : "none";button.parentNode.setAttribute("aria-sort", way);}
-table.show(chosen);say("rows-said", `${chosen.length} of ${counted(rows.length, "row")} of this stretch.`);}
-function assetRow(row) {const { route, address } = view, link = linkTo(writeAddress(aroundAsset(route.name, row.from, row.to, row.asset, route.length)), row.asset);
-if (address.asset === String(row.asset)) link.setAttribute("aria-current", "true");
-const made = rowOf([row.class, row.value, SIDES[row.side], short(row.from_measure), short(row.to_measure), metres(row.from), metres(row.to), link, row.offset, linkToEdit(row.entry), linkToAsset(row.asset, HISTORY)]);
-for (const at of [3, 4, 5, 6, 7, 9]) made.cells[at].className = "number";return made;}
-function saveRows() {const lines = chosen.map(row => SAVED.map(name => row[`${name}_decimal`] ?? row[name]).join(","));$("csv").download = `${view.route.name}.csv`;offer($("csv"), [[SAVED.join(","), ...lines, ""].join("\n")], "text/csv");}
-whenSwitched.push(() => table && listRows());
-const MOST_REFERENTS = 4;let asks = 0;const markAll = () => drawMarks([...view.asset, ...view.place]);function clearPlace() {asks++;view.place = [];
-leaving(["hits", "ways"], "at-title", () => ($("hits").replaceChildren(), $("ways").replaceChildren()));tellPlace("");}
-function tellPlace(text, isBad = false) {say("at-said", text, isBad);blame($("pos"), isBad, "at-said");}
-async function askPlace(place) {clearPlace();const mine = asks, { route } = view;tellPlace("The position is being asked.");try {const found = await whatLies(route, place);if (mine === asks) showPlace(found, place);} catch (error) {
-if (mine !== asks) return;putPlace(place);tellPlace(error.message, true);}
-}
-function putPlace({ method, pos }) {$("method").value = method;$("pos").value = pos;delete $("pos").dataset.chainage;}
-function showPlace(found, place) {const { route } = view, way = found.dir === "+" ? "along the link" : "against the link", few = found.hits.length ? "" : " No asset lies there.";
-const measure = short(found.positions.find(position => position.method === "abs").pos);tellPlace(`${found.route}: measure ${measure}, chainage ${metres(found.at)} m. Link ${found.link}, mm ${found.mm}; the route runs ${way}.${few}`);
-if (found.hits.length) $("hits").append(tableOf(["Asset", "Class", "Value", "Side", "Offset, mm", "Edit", "Link", "mm"], found.hits.map(hit => hitRow(hit, found))));
-$("ways").append(make("h3", "The same millimetre begins at"), waysOf(found, route));place.method === "chainage" ? fill($("pos"), route, $("method").value, found.at) : putPlace(place);
-view.place = [{ from: found.at, to: found.at + 1, text: "asked" }];markAll();}
-function hitRow(hit, found) {const link = linkTo(writeAddress({ ...view.address, asset: hit.asset }), hit.asset);link.title = "Mark this asset";
-return rowOf([link, hit.class, hit.value, SIDES[hit.side] || hit.side, hit.offset, linkToEdit(hit.entry), found.link, found.mm]);}
-function waysOf({ at, link, mm, positions }, { name }) {const list = make("ul", "", { className: "ways" }), distance = ({ pos }) => Number(/\d+$/.exec(pos)[0]);
-const [measures, referents, others] = ["abs", "rel", "int"].map(method => positions.filter(position => position.method === method));referents.sort((a, b) => distance(a) - distance(b));
-for (const { method, pos } of [...measures, ...referents.slice(0, MOST_REFERENTS), placeAt(at), ...others]) {const item = make("li", `${METHODS[method]}: `), canBeAsked = method !== "abs" || !pos.includes("/");
-item.append(canBeAsked ? linkTo(writeAddress({ route: name, place: { method, pos } }), pos) : `${pos} (${short(pos)})`);list.append(item);}
-list.append(make("li", `on link ${link}: ${mm} mm`));return list;}
-function askTyped() {const place = said($("pos"), $("method").value);return place ? go({ ...view.address, place }) : tellPlace("Type a position.", true);}
-const askChainage = mm => go({ ...view.address, place: placeAt(mm) });async function askClick(event) {const x = shownDiagram() ? unitsAt(event) : 0;if (x < 950 || x > 11050) return;
-const clicked = Math.floor(chainageAt(x)), tick = event.target.closest("g[data-kind=point] .t path"), point = tick && pointNear(tick, x);
-return askChainage((point && (await placeOfPoint(point, clicked))) ?? Math.min(Math.max(clicked, seen.from), seen.to - 1));}
-async function placeOfPoint({ asset }, clicked) {const { rows } = await known("v1/find", [["asset", asset]]);const near = rows.filter(row => row.route === view.route.name).map(row => row.from);
-return near.sort((a, b) => Math.abs(a - clicked) - Math.abs(b - clicked))[0];}
-const PARTS = ["view", "asked", "listed"], ENDS = { from: "From", to: "To" }, DRAWN = / data-from='(\d+)' data-to='(\d+)'/;let shown = 0;async function showRoute(address) {const isNew = !view.route || view.route.name !== address.route;
-$("route-title").textContent = document.title = `Route ${address.route}`;say("route-said", "The diagram is being drawn.");if (isNew) leaveRoute();const mine = ++shown;try {if (isNew) await askHealth();
-const drawing = await drawingOf(address);if (mine === shown) putRoute(address, drawing, isNew);} catch (error) {if (mine !== shown) return;leaving(PARTS, "route-title", leaveRoute);say("route-said", error.message, true);}
-}
-function leaveRoute() {shown++;Object.assign(view, { route: null, address: {}, asset: [] });clearPlace();$("pos").value = "";for (const id of PARTS) $(id).hidden = true;}
-async function drawingOf({ route: name, stretch }) {const route = await known(`v1/route/${name}`), picture = pictureFor(route, stretch);rowsOf({ route, from: 0, to: route.length }).catch(() => {});try {return { route, ...(await picture) };
-} catch (refusal) {if (!refusal.end) throw refusal;return { route, ...(await pictureFor(route)), refusal };}
-}
-async function pictureFor(route, stretch = {}) {const ends = Object.keys(ENDS).filter(end => stretch[end]);try {
-const pairs = ends.map(end => [end, textOfPlace(stretch[end], route, end)]), text = await known("v1/diagram", [["route", route.name], ...pairs], get);const [, from, to] = DRAWN.exec(text) || [];
-return { text, from: Number(from), to: Number(to) };} catch (error) {const end = ends.find(name => error.cause?.endsWith(`:${name}`));if (end) throw Object.assign(new Error(whyNot(ENDS[end], error, stretch[end], route)), { end });
-throw error.cause === "OffRoute" ? Object.assign(new Error("From must lie before To."), { end: ends.at(-1) }) : error;}
-}
-function putRoute(address, { route, from, to, text, refusal }, isNew) {const before = view.address;putDiagram(text);Object.assign(view, { route, address, from, to });for (const id of PARTS) $(id).hidden = false;tellStretch(refusal);
-fillEnds(refusal);hideClasses();markAll();attempt("classes-said", () => loadClasses(route.name));attempt("rows-said", loadRows);attempt("route-said", () => markAsset(address.asset));
-if (address.asset && address.asset !== before.asset) $("diagram").scrollIntoView({ block: "nearest" });if (!address.place) clearPlace(), markAll();
-else if (isNew || JSON.stringify(before.place) !== JSON.stringify(address.place)) askPlace(address.place);}
-function tellStretch(refusal) {const { route, from, to, address: { stretch } } = view;const measures = ["from", "to"].map(end => (!refusal && stretch?.[end]?.method === "abs" ? stretch[end].pos : textOf(route, "abs", view[end])));
-const told = `Measures ${measures[0]} to ${measures[1]}: from ${metres(from)} m to ${metres(to)} m of ${metres(route.length)} m.`;say("route-said", refusal ? `The whole route is shown. ${told}` : told);tellEnds(refusal);}
-function tellEnds(refusal) {say("ends-said", refusal ? refusal.message : "", Boolean(refusal));for (const end of Object.keys(ENDS)) blame($(end), refusal?.end === end, "ends-said");}
-function fillEnds(refusal) {const { stretch = {} } = view.address, methods = [refusal?.end, "from", "to"].map(end => stretch[end]?.method);
-$("by").value = methods.find(method => method && (refusal || method !== "chainage")) || $("by").value;for (const end of Object.keys(ENDS)) {fill($(end), view.route, $("by").value, view[end]);
-if (stretch[end]?.method !== $("by").value) continue;$(end).value = stretch[end].pos;delete $(end).dataset.chainage;}
-}
-function changeMethod(select, fields) {tellEnds();for (const field of fields) {const { chainage } = field.dataset, at = chainage === undefined ? view[field.id] ?? view.place[0]?.from : Number(chainage);
-if (at !== undefined) fill(field, view.route, select.value, at);}
-}
-async function showTyped() {const { route, address } = view, [from, to] = Object.keys(ENDS).map(end => said($(end), $("by").value) || undefined), stretch = { from, to };tellEnds();try {
-const found = await pictureFor(route, stretch), isWhole = found.from === 0 && found.to === route.length;if (view.route === route) await go({ ...address, stretch: isWhole ? undefined : stretch });} catch (refusal) {
-if (!refusal.end) throw refusal;tellEnds(refusal);$(refusal.end).focus();}
-}
-async function markAsset(asset) {view.asset = [];if (asset) {const { route } = view, { rows } = await known("v1/find", [["asset", asset]]);if (view.route !== route) return;
-view.asset = rows.filter(row => row.route === route.name).map(({ from, to }) => ({ from, to, text: `asset ${asset}` }));}
-markAll();}
-const PART = ["Link", "From, mm", "To, mm", "Side of the link"];const PLACES = ["Route", "Side", "From measure", "To measure", "From, m", "To, m", "Offset, mm"];let taken, past, turn = 0;
-const partOf = ({ link, from, to, side }) => [link, from, to, SIDES[side]];const takenRow = part => rowOf([part.reason, linkToAsset(part.asset), part.class, part.value, ...partOf(part)]);
-const pastRow = part => rowOf([part.event, linkToEdit(part.edit), part.key, part.verb, ...partOf(part)]);function clear(parts, tables) {const mine = ++turn;for (const id of parts) $(id).replaceChildren();
-for (const table of tables) table.show([]);return (id, asking, showing) => {if (mine === turn) say(`${id}-said`, "It is being asked.");
-return asking.then(found => mine === turn && showing(found)).catch(error => mine === turn && say(`${id}-said`, error.message, true));};}
-async function showEdit({ edit }) {taken ||= new LongTable($("taken"), headsOf(["Why", "Asset", "Class", "Value", ...PART]), takenRow);const shows = clear(["record", "beside"], [taken]);
-$("edit-title").textContent = document.title = `Edit ${edit}`;const edits = await askHealth();return Promise.all([
-shows("edit", Promise.all([recordAt(edit), routeNames()]), found => showRecord(Number(edit), edits, ...found)),shows("taken", known("v1/gone", [["edit", edit]]), ({ gone }) => {taken.show(gone);
-say("taken-said", gone.length ? `${counted(gone.length, "part")}.` : "It took nothing away.");}),]);}
-function showRecord(edit, edits, record, names) {say("edit-said", edits ? `Of ${counted(edits, "edit")}.` : "");$("record").replaceChildren(recordTable(record, names));
-if (edit > 1) $("beside").append(linkToEdit(edit - 1, `Edit ${edit - 1}`));if (edit < edits) $("beside").append(linkToEdit(edit + 1, `Edit ${edit + 1}`));}
-async function showAsset({ asset }) {past ||= new LongTable($("past"), headsOf(["What", "Edit", "Key", "Verb", ...PART]), pastRow);const shows = clear(["lies", "entered"], [past]);
-$("asset-title").textContent = document.title = `Asset ${asset}`;await askHealth();const rows = known("v1/rows", [["asset", asset]]), events = known("v1/history", [["asset", asset]]);return Promise.all([
-shows("asset", Promise.all([rows, known("v1/routes")]), ([found, { routes }]) => showPlaces(found.rows, new Map(routes.map(route => [route.name, route.length])))),
-shows("entered", Promise.all([events.then(found => entryOf(found.history)), routeNames()]), ([found, names]) => showEntry(found, names)),shows("past", events, found => showPast(found.history)),]);}
-function showPlaces(rows, lengths) {const [row] = rows, holds = rows.length === 1 ? "one stretch" : `${rows.length} stretches`;say("asset-said", row ? `${row.class} ${row.value}. It holds ${holds} today.` : "It lies on no route today.");
-if (row) $("lies").replaceChildren(tableOf(PLACES, rows.map(found => heldRow(found, lengths.get(found.route)))));}
-function heldRow({ route, from, to, from_measure: start, to_measure: end, side, asset, offset }, length) {const link = linkTo(writeAddress(aroundAsset(route, from, to, asset, length)), route);
-const row = rowOf([link, SIDES[side], short(start), short(end), metres(from), metres(to), offset]);for (const cell of [...row.cells].slice(2)) cell.className = "number";return row;}
-async function entryOf([first]) {return { edit: first.edit, record: await recordAt(first.edit) };}
-function showEntry({ edit, record }, names) {say("entered-said", "");$("entered").replaceChildren(recordTable(record, names, edit));}
-function showPast(parts) {const gone = parts.filter(part => part.event !== "entered").length;past.show(parts);say("past-said", `${counted(parts.length - gone, "part")} entered, ${gone} taken away since.`);}
-const MOST_FOUND = 200;const upper = text => text.toUpperCase();const KINDS = { asset: findAsset, value: findValue, class: findClass, key: findKey, ref: findRef, route: findRoute };function search() {
-const kind = $("kind").value, text = $("wanted").value.trim();$("found").hidden = false;$("results").replaceChildren();say("find-said", "It is being sought.");return attempt("find-said", async () => {
-const edits = await askHealth(), { told, found = [], itemOf } = await KINDS[kind](text, edits);$("results").replaceChildren(...found.slice(0, MOST_FOUND).map(entry => itemOf(entry)));
-say("find-said", found.length > MOST_FOUND ? `${told} The first ${MOST_FOUND} are shown.` : told);});}
-function item(...parts) {const made = make("li");made.append(...parts);return made;}
-function stretchItem({ route, from, to, from_measure: start, to_measure: end, side, asset, class: name, value }, length) {
-const link = linkTo(writeAddress(aroundAsset(route, from, to, asset, length)), `${route}: measures ${short(start)} to ${short(end)}`);
-return item(link, ` (${metres(from)} to ${metres(to)} m), ${SIDES[side]}: ${name} ${value}, `, linkToAsset(asset, `asset ${asset}`));}
-async function stretches(told, found) {const { routes } = await known("v1/routes"), lengths = new Map(routes.map(route => [route.name, route.length]));return { told, found, itemOf: row => stretchItem(row, lengths.get(row.route)) };}
-async function findAsset(text) {const { rows } = await known("v1/rows", [["asset", text]]);if (rows.length) return stretches(`Asset ${text} holds ${rows.length === 1 ? "one stretch" : `${rows.length} stretches`}.`, rows);
-return { told: `Asset ${text} is known, and lies on no route now.`, found: [text], itemOf: asset => item(linkToAsset(asset, `The history of asset ${asset}`)) };}
-async function findClass(text) {const { rows } = await known("v1/rows", [["class", upper(text)]]);return stretches(`${upper(text)} has ${counted(rows.length, "row")}.`, rows);}
-async function findValue(text) {const { lengths } = await known("v1/lengths"), names = lengths.filter(entry => entry.value === text).map(entry => entry.class);
-const lists = await Promise.all(names.map(name => known("v1/rows", [["class", name]])));const rows = lists.flatMap(list => list.rows).filter(row => row.value === text);
-return stretches(rows.length ? `${counted(rows.length, "row")} ${rows.length === 1 ? "has" : "have"} the value ${text}.` : `No row has the value ${text}.`, rows);}
-async function findKey(text, edits) {const [{ edit, record, within }, names] = await Promise.all([findEdit(edits, key => key === text), routeNames()]);if (!edit) return { told: `No edit has the key ${text}${within}.` };
-return { told: `Key ${text} is edit ${edit}.`, found: [edit], itemOf: () => item(linkToEdit(edit, `Edit ${edit}`), `: ${record.verb} `, fieldsOf(record, names)) };}
-async function findRef(text) {const { refs } = await known("v1/refs"), found = refs.filter(entry => entry.ref.includes(upper(text)));
-const link = ({ ref, route }) => linkTo(writeAddress({ route, place: { method: "rel", pos: `${ref}+0` } }), ref);const itemOf = entry => item(link(entry), ` on ${entry.route}, at ${metres(entry.chainage)} m`);
-return { told: `${counted(found.length, "referent")} of this name or part of a name.`, found, itemOf };}
-async function findRoute(text) {const { routes } = await known("v1/routes"), found = routes.filter(route => route.name.includes(upper(text)));
-return { told: `${counted(found.length, "route")} of this name or part of a name.`, found, itemOf: ({ name, length }) => item(linkTo(name, name), ` ${metres(length)} m`) };}
-const MOST_ADVICE = 20, MOST_NAMES = 10;const MOST_LINES = 500, MOST_BYTES = 1000000, FIRST_RECORDS = 6, MOST_SHOWN = 2000;const PATHS = {"key,verb,a,b,c,d,e,f,g,h,i": ["v1/edits", "an edit sheet"],
-"key,asset,class,route,side,method,from,to,value,offset": ["v1/surveys", "a survey"],};function* recordEnds(bytes) {let quoted = false, fresh = true;for (let at = 0; at < bytes.length; at++) {
-const byte = bytes[at], ends = !quoted && (byte === 10 || (byte === 13 && bytes[at + 1] !== 10));if (byte === 34 && (quoted || fresh)) quoted = !quoted, fresh = !quoted;else fresh = !quoted && (byte === 44 || byte === 13 || byte === 10);
-if (ends) yield at + 1;}
-yield bytes.length;}
-function bodiesOf(bytes) {if (bytes.length <= MOST_BYTES) return [bytes];let start = null, last = null, head = null;const bodies = [], body = () => bodies.push(new Blob([head, bytes.subarray(start, last)]));
-for (const end of recordEnds(bytes)) {if (head === null) head = bytes.subarray(0, end), start = end;else if (end - start + head.length > MOST_BYTES && last > start) body(), start = last;last = end;}
-if (last > start) body();return bodies;}
-function recordsIn(bytes) {let count = -1, start = 0, shown = 0;for (const end of recordEnds(bytes)) {if (bytes.subarray(start, end).some(byte => byte !== 10 && byte !== 13)) count++;if (count < FIRST_RECORDS) shown = end;start = end;}
-return { count: Math.max(count, 0), first: new TextDecoder().decode(bytes.subarray(0, Math.min(shown, MOST_SHOWN))) };}
-function kindOf(bytes, name) {const first = new TextDecoder().decode(bytes.subarray(0, 200)).split(/[\r\n]/)[0].replace(/["\s]/g, "");if (PATHS[first]) return PATHS[first];
-throw new Error(`${name} is no edit sheet and no survey: its first line is not the header of either. Nothing was sent.`);}
-async function trialOf(path, body) {const settings = { method: "POST", headers: { "Content-Type": "text/csv" }, body };const { status, text } = await send(`${path}/check`, settings).catch(() => ({}));
-return status === 200 || status === 422 ? JSON.parse(text) : undefined;}
-function named(word, names) {if (!names.length) return [];const more = names.length > MOST_NAMES ? ` and ${names.length - MOST_NAMES} more` : "";return [`${word} ${names.slice(0, MOST_NAMES).join(", ")}${more}`];}
-function changesOf(lines) {const fields = lines.map(line => line.split(",")), those = (sign, kind) => fields.filter(line => line[0] === sign && line[1] === kind);
-const names = (sign, kind) => [...new Set(those(sign, kind).map(line => line[2]))], both = kind => [...new Set([...names("-", kind), ...names("+", kind)])];const lengthOf = line => (line[8] - line[7]) * (line[9] === "B" ? 2 : 1);
-const moved = (sign, word, way) => {const count = names(sign, "holds").length, sum = those(sign, "holds").reduce((length, line) => length + lengthOf(line), 0);
-return count ? [`${word} ${metres(sum)} m of sides ${way} ${counted(count, "asset")}`] : [];};return [
-...moved("-", "takes", "from"), ...moved("+", "gives", "to"), ...named("enters asset", names("+", "asset")),
-...named("removes referent", names("-", "ref")), ...named("sets referent", names("+", "ref")), ...named("changes route", both("route")),...named("adds link", names("+", "link")), ...named("adds class", names("+", "class")),].join("; ");}
-function shownTrial(trial) {const { fault, replies, advice, difference } = trial, changes = changesOf(difference);
-const count = word => `${replies.filter(line => line.split(",")[1] === word).length} ${word}`, counts = ["done", "again", "refused"].map(count).join(", ");
-const shown = [make("p", `It would be: ${counts}${fault ? `, and then ${sentence(fault)}` : ""}.`, { className: "trial" })];if (advice.length) {const list = make("ul");
-list.append(...advice.slice(0, MOST_ADVICE).map(line => make("li", line)));shown.push(list);}
-shown.push(make("p", changes ? `It ${changes}.` : "It changes nothing of the network or its assets.", { className: "changes" }));if (difference.length) {
-const rest = difference.length > MOST_LINES ? `\n${difference.length - MOST_LINES} lines more are not shown here: check --diff prints them.` : "", details = make("details");
-details.append(make("summary", `What changes, in ${counted(difference.length, "line")}`), make("pre", difference.slice(0, MOST_LINES).join("\n") + rest, { tabIndex: 0 }));shown.push(details);}
-return shown;}
-let ready = [], stopped;async function lookAt(files) {const shown = [];ready = [];$("preview").hidden = true;$("looked").replaceChildren();say("sheet-said", "");for (const file of files) {
-const bytes = new Uint8Array(await file.arrayBuffer()), [path, kind] = kindOf(bytes, file.name), { count, first } = recordsIn(bytes);const bodies = bodiesOf(bytes), parts = bodies.length > 1 ? `, in ${bodies.length} parts` : "";
-ready.push({ name: file.name, path, bodies, at: 0, resumes: false });shown.push(make("p", `${file.name}: ${kind} of ${counted(count, "record")}, ${bytes.length} bytes${parts}. It begins:`), make("pre", first, { tabIndex: 0 }));
-const trial = bodies.length > 1 ? undefined : await trialOf(path, bodies[0]);if (trial) shown.push(...shownTrial(trial));}
-$("looked").replaceChildren(...shown);$("preview").hidden = !ready.length;$("send").focus();}
-function forget() {ready = [];$("preview").hidden = true;say("sheet-said", "Nothing was sent.");}
-const counts = {};let replied = [], notShown = 0;function startReplies() {for (const word of ["done", "again", "refused", "fault"]) counts[word] = 0;(replied = []), (notShown = 0), (stopped = undefined);
-$("lines").replaceChildren(tableOf(["Key", "Reply", "Edit, or cause"], []));$("replies").hidden = false;$("lines").hidden = $("save").hidden = $("resume").hidden = true;say("counts", "");}
-function showReplies(text) {replied.push(text);const body = $("lines").querySelector("tbody"), rows = [];for (const line of text.split("\n")) {const [key, word, more] = line.split(",");if (!word) continue;counts[word]++;
-if (body.rows.length + rows.length < MOST_LINES * (word === "done" || word === "again" ? 1 : 2)) rows.push(replyRow(key, word, more));else notShown++;}
-body.append(...rows);$("lines").hidden = !body.rows.length;const faults = counts.fault ? ", 1 fault" : "", rest = notShown ? ` ${notShown} lines more are not shown here: save them to see all.` : "";
-say("counts", `${counts.done} done, ${counts.again} again, ${counts.refused} refused${faults}.${rest}`);offer($("save"), replied, "text/csv");}
-function replyRow(key, word, more) {const row = rowOf([key, word, word === "done" || word === "again" ? `edit ${more}` : sentence(more)]);row.className = word;row.cells[1].className = "word";return row;}
-async function sendParts(sheet, refresh) {const { name, path, bodies } = sheet;stopped = undefined;leaving(["resume"], "file", () => ($("resume").hidden = true));try {for (; sheet.at < bodies.length; sheet.at++, sheet.resumes = false) {
-say("sheet-said", `${name}: part ${sheet.at + 1} of ${bodies.length} is being sent.`);await sendPart(path + (sheet.resumes ? "?resume=1" : ""), bodies[sheet.at]);}
-say("sheet-said", `${name} was sent to its end, in ${bodies.length === 1 ? "one part" : `${bodies.length} parts`}. Look at the lines: a record that is refused changes nothing.`);} catch (error) {
-if (error.message.endsWith(GO_ON)) (stopped = { ...sheet, resumes: true }), ($("resume").hidden = false);throw error;} finally {await refresh();}
-}
-async function sendPart(path, body) {const settings = { method: "POST", headers: { "Content-Type": "text/csv" }, body };const { status, text } = await send(path, settings).catch(error => { throw new Error(error.message + GO_ON); });
-if (status === 200 || status === 422) showReplies(text);
-if (status === 422) throw new Error(`${STATUSES[422]} The last line says why. The records before it are done. Mend the sheet, and send the header and the records behind the last one that was done.`);
-if (status !== 200) throw new Error(reason(status, text) + ([500, 502, 503, 504].includes(status) ? GO_ON : " The sheet was not sent on."));}
-let sheets = Promise.resolve(), waiting = 0;function enqueue(work) {waiting++;sheets = sheets.then(() => attempt("sheet-said", work)).then(() => waiting--);}
-function sendReady(refresh) {for (const sheet of ready) enqueue(() => (startReplies(), sendParts(sheet, refresh)));ready = [];$("preview").hidden = true;$("sheet-said").scrollIntoView({ block: "nearest" });}
-const goOn = refresh => enqueue(async () => stopped && sendParts(stopped, refresh));const isSending = () => waiting > 0;
-const PAUSE = 120, LEAST_DRAG = 4;let wanted = null, timer, drag = null, wasDragged = false, pinch = null;function zoom(times) {const middle = (seen.from + seen.to) / 2, half = ((seen.to - seen.from) * times) / 2;
-return showRange(middle - half, middle + half);}
-const move = times => showRange(seen.from + (seen.to - seen.from) * times, seen.to + (seen.to - seen.from) * times);function preview(from, to) {const svg = shownDiagram(), [start, end] = within(from, to, view.route.length);
-wanted = [start, end];const times = (seen.to - seen.from) / (end - start), left = 1000 + ((seen.from - start) * 10000) / (end - start) - times * 1000;svg.style.transformOrigin = "0 0";
-svg.style.transform = `translateX(${(left * svg.clientWidth) / 12000}px) scaleX(${times})`;$("diagram").classList.add("moving");}
-async function settle() {if (!view.route) return;const [from, to] = wanted || [seen.from, seen.to];wanted = null;$("diagram").classList.remove("moving");
-if (from === seen.from && to === seen.to) return void (shownDiagram().style.transform = "");await showRange(from, to, true);}
-function settleSoon() {clearTimeout(timer);timer = setTimeout(settle, PAUSE);}
-const share = event => {const box = $("diagram").getBoundingClientRect(), wide = shownDiagram().clientWidth;return (((event.clientX - box.left + $("diagram").scrollLeft) / wide) * 12000 - 1000) / 10000;};function wheel(event) {
-if (!shownDiagram()) return;const [from, to] = wanted || [seen.from, seen.to], span = to - from, sideways = event.shiftKey || Math.abs(event.deltaX) > Math.abs(event.deltaY);
-const by = (sideways ? event.deltaX || event.deltaY : event.deltaY) * (event.deltaMode ? 16 : 1);if (!sideways && by > 0 && span === view.route.length) return;event.preventDefault();
-const at = from + span * Math.min(Math.max(share(event), 0), 1), times = Math.min(Math.max((event.ctrlKey ? 1.01 : 1.0015) ** by, 0.2), 5);
-sideways ? preview(from + (span * by) / 1000, to + (span * by) / 1000) : preview(at - (at - from) * times, at + (to - at) * times);settleSoon();}
-function startDrag(event) {wasDragged = false;if (event.pointerType === "touch" || event.button || !shownDiagram()?.contains(event.target)) return;drag = { x: event.clientX, moved: false, from: seen.from, to: seen.to };}
-function dragOn(event) {if (!drag) return look(event);const by = event.clientX - drag.x;if (!drag.moved && Math.abs(by) < LEAST_DRAG) return;if (!drag.moved) $("diagram").setPointerCapture(event.pointerId);drag.moved = true;
-const mm = (by * 12000 * (drag.to - drag.from)) / (shownDiagram().clientWidth * 10000);preview(drag.from - mm, drag.to - mm);}
-function endDrag() {wasDragged = Boolean(drag?.moved);drag = null;if (wasDragged) settle();}
-const click = event => wasDragged || !shownDiagram()?.contains(event.target) || attempt("at-said", () => askClick(event));function touch(event) {if (event.touches.length !== 2 || !shownDiagram()) return;event.preventDefault();
-const shares = [...event.touches].map(share), [from, to] = [seen.from, seen.to];pinch ||= shares.map(at => from + at * (to - from));const span = (pinch[1] - pinch[0]) / (shares[1] - shares[0] || 0.01);
-if (span > 0) preview(pinch[0] - shares[0] * span, pinch[0] + (1 - shares[0]) * span);}
-function endTouch(event) {if (!pinch || event.touches.length === 2) return;pinch = null;settle();}
-function look(event) {if (!shownDiagram()?.contains(event.target)) return;const x = unitsAt(event), chainage = Math.floor(chainageAt(x));if (chainage < 0 || x < 1000 || x > 11000 || chainage > view.route.length) return say("under", "");
-say("under", [`measure ${textOf(view.route, "abs", chainage)}, ${metres(chainage)} m`, ...thingsAt(x, off)].join(" \u00b7 "));}
-function press(event) {const button = { ArrowLeft: "back", ArrowRight: "on", "+": "in", "-": "out", Home: "whole" }[event.key];if (event.ctrlKey || event.altKey || event.metaKey) return;if (button) event.preventDefault(), $(button).click();
-if (event.key === "Enter") askChainage(Math.floor((seen.from + seen.to) / 2));}
-function watch() {const box = $("diagram");box.addEventListener("wheel", wheel, { passive: false });for (const name of ["touchstart", "touchmove"]) box.addEventListener(name, touch, { passive: false });
-for (const name of ["touchend", "touchcancel"]) box.addEventListener(name, endTouch);Object.assign(box, { onpointerdown: startDrag, onpointermove: dragOn, onpointerup: endDrag, onpointercancel: endDrag, onclick: click, onkeydown: press });
-$("in").onclick = () => zoom(0.5);$("out").onclick = () => zoom(2);$("back").onclick = () => move(-0.5);$("on").onclick = () => move(0.5);$("whole").onclick = () => showRange(0, view.route.length);}
-let shownBefore;const SHOWN = { network: showNetwork, route: showRoute, edit: showEdit, asset: showAsset };const viewOf = address => ["route", "edit", "asset"].find(name => address?.[name]) || "network";function show(address) {
-const name = viewOf(address), now = name === "edit" || name === "asset" ? `${name} ${address[name]}` : name;for (const other of Object.keys(SHOWN)) $(other).hidden = other !== name;
-if (shownBefore && shownBefore !== now) $(`${name}-title`).focus({ preventScroll: true }), scrollTo(0, 0);shownBefore = now;if (name !== "route") leaveRoute();return SHOWN[name](address);}
-function showNetwork(address) {document.title = "Road inventory";say("address-said", address ? "The address names no route." : "", Boolean(address));return loadNetwork();}
-async function refresh() {await askHealth();await showAgain();}
-const submits = (id, work) => ($(id).onsubmit = event => (event.preventDefault(), work()));submits("filtering", () => firstRoute()?.click());submits("finding", search);submits("range", () => attempt("route-said", showTyped));
-submits("asking", askTyped);submits("row-filtering", () => {});$("filter").oninput = listRoutes;$("row-filter").oninput = listRows;$("csv").onclick = saveRows;$("by").onchange = () => changeMethod($("by"), [$("from"), $("to")]);
-$("method").onchange = () => changeMethod($("method"), [$("pos")]);for (const id of ["from", "to", "pos"]) $(id).oninput = () => delete $(id).dataset.chainage;$("all").onclick = () => switchAll(true);
-$("none").onclick = () => switchAll(false);$("close").onclick = () => leaving(["found"], "wanted", () => ($("found").hidden = true));$("refresh").onclick = refresh;$("skip").onclick = () => $("main").focus();
-$("send").onclick = () => leaving(["preview"], "file", () => sendReady(refresh));$("forget").onclick = () => leaving(["preview"], "file", forget);$("resume").onclick = () => goOn(refresh);$("file").onchange = () => {
-const files = [...$("file").files];$("file").value = "";attempt("sheet-said", () => lookAt(files));};document.ondragover = event => {if (!event.dataTransfer.types.includes("Files")) return;event.preventDefault();
-document.body.classList.add("over");};document.ondragleave = event => event.relatedTarget || document.body.classList.remove("over");document.ondrop = event => {const files = [...event.dataTransfer.files];if (!files.length) return;
-event.preventDefault();document.body.classList.remove("over");$("sheets").open = true;attempt("sheet-said", () => lookAt(files));};window.onbeforeunload = event => void (isSending() && event.preventDefault());makeShades();watch();
-start(show);
-</script>
-</body>
-</html>
-"##;
+
+pub(super) use page_front;
