@@ -38,7 +38,7 @@ module _ {K : Type 0} (holds : K → Result Image Table → Type 0) (old new : D
   posted_after (post.Sheet kind) course.BehindLast body answer (inl (ended, lines, run, is)) = run.left
   posted_after (post.Sheet kind) course.BehindLast body answer (inr (twice, repeated, same, is)) = same_after same
   posted_after (post.Sheet kind) course.AllOrNone body answer (inl (behind, replies, outcome, tried, inl (accepted, (ended, lines, run, is)))) = run.left
-  posted_after (post.Sheet kind) course.AllOrNone body answer (inl (behind, replies, outcome, tried, inr (refused, same, is))) = same_after same
+  posted_after (post.Sheet kind) course.AllOrNone body answer (inl (behind, replies, outcome, tried, inr (not_accepted, same, is))) = same_after same
   posted_after (post.Sheet kind) course.AllOrNone body answer (inr (same, is)) = same_after same
 
   -- so is what a request asks for

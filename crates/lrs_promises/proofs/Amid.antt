@@ -76,7 +76,7 @@ module _ {K : Type 0} (holds : K → Result Image Table → Type 0) (old new : D
   posted_keeps (post.Sheet kind) course.BehindLast body answer (inl (ended, lines, run, is)) = sheet_keeps ended run.desk run.amid
   posted_keeps (post.Sheet kind) course.BehindLast body answer (inr (twice, repeated, same, is)) = same_keeps same
   posted_keeps (post.Sheet kind) course.AllOrNone body answer (inl (behind, replies, outcome, tried, inl (accepted, (ended, lines, run, is)))) = sheet_keeps ended run.desk run.amid
-  posted_keeps (post.Sheet kind) course.AllOrNone body answer (inl (behind, replies, outcome, tried, inr (refused, same, is))) = same_keeps same
+  posted_keeps (post.Sheet kind) course.AllOrNone body answer (inl (behind, replies, outcome, tried, inr (not_accepted, same, is))) = same_keeps same
   posted_keeps (post.Sheet kind) course.AllOrNone body answer (inr (same, is)) = same_keeps same
 
   does_keeps : (asked : Asked) (answer : Answer) → Does holds asked old answer new → Kept

@@ -1,5 +1,5 @@
 -- A sheet that is done as a whole or not at all ends as its trial.
-use Rattle.std.proofs.Common.{◌≡◌, ◌⊎◌, inl, inr, [], Some, Result, Ok, Err, refl, sym, ap, subst, ◌∙◌}
+use Rattle.std.proofs.Common.{◌≡◌, ◌⊎◌, inl, inr, false, [], Some, Result, Ok, Err, refl, sym, ap, subst, ◌∙◌}
 use Rattle.lrs_machine.specs.Image.{state_of}
 use Rattle.lrs_machine.specs.Lines.{Text}
 use Rattle.lrs_machine.specs.State.{State}

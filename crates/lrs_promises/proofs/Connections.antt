@@ -188,7 +188,7 @@ module _ {K : Type 0} (holds : K → Result Image Table → Type 0) (shown : Opt
       (gave_under old.limits (GivesBehind [] kind body) (GivesAllOrNone kind body (state_of old.image)) (state_of old.image) (state_of new.image) (λ commands given. (replies, outcome, tried, inl (accepted, given)))
       (behind_gave [] kind records_together old.limits body (state_of old.image) (state_of new.image) (Some []) (Some lines) ended run.runs))
       (same_limits old new ended run.desk)
-  posted_made (post.Sheet kind) course.AllOrNone body answer old new (inl (behind, replies, outcome, tried, inr (refused, same, is))) =
+  posted_made (post.Sheet kind) course.AllOrNone body answer old new (inl (behind, replies, outcome, tried, inr (not_accepted, same, is))) =
       none_made (GivesFirst (GivesPosted (post.Sheet kind) course.AllOrNone body (state_of old.image))) old new (inl refl) same
   posted_made (post.Sheet kind) course.AllOrNone body answer old new (inr (same, is)) =
       none_made (GivesFirst (GivesPosted (post.Sheet kind) course.AllOrNone body (state_of old.image))) old new (inl refl) same

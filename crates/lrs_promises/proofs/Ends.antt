@@ -145,7 +145,7 @@ tried_decided : {K : Type 0} (holds : K → Result Image Table → Type 0) (shee
     → DoesTried holds sheet input replies outcome old answer new → (answer.status ≡ 503 → ⊥) → is_decided outcome ≡ true
 tried_decided holds sheet input replies (Ok tally) old answer new does served = refl
 tried_decided holds sheet input replies (Err e) old answer new (inl (accepted, runs)) served = absurd accepted
-tried_decided holds sheet input replies (Err e) old answer new (inr (refused, same, is)) served = answer_decided {T = Tally} (Err e) replies answer (inl is) served
+tried_decided holds sheet input replies (Err e) old answer new (inr (not_accepted, same, is)) served = answer_decided {T = Tally} (Err e) replies answer (inl is) served
 
 -- ---- a sheet of questions
 
@@ -267,11 +267,11 @@ module _ {K J : Type 0} (holds : K → Result Image Table → Type 0) (has : J �
       → SameEnd (answer_text one) (answer_text two) (state_of new.image) (state_of after.image)
   tried_alike kind body replies more outcome other one two old new before after stand h (inl (accepted, runs)) served (inl (also_accepted, run)) also =
       whole_alike kind body one two old new before after stand runs served run also
-  tried_alike kind body replies more outcome other one two old new before after stand h (inl (accepted, runs)) served (inr (refused, remains, too)) also =
-      absurd (refused (subst IsAccepted h.ends accepted))
-  tried_alike kind body replies more outcome other one two old new before after stand h (inr (refused, same, is)) served (inl (accepted, run)) also =
-      absurd (refused (subst IsAccepted (sym h.ends) accepted))
-  tried_alike kind body replies more outcome other one two old new before after stand h (inr (refused, same, is)) served (inr (also_refused, remains, too)) also =
+  tried_alike kind body replies more outcome other one two old new before after stand h (inl (accepted, runs)) served (inr (not_accepted, remains, too)) also =
+      absurd (not_accepted (subst IsAccepted h.ends accepted))
+  tried_alike kind body replies more outcome other one two old new before after stand h (inr (not_accepted, same, is)) served (inl (accepted, run)) also =
+      absurd (not_accepted (subst IsAccepted (sym h.ends) accepted))
+  tried_alike kind body replies more outcome other one two old new before after stand h (inr (not_accepted, same, is)) served (inr (nor_accepted, remains, too)) also =
       let lines_are : replies ≡ more = h.one ∙ sym h.same in
       record {
         wrote = ap answer_text (is ∙ (λ i. refusal_after (h.ends i) (lines_are i)) ∙ sym too);

@@ -162,8 +162,8 @@ module _ {K : Type 0} (holds : K → Result Image Table → Type 0) where
         gave = record { commands = g.commands; gives = (replies, outcome, tried, inl (accepted, g.gives)); state = g.state };
         along = decided_goes old new ended d run.desk;
       }
-  posted_gave (post.Sheet kind) course.AllOrNone body answer old new (inl (behind, replies, outcome, tried, inr (refused, same, is))) served =
-      desk_stays (GivesPosted (post.Sheet kind) course.AllOrNone body (state_of old.image)) old new (replies, outcome, tried, inr (refused, refl)) same
+  posted_gave (post.Sheet kind) course.AllOrNone body answer old new (inl (behind, replies, outcome, tried, inr (not_accepted, same, is))) served =
+      desk_stays (GivesPosted (post.Sheet kind) course.AllOrNone body (state_of old.image)) old new (replies, outcome, tried, inr (not_accepted, refl)) same
   posted_gave (post.Sheet kind) course.AllOrNone body answer old new (inr (same, none)) served = absurd (served (ap (λ (a : Answer). a.status) none))
 
   pub asked_gave : (asked : Asked) (answer : Answer) (old new : DeskView K) → Does holds asked old answer new → (answer.status ≡ 503 → ⊥) → DeskGave (GivesAsked asked (state_of old.image)) old new
