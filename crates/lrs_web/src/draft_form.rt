@@ -90,7 +90,8 @@ pub(crate) fn form_words<'q>(
     kind: DraftKind,
     form: &'q [u8],
 ) -> Result<Vec<CowStr<'q>>, AllocError>
-    ensures { IfOk result (λ words. map cow_str_bytes words.items ≡ spec.form_words kind form.now) }
+    ensures { IfOk result (λ words. map cow_str_bytes words.items
+        ≡ spec.form_words kind form.now) }
 {
     match kind {
         DraftKind::Split => values_by(alloc, form, &["route", "place", "new"]),
