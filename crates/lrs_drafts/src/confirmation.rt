@@ -229,7 +229,7 @@ fn is_intended(
         }
         Draft::Move { asset, number, .. } => is_moved(alloc, *asset, *number, before, after),
         Draft::Merge { routes } => changes_all(alloc, routes.as_slice(), before, after),
-        Draft::Undo { number } => is_undone(alloc, *number, before, after),
+        Draft::Undo { from, number } => is_undone(alloc, *from, *number, before, after),
     }
 }
 

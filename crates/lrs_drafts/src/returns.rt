@@ -1,14 +1,16 @@
-//! What gives back places that the last edit took away, under new numbers.
+//! What gives back places that an edit took away, under new numbers.
 
-use crate::asset_drafts::{NO_ASSET, asset_in, kind_of, route_in, write_retire};
+use crate::asset_drafts::{NO_ASSET, asset_in, kind_of, route_in};
 use crate::fault::DraftFault;
 use crate::keys::SheetWriter;
-use crate::last_edit::{LastEdit, UNREAD, asset_number, chainage, expressions, field, route_name};
 use crate::placement::{BAD_OFFSET, Placement, entry_like, write_from, write_placed};
 use crate::positions::{Extent, chainage_at};
 use crate::undo::mark_list;
+use crate::undone_edit::{
+    UNREAD, UndoneEdit, asset_number, chainage, expressions, field, route_name,
+};
 use lrs_element::Course;
-use lrs_events::{ClassName, Kind, Side, Span, read_side};
+use lrs_events::{Asset, ClassName, Kind, Side, Span, read_side};
 use lrs_image::ImageLists;
 use lrs_machine::{AssetNumber, Chainage, Command, PieceList, RouteRow};
 use lrs_position::{Expr, Referent, Route};
@@ -84,24 +86,47 @@ fn parts_of(alloc: Global, taken: &Taken, rows: &[Span]) -> Result<Vec<Span>, Al
     Ok(parts)
 }
 
-/// The number that stands so many numbers behind the first one for new assets.
-fn new_number(first: &AssetNumber, behind: usize) -> Option<AssetNumber> {
-    let number = first.get().checked_add(behind as u64)?;
-    AssetNumber::new(number)
+/// The numbers of new assets, which count up.
+pub(crate) struct NewNumbers {
+    next: Option<u64>,
 }
 
-/// Adds the record that enters an asset like that of a row, where the row was.
+impl NewNumbers {
+    /// The numbers from this one on, or none at all.
+    pub(crate) fn new(first: Option<AssetNumber>) -> NewNumbers {
+        let next = match first {
+            Some(first) => Some(first.get()),
+            None => None,
+        };
+        NewNumbers { next }
+    }
+
+    /// The next number.
+    ///
+    /// # Errors
+    /// `Impossible` where there are no numbers, or no more.
+    fn take(&mut self) -> Result<AssetNumber, DraftFault> {
+        let Some(number) = self.next else {
+            return Err(NO_NUMBER);
+        };
+        self.next = Some(number.saturating_add(1));
+        match AssetNumber::new(number) {
+            Some(number) => Ok(number),
+            None => Err(NO_MORE_NUMBERS),
+        }
+    }
+}
+
+/// Adds the record that enters an asset like another one, where a row of that was.
 fn write_returned(
     alloc: Global,
     sheet: &mut SheetWriter<'_>,
     was: &ImageLists,
     route: &Route,
     row: &Span,
+    asset: &Asset,
     number: &AssetNumber,
 ) -> Result<(), DraftFault> {
-    let Some(asset) = asset_in(was, row.asset) else {
-        return Err(NO_ASSET);
-    };
     let kind = kind_of(was, &row.class)?;
     let Some(entry) = entry_like(asset, number, row.side) else {
         return Err(BAD_OFFSET);
@@ -117,45 +142,30 @@ fn write_returned(
     write_placed(alloc, sheet, was, Placement::Enter(&entry), route, extent)
 }
 
-/// Adds the records that enter assets like those of rows, under numbers from this one on.
-fn write_all_returned(
-    alloc: Global,
-    sheet: &mut SheetWriter<'_>,
-    was: &ImageLists,
-    route: &Route,
-    rows: &[Span],
-    first: &AssetNumber,
-) -> Result<(), DraftFault> {
-    for (behind, row) in rows.iter().enumerate() {
-        let Some(number) = new_number(first, behind) else {
-            return Err(NO_MORE_NUMBERS);
-        };
-        write_returned(alloc, sheet, was, route, row, &number)?;
-    }
-    Ok(())
-}
-
-/// Adds the records that give back what was taken of a route.
+/// Adds the records that give back what was taken of a route, but for what assets held that were not there before the edits
+/// that are undone.
 ///
 /// # Errors
 /// `Impossible` where assets were taken away and there are no numbers for new ones.
 fn write_taken(
     alloc: Global,
     sheet: &mut SheetWriter<'_>,
-    edit: &LastEdit<'_>,
+    numbers: &mut NewNumbers,
+    edit: &UndoneEdit<'_>,
     row: &RouteRow,
     taken: &Taken,
 ) -> Result<(), DraftFault> {
     let parts = parts_of(alloc, taken, row.spans.rows())?;
-    if parts.is_empty() {
-        return Ok(());
-    }
-    match &edit.number {
-        Some(first) => {
-            write_all_returned(alloc, sheet, edit.was, &row.route, parts.as_slice(), first)
+    for part in parts.as_slice() {
+        let Some(asset) = asset_in(edit.was, part.asset) else {
+            return Err(NO_ASSET);
+        };
+        if asset.entered_by < edit.first {
+            let number = numbers.take()?;
+            write_returned(alloc, sheet, edit.was, &row.route, part, asset, &number)?;
         }
-        None => Err(NO_NUMBER),
     }
+    Ok(())
 }
 
 /// The chainage of a position that a command had.
@@ -187,7 +197,8 @@ fn reach(route: &Route, line: &[u8], method: u32) -> Result<(u64, u64), DraftFau
 pub(crate) fn undo_retire(
     alloc: Global,
     sheet: &mut SheetWriter<'_>,
-    edit: &LastEdit<'_>,
+    numbers: &mut NewNumbers,
+    edit: &UndoneEdit<'_>,
 ) -> Result<(), DraftFault> {
     let Some(asset) = asset_number(edit.line, 1) else {
         return Err(UNREAD);
@@ -206,7 +217,7 @@ pub(crate) fn undo_retire(
         asset: Some(asset.get()),
         class: None,
     };
-    write_taken(alloc, sheet, edit, row, &taken)
+    write_taken(alloc, sheet, numbers, edit, row, &taken)
 }
 
 /// The class and the side of a new asset's line.
@@ -216,15 +227,13 @@ fn class_and_side(line: &[u8]) -> Option<(ClassName, Side)> {
     Some((class, side))
 }
 
-/// The new asset gives up all that it holds, and what it took from others is entered anew.
+/// What the new asset took from others is entered anew.
 pub(crate) fn undo_supersede(
     alloc: Global,
     sheet: &mut SheetWriter<'_>,
-    edit: &LastEdit<'_>,
+    numbers: &mut NewNumbers,
+    edit: &UndoneEdit<'_>,
 ) -> Result<(), DraftFault> {
-    let Some(asset) = asset_number(edit.line, 1) else {
-        return Err(UNREAD);
-    };
     let Some((class, side)) = class_and_side(edit.line) else {
         return Err(UNREAD);
     };
@@ -242,8 +251,7 @@ pub(crate) fn undo_supersede(
         asset: None,
         class: Some(class),
     };
-    write_retire(alloc, sheet, edit.now, asset)?;
-    write_taken(alloc, sheet, edit, row, &taken)
+    write_taken(alloc, sheet, numbers, edit, row, &taken)
 }
 
 /// A referent of a route that stands on it still.
@@ -356,7 +364,8 @@ fn all_between(from: u64, to: u64) -> Taken {
 pub(crate) fn undo_realign(
     alloc: Global,
     sheet: &mut SheetWriter<'_>,
-    edit: &LastEdit<'_>,
+    numbers: &mut NewNumbers,
+    edit: &UndoneEdit<'_>,
 ) -> Result<(), DraftFault> {
     let Some(name) = route_name(edit.line, 1) else {
         return Err(UNREAD);
@@ -372,7 +381,7 @@ pub(crate) fn undo_realign(
     write_realigned(alloc, sheet, &row.route, &now.route, from, to)?;
     let remaining = remaining_referent(&row.route, &now.route);
     write_referents(alloc, sheet, edit.was, &row.route, remaining, from, to)?;
-    write_taken(alloc, sheet, edit, row, &all_between(from, to))
+    write_taken(alloc, sheet, numbers, edit, row, &all_between(from, to))
 }
 
 /// Adds the record that makes a route as it was.
@@ -399,7 +408,8 @@ fn write_route(
 pub(crate) fn undo_close(
     alloc: Global,
     sheet: &mut SheetWriter<'_>,
-    edit: &LastEdit<'_>,
+    numbers: &mut NewNumbers,
+    edit: &UndoneEdit<'_>,
 ) -> Result<(), DraftFault> {
     let Some(name) = route_name(edit.line, 1) else {
         return Err(UNREAD);
@@ -410,5 +420,5 @@ pub(crate) fn undo_close(
     let end = row.route.length();
     write_route(alloc, sheet, &row.route)?;
     write_referents(alloc, sheet, edit.was, &row.route, None, 0, end)?;
-    write_taken(alloc, sheet, edit, row, &all_between(0, end))
+    write_taken(alloc, sheet, numbers, edit, row, &all_between(0, end))
 }

@@ -1,22 +1,28 @@
-//! What undoes the last edit, by its verb.
+//! What undoes edits, by their verbs.
 
-use crate::asset_drafts::{route_in, write_retire};
+use crate::asset_drafts::{lies_anywhere, route_in, write_retire};
 use crate::fault::DraftFault;
-use crate::former_desk::former_desk;
+use crate::former_desk::{do_edit, former_desk};
 use crate::keys::SheetWriter;
-use crate::last_edit::{LastEdit, UNREAD, asset_number, field, referent_name, route_name};
 use crate::placement::{Placement, write_from};
 use crate::positions::Extent;
-use crate::returns::{undo_close, undo_realign, undo_retire, undo_supersede};
+use crate::returns::{NewNumbers, undo_close, undo_realign, undo_retire, undo_supersede};
+use crate::undone_edit::{UNREAD, UndoneEdit, field, first_undone, referent_name, route_name};
+use lrs_desk::{Desk, Plain};
 use lrs_element::{Mark, Marks};
 use lrs_image::ImageLists;
 use lrs_machine::{AssetNumber, Chainage, Command, MarkList};
 use lrs_position::{RefName, Referent, Route, RouteName};
-use lrs_sheet::discard_copy;
+use lrs_report_lists::edit_numbered;
+use lrs_sheet::{copy_desk, discard_copy};
 use lrs_sheet_records::{Verb, read_verb};
 use std::alloc::{AllocError, Global};
 
 const NO_EDIT: DraftFault = DraftFault::Impossible("there is no edit that could be undone");
+
+const NOT_YET: DraftFault = DraftFault::Impossible(
+    "there is no edit of this number or a later one",
+);
 
 const STAYS: DraftFault = DraftFault::Impossible(
     "a link or a class is never removed: leave it unused",
@@ -54,7 +60,7 @@ pub(crate) fn write_marks(
 fn undo_split(
     alloc: Global,
     sheet: &mut SheetWriter<'_>,
-    edit: &LastEdit<'_>,
+    edit: &UndoneEdit<'_>,
 ) -> Result<(), DraftFault> {
     let Some(first) = route_name(edit.line, 1) else {
         return Err(UNREAD);
@@ -89,7 +95,7 @@ fn goes_on(first: &Route, second: &Route) -> bool {
 fn undo_join(
     alloc: Global,
     sheet: &mut SheetWriter<'_>,
-    edit: &LastEdit<'_>,
+    edit: &UndoneEdit<'_>,
 ) -> Result<(), DraftFault> {
     let Some(first) = route_name(edit.line, 1) else {
         return Err(UNREAD);
@@ -121,7 +127,7 @@ fn undo_join(
 fn undo_renumber(
     alloc: Global,
     sheet: &mut SheetWriter<'_>,
-    edit: &LastEdit<'_>,
+    edit: &UndoneEdit<'_>,
 ) -> Result<(), DraftFault> {
     let Some(name) = route_name(edit.line, 1) else {
         return Err(UNREAD);
@@ -136,7 +142,7 @@ fn undo_renumber(
 fn undo_recalibrate(
     alloc: Global,
     sheet: &mut SheetWriter<'_>,
-    edit: &LastEdit<'_>,
+    edit: &UndoneEdit<'_>,
 ) -> Result<(), DraftFault> {
     let Some(name) = route_name(edit.line, 1) else {
         return Err(UNREAD);
@@ -150,7 +156,7 @@ fn undo_recalibrate(
 fn undo_turn(
     alloc: Global,
     sheet: &mut SheetWriter<'_>,
-    edit: &LastEdit<'_>,
+    edit: &UndoneEdit<'_>,
 ) -> Result<(), DraftFault> {
     let Some(route) = route_name(edit.line, 1) else {
         return Err(UNREAD);
@@ -163,7 +169,7 @@ fn undo_turn(
 fn undo_route(
     alloc: Global,
     sheet: &mut SheetWriter<'_>,
-    edit: &LastEdit<'_>,
+    edit: &UndoneEdit<'_>,
 ) -> Result<(), DraftFault> {
     let Some(route) = route_name(edit.line, 1) else {
         return Err(UNREAD);
@@ -175,7 +181,7 @@ fn undo_route(
 fn undo_ref(
     alloc: Global,
     sheet: &mut SheetWriter<'_>,
-    edit: &LastEdit<'_>,
+    edit: &UndoneEdit<'_>,
 ) -> Result<(), DraftFault> {
     let Some(name) = referent_name(edit.line, 1) else {
         return Err(UNREAD);
@@ -218,7 +224,7 @@ fn write_referent_on(
 fn undo_unref(
     alloc: Global,
     sheet: &mut SheetWriter<'_>,
-    edit: &LastEdit<'_>,
+    edit: &UndoneEdit<'_>,
 ) -> Result<(), DraftFault> {
     let Some(name) = referent_name(edit.line, 1) else {
         return Err(UNREAD);
@@ -231,23 +237,12 @@ fn undo_unref(
     Err(UNREAD)
 }
 
-/// A new asset gives up all that it holds. It stays known.
-fn undo_enter(
-    alloc: Global,
-    sheet: &mut SheetWriter<'_>,
-    edit: &LastEdit<'_>,
-) -> Result<(), DraftFault> {
-    let Some(asset) = asset_number(edit.line, 1) else {
-        return Err(UNREAD);
-    };
-    write_retire(alloc, sheet, edit.now, asset)
-}
-
-/// Adds the records that undo an edit.
+/// Adds the records that undo an edit, but for what an asset holds that it entered.
 fn write_undone(
     alloc: Global,
     sheet: &mut SheetWriter<'_>,
-    edit: &LastEdit<'_>,
+    numbers: &mut NewNumbers,
+    edit: &UndoneEdit<'_>,
 ) -> Result<(), DraftFault> {
     match read_verb(field(edit.line, 0)) {
         Some(Verb::Split) => undo_split(alloc, sheet, edit),
@@ -258,45 +253,126 @@ fn write_undone(
         Some(Verb::Route) => undo_route(alloc, sheet, edit),
         Some(Verb::Ref) => undo_ref(alloc, sheet, edit),
         Some(Verb::Unref) => undo_unref(alloc, sheet, edit),
-        Some(Verb::Enter) => undo_enter(alloc, sheet, edit),
-        Some(Verb::Retire) => undo_retire(alloc, sheet, edit),
-        Some(Verb::Supersede) => undo_supersede(alloc, sheet, edit),
-        Some(Verb::Realign) => undo_realign(alloc, sheet, edit),
-        Some(Verb::Close) => undo_close(alloc, sheet, edit),
+        Some(Verb::Enter) => Ok(()),
+        Some(Verb::Retire) => undo_retire(alloc, sheet, numbers, edit),
+        Some(Verb::Supersede) => undo_supersede(alloc, sheet, numbers, edit),
+        Some(Verb::Realign) => undo_realign(alloc, sheet, numbers, edit),
+        Some(Verb::Close) => undo_close(alloc, sheet, numbers, edit),
         Some(Verb::Link) | Some(Verb::Class) => Err(STAYS),
         None => Err(UNREAD),
     }
 }
 
-/// The line of the last edit.
-fn last_line(kept: &ImageLists) -> Option<&[u8]> {
-    match kept.edits.as_slice() {
-        [.., last] => Some(last.line.as_str().as_bytes()),
-        [] => None,
+/// Adds the records by which the assets that an edit entered, or one behind it, give up all that they hold. They stay known.
+fn write_new_retired(
+    alloc: Global,
+    sheet: &mut SheetWriter<'_>,
+    kept: &ImageLists,
+    first: u64,
+) -> Result<(), DraftFault> {
+    for asset in kept.assets.iter() {
+        if asset.entered_by >= first && lies_anywhere(kept, asset.number) {
+            let Some(number) = AssetNumber::new(asset.number) else {
+                return Err(UNREAD);
+            };
+            write_retire(alloc, sheet, kept, number)?;
+        }
+    }
+    Ok(())
+}
+
+/// The records that undo an edit, with desks over what those before it made. The desks go on over what it made too.
+fn step_over<'a>(
+    alloc: Global,
+    sheet: &SheetWriter<'a>,
+    numbers: &mut NewNumbers,
+    kept: &ImageLists,
+    first: u64,
+    edit: u64,
+    was: &mut Desk<Plain>,
+    now: &mut Desk<Plain>,
+) -> Result<SheetWriter<'a>, DraftFault> {
+    let Some(row) = edit_numbered(&kept.edits, edit) else {
+        return Err(UNREAD);
+    };
+    do_edit(alloc, kept, edit, now)?;
+    let mut records = sheet.blank(alloc);
+    let undone = UndoneEdit {
+        line: row.line.as_str().as_bytes(),
+        was: was.inventory().kept(),
+        now: now.inventory().kept(),
+        first,
+    };
+    write_undone(alloc, &mut records, numbers, &undone)?;
+    do_edit(alloc, kept, edit, was)?;
+    Ok(records)
+}
+
+/// Adds the records that undo the edits from the first one on, with desks over what those before it made: those of the last
+/// edit come first.
+fn write_all_undone(
+    alloc: Global,
+    sheet: &mut SheetWriter<'_>,
+    numbers: &mut NewNumbers,
+    kept: &ImageLists,
+    first: u64,
+    was: &mut Desk<Plain>,
+    now: &mut Desk<Plain>,
+) -> Result<(), DraftFault> {
+    let end = (kept.edits.len() as u64).saturating_add(1);
+    let mut undone = Vec::new(alloc);
+    for edit in first..end {
+        let records = step_over(alloc, sheet, numbers, kept, first, edit, was, now)?;
+        undone.push(records)?;
+    }
+    for records in undone.iter().rev() {
+        sheet.append(alloc, records)?;
+    }
+    Ok(())
+}
+
+/// The same, with a desk alone over what those before the first one made.
+fn write_from_former(
+    alloc: Global,
+    sheet: &mut SheetWriter<'_>,
+    numbers: &mut NewNumbers,
+    kept: &ImageLists,
+    first: u64,
+    was: &mut Desk<Plain>,
+) -> Result<(), DraftFault> {
+    match copy_desk(alloc, was) {
+        Ok(copy) => {
+            let mut now = copy;
+            let written = write_all_undone(alloc, sheet, numbers, kept, first, was, &mut now);
+            discard_copy(now);
+            written
+        }
+        Err(AllocError) => Err(DraftFault::Memory),
     }
 }
 
-/// Adds the records that undo the last edit. Assets that it took away are entered anew, with numbers from `number` on.
+/// Adds the records that undo an edit and all behind it, or the last edit alone. First the assets go that they entered; assets
+/// that they took away are entered anew, with numbers from `number` on.
 ///
 /// # Errors
-/// `Impossible` where there is no edit, or it cannot be undone, and `Memory`.
+/// `Impossible` where there is no such edit, or one cannot be undone, and `Memory`.
 pub(crate) fn write_undo(
     alloc: Global,
     sheet: &mut SheetWriter<'_>,
     kept: &ImageLists,
+    from: Option<u64>,
     number: Option<AssetNumber>,
 ) -> Result<(), DraftFault> {
-    let Some(line) = last_line(kept) else {
-        return Err(NO_EDIT);
+    let Some(first) = first_undone(kept, from) else {
+        return match from {
+            Some(_) => Err(NOT_YET),
+            None => Err(NO_EDIT),
+        };
     };
-    let former = former_desk(alloc, kept)?;
-    let edit = LastEdit {
-        line,
-        was: former.inventory().kept(),
-        now: kept,
-        number,
-    };
-    let written = write_undone(alloc, sheet, &edit);
-    discard_copy(former);
+    write_new_retired(alloc, sheet, kept, first)?;
+    let mut numbers = NewNumbers::new(number);
+    let mut was = former_desk(alloc, kept, first)?;
+    let written = write_from_former(alloc, sheet, &mut numbers, kept, first, &mut was);
+    discard_copy(was);
     written
 }

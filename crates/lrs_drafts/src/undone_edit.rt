@@ -1,4 +1,8 @@
-//! The last edit: its line, and the inventory before it and after it.
+//! An edit that is undone: its line, and the inventory before it and after it.
+
+ghost use Rattle.std.specs.Prelude.{◌≤◌, SomeIff, length};
+ghost use Rattle.lrs_image.specs.OpenLists.{image_of};
+ghost use Rattle.lrs_drafts.specs.Drafts as spec;
 
 use crate::fault::DraftFault;
 use lrs_image::ImageLists;
@@ -12,13 +16,32 @@ pub(crate) const UNREAD: DraftFault = DraftFault::Impossible(
     "this edit cannot be undone by a draft yet",
 );
 
-/// The last edit: its line, the inventories before and after it, and from which number on new assets are entered.
+/// An edit that is undone: its line, the inventories before and after it, and the number of the first edit that is undone
+/// with it.
 #[derive(Clone, Copy)]
-pub(crate) struct LastEdit<'a> {
+pub(crate) struct UndoneEdit<'a> {
     pub line: &'a [u8],
     pub was: &'a ImageLists,
     pub now: &'a ImageLists,
-    pub number: Option<AssetNumber>,
+    pub first: u64,
+}
+
+/// The number of the first edit that is undone, if there is such an edit: the last one's where none is given.
+pub(crate) fn first_undone(kept: &ImageLists, from: Option<u64>) -> Option<u64>
+    ensures { SomeIff result ((1 ≤ spec.first_undone from (image_of kept.now))
+        × (spec.first_undone from (image_of kept.now) ≤ length (image_of kept.now).edits))
+        (spec.first_undone from (image_of kept.now)) }
+{
+    let count = kept.edits.len() as u64;
+    let first = match from {
+        Some(edit) => edit,
+        None => count,
+    };
+    if 1 <= first && first <= count {
+        Some(first)
+    } else {
+        None
+    }
 }
 
 /// The field of a line with so many fields before it, the verb included; no text where there is none.
