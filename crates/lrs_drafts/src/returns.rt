@@ -1,13 +1,13 @@
 //! What gives back places that an edit took away, under new numbers.
 
-use crate::asset_drafts::{NO_ASSET, asset_in, kind_of, route_in};
+use crate::asset_drafts::{NO_ASSET, asset_in, kind_of};
 use crate::fault::DraftFault;
 use crate::keys::SheetWriter;
 use crate::placement::{BAD_OFFSET, Placement, entry_like, write_from, write_placed};
 use crate::positions::{Extent, chainage_at};
 use crate::undo::mark_list;
 use crate::undone_edit::{
-    UNREAD, UndoneEdit, asset_number, chainage, expressions, field, route_name,
+    UNREAD, UndoneEdit, asset_number, chainage, expressions, field, route_named,
 };
 use lrs_element::Course;
 use lrs_events::{Asset, ClassName, Kind, Side, Span, read_side};
@@ -200,21 +200,14 @@ pub(crate) fn undo_retire(
     numbers: &mut NewNumbers,
     edit: &UndoneEdit<'_>,
 ) -> Result<(), DraftFault> {
-    let Some(asset) = asset_number(edit.line, 1) else {
-        return Err(UNREAD);
-    };
-    let Some(name) = route_name(edit.line, 2) else {
-        return Err(UNREAD);
-    };
-    let Some(row) = route_in(edit.was, &name) else {
-        return Err(UNREAD);
-    };
+    let asset = asset_number(edit.line, 1)?;
+    let row = route_named(edit.was, edit.line, 2)?;
     let (from, to) = reach(&row.route, edit.line, 3)?;
     let taken = Taken {
         from,
         to,
         side: Side::B,
-        asset: Some(asset.get()),
+        asset: Some(asset),
         class: None,
     };
     write_taken(alloc, sheet, numbers, edit, row, &taken)
@@ -237,12 +230,7 @@ pub(crate) fn undo_supersede(
     let Some((class, side)) = class_and_side(edit.line) else {
         return Err(UNREAD);
     };
-    let Some(name) = route_name(edit.line, 3) else {
-        return Err(UNREAD);
-    };
-    let Some(row) = route_in(edit.was, &name) else {
-        return Err(UNREAD);
-    };
+    let row = route_named(edit.was, edit.line, 3)?;
     let (from, to) = reach(&row.route, edit.line, 5)?;
     let taken = Taken {
         from,
@@ -367,17 +355,10 @@ pub(crate) fn undo_realign(
     numbers: &mut NewNumbers,
     edit: &UndoneEdit<'_>,
 ) -> Result<(), DraftFault> {
-    let Some(name) = route_name(edit.line, 1) else {
-        return Err(UNREAD);
-    };
     let from = chainage(edit.line, 2)?;
     let to = chainage(edit.line, 3)?;
-    let Some(row) = route_in(edit.was, &name) else {
-        return Err(UNREAD);
-    };
-    let Some(now) = route_in(edit.now, &name) else {
-        return Err(UNREAD);
-    };
+    let row = route_named(edit.was, edit.line, 1)?;
+    let now = route_named(edit.now, edit.line, 1)?;
     write_realigned(alloc, sheet, &row.route, &now.route, from, to)?;
     let remaining = remaining_referent(&row.route, &now.route);
     write_referents(alloc, sheet, edit.was, &row.route, remaining, from, to)?;
@@ -411,12 +392,7 @@ pub(crate) fn undo_close(
     numbers: &mut NewNumbers,
     edit: &UndoneEdit<'_>,
 ) -> Result<(), DraftFault> {
-    let Some(name) = route_name(edit.line, 1) else {
-        return Err(UNREAD);
-    };
-    let Some(row) = route_in(edit.was, &name) else {
-        return Err(UNREAD);
-    };
+    let row = route_named(edit.was, edit.line, 1)?;
     let end = row.route.length();
     write_route(alloc, sheet, &row.route)?;
     write_referents(alloc, sheet, edit.was, &row.route, None, 0, end)?;

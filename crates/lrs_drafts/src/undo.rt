@@ -1,13 +1,15 @@
 //! What undoes edits, by their verbs.
 
-use crate::asset_drafts::{lies_anywhere, route_in, write_retire};
+use crate::asset_drafts::{lies_anywhere, write_retire};
 use crate::fault::DraftFault;
 use crate::former_desk::{do_edit, former_desk};
 use crate::keys::SheetWriter;
 use crate::placement::{Placement, write_from};
 use crate::positions::Extent;
 use crate::returns::{NewNumbers, undo_close, undo_realign, undo_retire, undo_supersede};
-use crate::undone_edit::{UNREAD, UndoneEdit, field, first_undone, referent_name, route_name};
+use crate::undone_edit::{
+    UNREAD, UndoneEdit, field, first_undone, referent_name, route_name, route_named,
+};
 use lrs_desk::{Desk, Plain};
 use lrs_element::{Mark, Marks};
 use lrs_image::ImageLists;
@@ -62,12 +64,8 @@ fn undo_split(
     sheet: &mut SheetWriter<'_>,
     edit: &UndoneEdit<'_>,
 ) -> Result<(), DraftFault> {
-    let Some(first) = route_name(edit.line, 1) else {
-        return Err(UNREAD);
-    };
-    let Some(second) = route_name(edit.line, 3) else {
-        return Err(UNREAD);
-    };
+    let first = route_name(edit.line, 1)?;
+    let second = route_name(edit.line, 3)?;
     let command = Command::Join { first, second };
     sheet.add(alloc, &command)
 }
@@ -97,31 +95,21 @@ fn undo_join(
     sheet: &mut SheetWriter<'_>,
     edit: &UndoneEdit<'_>,
 ) -> Result<(), DraftFault> {
-    let Some(first) = route_name(edit.line, 1) else {
-        return Err(UNREAD);
-    };
-    let Some(second) = route_name(edit.line, 2) else {
-        return Err(UNREAD);
-    };
-    let Some(first_row) = route_in(edit.was, &first) else {
-        return Err(UNREAD);
-    };
-    let Some(second_row) = route_in(edit.was, &second) else {
-        return Err(UNREAD);
-    };
-    let Some(at) = Chainage::new(first_row.route.length()) else {
+    let first = &route_named(edit.was, edit.line, 1)?.route;
+    let second = &route_named(edit.was, edit.line, 2)?.route;
+    let Some(at) = Chainage::new(first.length()) else {
         return Err(UNREAD);
     };
     let command = Command::Split {
-        route: first_row.route.name,
+        route: first.name,
         at,
-        name: second_row.route.name,
+        name: second.name,
     };
     sheet.add(alloc, &command)?;
-    if goes_on(&first_row.route, &second_row.route) {
+    if goes_on(first, second) {
         return Ok(());
     }
-    write_marks(alloc, sheet, &second, &second_row.route.marks)
+    write_marks(alloc, sheet, &second.name, &second.marks)
 }
 
 fn undo_renumber(
@@ -129,12 +117,8 @@ fn undo_renumber(
     sheet: &mut SheetWriter<'_>,
     edit: &UndoneEdit<'_>,
 ) -> Result<(), DraftFault> {
-    let Some(name) = route_name(edit.line, 1) else {
-        return Err(UNREAD);
-    };
-    let Some(route) = route_name(edit.line, 2) else {
-        return Err(UNREAD);
-    };
+    let name = route_name(edit.line, 1)?;
+    let route = route_name(edit.line, 2)?;
     let command = Command::Renumber { route, name };
     sheet.add(alloc, &command)
 }
@@ -144,13 +128,8 @@ fn undo_recalibrate(
     sheet: &mut SheetWriter<'_>,
     edit: &UndoneEdit<'_>,
 ) -> Result<(), DraftFault> {
-    let Some(name) = route_name(edit.line, 1) else {
-        return Err(UNREAD);
-    };
-    let Some(row) = route_in(edit.was, &name) else {
-        return Err(UNREAD);
-    };
-    write_marks(alloc, sheet, &name, &row.route.marks)
+    let route = &route_named(edit.was, edit.line, 1)?.route;
+    write_marks(alloc, sheet, &route.name, &route.marks)
 }
 
 fn undo_turn(
@@ -158,9 +137,7 @@ fn undo_turn(
     sheet: &mut SheetWriter<'_>,
     edit: &UndoneEdit<'_>,
 ) -> Result<(), DraftFault> {
-    let Some(route) = route_name(edit.line, 1) else {
-        return Err(UNREAD);
-    };
+    let route = route_name(edit.line, 1)?;
     let command = Command::Turn { route };
     sheet.add(alloc, &command)
 }
@@ -171,9 +148,7 @@ fn undo_route(
     sheet: &mut SheetWriter<'_>,
     edit: &UndoneEdit<'_>,
 ) -> Result<(), DraftFault> {
-    let Some(route) = route_name(edit.line, 1) else {
-        return Err(UNREAD);
-    };
+    let route = route_name(edit.line, 1)?;
     let command = Command::Close { route };
     sheet.add(alloc, &command)
 }
@@ -183,9 +158,7 @@ fn undo_ref(
     sheet: &mut SheetWriter<'_>,
     edit: &UndoneEdit<'_>,
 ) -> Result<(), DraftFault> {
-    let Some(name) = referent_name(edit.line, 1) else {
-        return Err(UNREAD);
-    };
+    let name = referent_name(edit.line, 1)?;
     let command = Command::Unref { name };
     sheet.add(alloc, &command)
 }
@@ -226,9 +199,7 @@ fn undo_unref(
     sheet: &mut SheetWriter<'_>,
     edit: &UndoneEdit<'_>,
 ) -> Result<(), DraftFault> {
-    let Some(name) = referent_name(edit.line, 1) else {
-        return Err(UNREAD);
-    };
+    let name = referent_name(edit.line, 1)?;
     for row in edit.was.routes.iter() {
         if write_referent_on(alloc, sheet, edit.was, &row.route, &name)? {
             return Ok(());

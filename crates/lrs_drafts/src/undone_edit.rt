@@ -4,9 +4,10 @@ ghost use Rattle.std.specs.Prelude.{◌≤◌, SomeIff, length};
 ghost use Rattle.lrs_image.specs.OpenLists.{image_of};
 ghost use Rattle.lrs_drafts.specs.Drafts as spec;
 
+use crate::asset_drafts::route_in;
 use crate::fault::DraftFault;
 use lrs_image::ImageLists;
-use lrs_machine::AssetNumber;
+use lrs_machine::RouteRow;
 use lrs_measure::limits::{GREATEST_ASSET, LONGEST_ROUTE};
 use lrs_measure::read_digits;
 use lrs_position::{Expr, RefName, RouteName, read_expr, read_method};
@@ -58,19 +59,40 @@ pub(crate) fn field(line: &[u8], passed: u32) -> &[u8] {
 }
 
 /// The route that a field names.
-pub(crate) fn route_name(line: &[u8], passed: u32) -> Option<RouteName> {
-    RouteName::new(field(line, passed))
+pub(crate) fn route_name(line: &[u8], passed: u32) -> Result<RouteName, DraftFault> {
+    match RouteName::new(field(line, passed)) {
+        Some(name) => Ok(name),
+        None => Err(UNREAD),
+    }
+}
+
+/// The route that a field names, with what lies on it.
+pub(crate) fn route_named<'a>(
+    kept: &'a ImageLists,
+    line: &[u8],
+    passed: u32,
+) -> Result<&'a RouteRow, DraftFault> {
+    let name = route_name(line, passed)?;
+    match route_in(kept, &name) {
+        Some(row) => Ok(row),
+        None => Err(UNREAD),
+    }
 }
 
 /// The referent that a field names.
-pub(crate) fn referent_name(line: &[u8], passed: u32) -> Option<RefName> {
-    RefName::new(field(line, passed))
+pub(crate) fn referent_name(line: &[u8], passed: u32) -> Result<RefName, DraftFault> {
+    match RefName::new(field(line, passed)) {
+        Some(name) => Ok(name),
+        None => Err(UNREAD),
+    }
 }
 
 /// The asset whose number a field has.
-pub(crate) fn asset_number(line: &[u8], passed: u32) -> Option<AssetNumber> {
-    let number = read_digits(field(line, passed), GREATEST_ASSET)?;
-    AssetNumber::new(number)
+pub(crate) fn asset_number(line: &[u8], passed: u32) -> Result<u64, DraftFault> {
+    match read_digits(field(line, passed), GREATEST_ASSET) {
+        Some(number) => Ok(number),
+        None => Err(UNREAD),
+    }
 }
 
 /// The chainage that a field has, in millimetres.
