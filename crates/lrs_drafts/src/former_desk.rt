@@ -58,6 +58,22 @@ pub(crate) fn former_desk(
     Ok(desk)
 }
 
+/// Does an edit sheet at a desk in memory.
+///
+/// # Errors
+/// When memory runs out.
+pub(crate) fn do_text<K: Keeper>(
+    alloc: Global,
+    sheet: &[u8],
+    desk: &mut Desk<K>,
+) -> Result<(), AllocError> {
+    let mut replies = io::sink();
+    match run_edits(alloc, sheet, &mut replies, desk) {
+        Ok(_) => Ok(()),
+        Err(_) => Err(AllocError),
+    }
+}
+
 /// Does the edit of a number at a desk over what those before it made.
 ///
 /// # Errors
@@ -69,9 +85,5 @@ pub(crate) fn do_edit<K: Keeper>(
     desk: &mut Desk<K>,
 ) -> Result<(), AllocError> {
     let text = log_between(alloc, kept, edit, edit)?;
-    let mut replies = io::sink();
-    match run_edits(alloc, text.as_slice(), &mut replies, desk) {
-        Ok(_) => Ok(()),
-        Err(_) => Err(AllocError),
-    }
+    do_text(alloc, text.as_slice(), desk)
 }

@@ -12,6 +12,7 @@ mod fronts;
 mod ground;
 mod holdings;
 mod keys;
+mod lost_rows;
 mod marks;
 mod placement;
 mod positions;

@@ -2,11 +2,12 @@
 
 use crate::asset_drafts::{lies_anywhere, write_retire};
 use crate::fault::DraftFault;
-use crate::former_desk::{do_edit, former_desk};
+use crate::former_desk::{do_edit, do_text, former_desk};
 use crate::keys::SheetWriter;
+use crate::lost_rows::write_lost_rows;
 use crate::placement::{Placement, write_from};
 use crate::positions::Extent;
-use crate::returns::{NewNumbers, undo_close, undo_realign, undo_retire, undo_supersede};
+use crate::returns::{undo_close, undo_realign};
 use crate::undone_edit::{
     UNREAD, UndoneEdit, field, first_undone, referent_name, route_name, route_named,
 };
@@ -208,11 +209,10 @@ fn undo_unref(
     Err(UNREAD)
 }
 
-/// Adds the records that undo an edit, but for what an asset holds that it entered.
+/// Adds the records that undo what an edit did to routes and referents.
 fn write_undone(
     alloc: Global,
     sheet: &mut SheetWriter<'_>,
-    numbers: &mut NewNumbers,
     edit: &UndoneEdit<'_>,
 ) -> Result<(), DraftFault> {
     match read_verb(field(edit.line, 0)) {
@@ -224,11 +224,9 @@ fn write_undone(
         Some(Verb::Route) => undo_route(alloc, sheet, edit),
         Some(Verb::Ref) => undo_ref(alloc, sheet, edit),
         Some(Verb::Unref) => undo_unref(alloc, sheet, edit),
-        Some(Verb::Enter) => Ok(()),
-        Some(Verb::Retire) => undo_retire(alloc, sheet, numbers, edit),
-        Some(Verb::Supersede) => undo_supersede(alloc, sheet, numbers, edit),
-        Some(Verb::Realign) => undo_realign(alloc, sheet, numbers, edit),
-        Some(Verb::Close) => undo_close(alloc, sheet, numbers, edit),
+        Some(Verb::Realign) => undo_realign(alloc, sheet, edit),
+        Some(Verb::Close) => undo_close(alloc, sheet, edit),
+        Some(Verb::Enter) | Some(Verb::Retire) | Some(Verb::Supersede) => Ok(()),
         Some(Verb::Link) | Some(Verb::Class) => Err(STAYS),
         None => Err(UNREAD),
     }
@@ -252,13 +250,12 @@ fn write_new_retired(
     Ok(())
 }
 
-/// The records that undo an edit, with desks over what those before it made. The desks go on over what it made too.
+/// The records that undo what an edit did to routes, with desks over what those before it made. The desks go on over what it
+/// made too.
 fn step_over<'a>(
     alloc: Global,
     sheet: &SheetWriter<'a>,
-    numbers: &mut NewNumbers,
     kept: &ImageLists,
-    first: u64,
     edit: u64,
     was: &mut Desk<Plain>,
     now: &mut Desk<Plain>,
@@ -272,19 +269,17 @@ fn step_over<'a>(
         line: row.line.as_str().as_bytes(),
         was: was.inventory().kept(),
         now: now.inventory().kept(),
-        first,
     };
-    write_undone(alloc, &mut records, numbers, &undone)?;
+    write_undone(alloc, &mut records, &undone)?;
     do_edit(alloc, kept, edit, was)?;
     Ok(records)
 }
 
-/// Adds the records that undo the edits from the first one on, with desks over what those before it made: those of the last
-/// edit come first.
-fn write_all_undone(
+/// Adds the records that undo what the edits from the first one on did to routes, with desks over what those before it made:
+/// those of the last edit come first. The desks go on over what all made.
+fn write_steps(
     alloc: Global,
     sheet: &mut SheetWriter<'_>,
-    numbers: &mut NewNumbers,
     kept: &ImageLists,
     first: u64,
     was: &mut Desk<Plain>,
@@ -293,7 +288,7 @@ fn write_all_undone(
     let end = (kept.edits.len() as u64).saturating_add(1);
     let mut undone = Vec::new(alloc);
     for edit in first..end {
-        let records = step_over(alloc, sheet, numbers, kept, first, edit, was, now)?;
+        let records = step_over(alloc, sheet, kept, edit, was, now)?;
         undone.push(records)?;
     }
     for records in undone.iter().rev() {
@@ -302,19 +297,18 @@ fn write_all_undone(
     Ok(())
 }
 
-/// The same, with a desk alone over what those before the first one made.
-fn write_from_former(
+/// The same, with one desk: another one is a copy of it for a while.
+fn write_routes_undone(
     alloc: Global,
     sheet: &mut SheetWriter<'_>,
-    numbers: &mut NewNumbers,
     kept: &ImageLists,
     first: u64,
-    was: &mut Desk<Plain>,
+    desk: &mut Desk<Plain>,
 ) -> Result<(), DraftFault> {
-    match copy_desk(alloc, was) {
+    match copy_desk(alloc, desk) {
         Ok(copy) => {
             let mut now = copy;
-            let written = write_all_undone(alloc, sheet, numbers, kept, first, was, &mut now);
+            let written = write_steps(alloc, sheet, kept, first, desk, &mut now);
             discard_copy(now);
             written
         }
@@ -322,8 +316,41 @@ fn write_from_former(
     }
 }
 
-/// Adds the records that undo an edit and all behind it, or the last edit alone. First the assets go that they entered; assets
-/// that they took away are entered anew, with numbers from `number` on.
+/// Adds the records that enter anew what assets lost by the edits from the first one on: what they hold no more when the
+/// records so far are done at a desk over what all edits made.
+fn write_assets_undone(
+    alloc: Global,
+    sheet: &mut SheetWriter<'_>,
+    kept: &ImageLists,
+    first: u64,
+    number: Option<AssetNumber>,
+    desk: &mut Desk<Plain>,
+) -> Result<(), DraftFault> {
+    let text = sheet.text(alloc)?;
+    do_text(alloc, text.as_slice(), desk)?;
+    let former = former_desk(alloc, kept, first)?;
+    let was = former.inventory().kept();
+    let written = write_lost_rows(alloc, sheet, was, desk.inventory().kept(), number);
+    discard_copy(former);
+    written
+}
+
+/// Adds the records that undo the edits from the first one on, but for those by which assets go, with a desk over what those
+/// before it made.
+fn write_all_undone(
+    alloc: Global,
+    sheet: &mut SheetWriter<'_>,
+    kept: &ImageLists,
+    first: u64,
+    number: Option<AssetNumber>,
+    desk: &mut Desk<Plain>,
+) -> Result<(), DraftFault> {
+    write_routes_undone(alloc, sheet, kept, first, desk)?;
+    write_assets_undone(alloc, sheet, kept, first, number, desk)
+}
+
+/// Adds the records that undo an edit and all behind it, or the last edit alone. First go the assets that they entered, then
+/// routes are put back, and at last assets that they took away are entered anew, with numbers from `number` on.
 ///
 /// # Errors
 /// `Impossible` where there is no such edit, or one cannot be undone, and `Memory`.
@@ -341,9 +368,8 @@ pub(crate) fn write_undo(
         };
     };
     write_new_retired(alloc, sheet, kept, first)?;
-    let mut numbers = NewNumbers::new(number);
-    let mut was = former_desk(alloc, kept, first)?;
-    let written = write_from_former(alloc, sheet, &mut numbers, kept, first, &mut was);
-    discard_copy(was);
+    let mut desk = former_desk(alloc, kept, first)?;
+    let written = write_all_undone(alloc, sheet, kept, first, number, &mut desk);
+    discard_copy(desk);
     written
 }

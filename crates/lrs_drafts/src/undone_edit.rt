@@ -8,23 +8,21 @@ use crate::asset_drafts::route_in;
 use crate::fault::DraftFault;
 use lrs_image::ImageLists;
 use lrs_machine::RouteRow;
-use lrs_measure::limits::{GREATEST_ASSET, LONGEST_ROUTE};
+use lrs_measure::limits::LONGEST_ROUTE;
 use lrs_measure::read_digits;
-use lrs_position::{Expr, RefName, RouteName, read_expr, read_method};
+use lrs_position::{RefName, RouteName};
 use lrs_sheet_records::cut_at;
 
 pub(crate) const UNREAD: DraftFault = DraftFault::Impossible(
     "this edit cannot be undone by a draft yet",
 );
 
-/// An edit that is undone: its line, the inventories before and after it, and the number of the first edit that is undone
-/// with it.
+/// An edit that is undone: its line, and the inventories before and after it.
 #[derive(Clone, Copy)]
 pub(crate) struct UndoneEdit<'a> {
     pub line: &'a [u8],
     pub was: &'a ImageLists,
     pub now: &'a ImageLists,
-    pub first: u64,
 }
 
 /// The number of the first edit that is undone, if there is such an edit: the last one's where none is given.
@@ -87,30 +85,10 @@ pub(crate) fn referent_name(line: &[u8], passed: u32) -> Result<RefName, DraftFa
     }
 }
 
-/// The asset whose number a field has.
-pub(crate) fn asset_number(line: &[u8], passed: u32) -> Result<u64, DraftFault> {
-    match read_digits(field(line, passed), GREATEST_ASSET) {
-        Some(number) => Ok(number),
-        None => Err(UNREAD),
-    }
-}
-
 /// The chainage that a field has, in millimetres.
 pub(crate) fn chainage(line: &[u8], passed: u32) -> Result<u64, DraftFault> {
     match read_digits(field(line, passed), LONGEST_ROUTE) {
         Some(chainage) => Ok(chainage),
         None => Err(UNREAD),
     }
-}
-
-/// The position that the field behind `passed` ones has, by the method of another field.
-fn expression(line: &[u8], method: u32, passed: u32) -> Option<Expr> {
-    let method = read_method(field(line, method))?;
-    read_expr(method, field(line, passed))
-}
-
-/// The positions that a line has behind its method, the second only where its field is not empty.
-pub(crate) fn expressions(line: &[u8], method: u32) -> Option<(Expr, Option<Expr>)> {
-    let from = expression(line, method, method.saturating_add(1))?;
-    Some((from, expression(line, method, method.saturating_add(2))))
 }
