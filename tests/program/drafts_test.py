@@ -253,13 +253,13 @@ def test_assets_that_come_and_go_are_undone_together(road):
 
 
 def test_what_several_edits_took_away_is_undone_with_new_assets(road):
-    superseded = [f"supersede,{number},SPEED,A1,B,abs,{low},{high},30,0" for number, low, high in ((22, 2000, 3000), (23, 5000, 5500), (24, 2200, 2400))]
+    superseded = [f"supersede,{number},SPEED,A1,B,abs,{low},{high},30,0" for number, low, high in ((22, 2000, 3000), (23, 2500, 3500), (24, 5000, 5500))]
     db = changed(road, *superseded, "retire,2,A1,abs,3500,", "turn,A1")
     # assets were taken away, and there are no numbers for new ones
     is_not_drafted(drafted(db, "undo", "13"))
     told = differs_undone(road, db, "13", "--number", "500")
     entered = [line.split(",")[2] for line in told if line.startswith("+,asset,")]
-    # each new asset has a number of its own, and holds what one of before held
+    # what one asset lost side by side is one new asset's, and each has a number of its own
     assert entered == ["22", "23", "24", "500", "501", "502"], told
     was = sorted(line.split(",", 3)[3] for line in told if line.startswith("-,holds,"))
     now = sorted(line.split(",", 3)[3] for line in told if line.startswith("+,holds,"))
