@@ -31,6 +31,14 @@ fn log_between(
     }
 }
 
+/// The log up to the edit before the one of a number.
+fn former_log(alloc: Global, kept: &ImageLists, edit: u64) -> Result<Vec<u8>, AllocError>
+    ensures { IfOk result (λ text. text.items
+        ≡ log_text 1 (Some (edit - 1)) (image_of kept.now)) }
+{
+    log_between(alloc, kept, 1, edit.saturating_sub(1))
+}
+
 /// Does a log at a desk over the empty inventory.
 fn run_at<K: Keeper>(alloc: Global, text: &[u8], desk: &mut Desk<K>)
     requires fresh { desk.old.image ≡ nothing }
@@ -52,7 +60,7 @@ pub(crate) fn former_desk(
     ensures { IfOk result (λ desk. IsMadeBy (log_text 1 (Some (edit - 1)) (image_of kept.now))
         desk.image) }
 {
-    let text = log_between(alloc, kept, 1, edit.saturating_sub(1))?;
+    let text = former_log(alloc, kept, edit)?;
     let mut desk = empty_desk(alloc)?;
     run_at(alloc, text.as_slice(), &mut desk);
     Ok(desk)

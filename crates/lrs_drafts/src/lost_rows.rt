@@ -39,10 +39,11 @@ fn push_part(
 ) -> Result<(), AllocError> {
     if from < to {
         lost.push(Span {
+            asset: row.asset,
+            class: row.class,
             from,
             to,
             side,
-            ..*row
         })?;
     }
     Ok(())

@@ -83,8 +83,9 @@ fn is_back_at<K: Keeper>(
 ) -> Result<bool, AllocError>
     requires after { IsSound (image_of after.now) }
     requires first { first ≡ spec.first_undone from (image_of before.now) }
-    requires not_before { 1 ≤ first }
-    requires not_behind { first ≤ length (image_of before.now).edits }
+    requires not_before { 1 ≤ spec.first_undone from (image_of before.now) }
+    requires not_behind { spec.first_undone from (image_of before.now)
+        ≤ length (image_of before.now).edits }
     requires made { IsMadeBy (log_text 1 (Some (first - 1)) (image_of before.now))
         former.now.image }
     ensures { IfOk result (λ undone. undone ≡ true
