@@ -60,15 +60,44 @@ pub(crate) fn write_marks(
 }
 
 /// A split is undone by a join: the measures of the second part go on where those of the first end.
-fn undo_split(
+fn join_of(line: &[u8]) -> Option<Command> {
+    let first = route_name(line, 1)?;
+    let second = route_name(line, 3)?;
+    Some(Command::Join { first, second })
+}
+
+fn renumber_of(line: &[u8]) -> Option<Command> {
+    let name = route_name(line, 1)?;
+    let route = route_name(line, 2)?;
+    Some(Command::Renumber { route, name })
+}
+
+fn turn_of(line: &[u8]) -> Option<Command> {
+    let route = route_name(line, 1)?;
+    Some(Command::Turn { route })
+}
+
+/// A new route is closed: nothing lies on it yet.
+fn close_of(line: &[u8]) -> Option<Command> {
+    let route = route_name(line, 1)?;
+    Some(Command::Close { route })
+}
+
+fn unref_of(line: &[u8]) -> Option<Command> {
+    let name = referent_name(line, 1)?;
+    Some(Command::Unref { name })
+}
+
+/// Adds the record of a command, if there is one.
+fn write_command(
     alloc: Global,
     sheet: &mut SheetWriter<'_>,
-    edit: &UndoneEdit<'_>,
+    command: Option<Command>,
 ) -> Result<(), DraftFault> {
-    let first = route_name(edit.line, 1)?;
-    let second = route_name(edit.line, 3)?;
-    let command = Command::Join { first, second };
-    sheet.add(alloc, &command)
+    match &command {
+        Some(command) => sheet.add(alloc, command),
+        None => Err(UNREAD),
+    }
 }
 
 fn first_measure(marks: &[Mark]) -> u64 {
@@ -113,17 +142,6 @@ fn undo_join(
     write_marks(alloc, sheet, &second.name, &second.marks)
 }
 
-fn undo_renumber(
-    alloc: Global,
-    sheet: &mut SheetWriter<'_>,
-    edit: &UndoneEdit<'_>,
-) -> Result<(), DraftFault> {
-    let name = route_name(edit.line, 1)?;
-    let route = route_name(edit.line, 2)?;
-    let command = Command::Renumber { route, name };
-    sheet.add(alloc, &command)
-}
-
 fn undo_recalibrate(
     alloc: Global,
     sheet: &mut SheetWriter<'_>,
@@ -131,37 +149,6 @@ fn undo_recalibrate(
 ) -> Result<(), DraftFault> {
     let route = &route_named(edit.was, edit.line, 1)?.route;
     write_marks(alloc, sheet, &route.name, &route.marks)
-}
-
-fn undo_turn(
-    alloc: Global,
-    sheet: &mut SheetWriter<'_>,
-    edit: &UndoneEdit<'_>,
-) -> Result<(), DraftFault> {
-    let route = route_name(edit.line, 1)?;
-    let command = Command::Turn { route };
-    sheet.add(alloc, &command)
-}
-
-/// A new route is closed: nothing lies on it yet.
-fn undo_route(
-    alloc: Global,
-    sheet: &mut SheetWriter<'_>,
-    edit: &UndoneEdit<'_>,
-) -> Result<(), DraftFault> {
-    let route = route_name(edit.line, 1)?;
-    let command = Command::Close { route };
-    sheet.add(alloc, &command)
-}
-
-fn undo_ref(
-    alloc: Global,
-    sheet: &mut SheetWriter<'_>,
-    edit: &UndoneEdit<'_>,
-) -> Result<(), DraftFault> {
-    let name = referent_name(edit.line, 1)?;
-    let command = Command::Unref { name };
-    sheet.add(alloc, &command)
 }
 
 /// A referent of a route that has another name.
@@ -200,7 +187,9 @@ fn undo_unref(
     sheet: &mut SheetWriter<'_>,
     edit: &UndoneEdit<'_>,
 ) -> Result<(), DraftFault> {
-    let name = referent_name(edit.line, 1)?;
+    let Some(name) = referent_name(edit.line, 1) else {
+        return Err(UNREAD);
+    };
     for row in edit.was.routes.iter() {
         if write_referent_on(alloc, sheet, edit.was, &row.route, &name)? {
             return Ok(());
@@ -216,13 +205,13 @@ fn write_undone(
     edit: &UndoneEdit<'_>,
 ) -> Result<(), DraftFault> {
     match read_verb(field(edit.line, 0)) {
-        Some(Verb::Split) => undo_split(alloc, sheet, edit),
+        Some(Verb::Split) => write_command(alloc, sheet, join_of(edit.line)),
         Some(Verb::Join) => undo_join(alloc, sheet, edit),
-        Some(Verb::Turn) => undo_turn(alloc, sheet, edit),
-        Some(Verb::Renumber) => undo_renumber(alloc, sheet, edit),
+        Some(Verb::Turn) => write_command(alloc, sheet, turn_of(edit.line)),
+        Some(Verb::Renumber) => write_command(alloc, sheet, renumber_of(edit.line)),
         Some(Verb::Recalibrate) => undo_recalibrate(alloc, sheet, edit),
-        Some(Verb::Route) => undo_route(alloc, sheet, edit),
-        Some(Verb::Ref) => undo_ref(alloc, sheet, edit),
+        Some(Verb::Route) => write_command(alloc, sheet, close_of(edit.line)),
+        Some(Verb::Ref) => write_command(alloc, sheet, unref_of(edit.line)),
         Some(Verb::Unref) => undo_unref(alloc, sheet, edit),
         Some(Verb::Realign) => undo_realign(alloc, sheet, edit),
         Some(Verb::Close) => undo_close(alloc, sheet, edit),

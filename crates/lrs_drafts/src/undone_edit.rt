@@ -57,11 +57,8 @@ pub(crate) fn field(line: &[u8], passed: u32) -> &[u8] {
 }
 
 /// The route that a field names.
-pub(crate) fn route_name(line: &[u8], passed: u32) -> Result<RouteName, DraftFault> {
-    match RouteName::new(field(line, passed)) {
-        Some(name) => Ok(name),
-        None => Err(UNREAD),
-    }
+pub(crate) fn route_name(line: &[u8], passed: u32) -> Option<RouteName> {
+    RouteName::new(field(line, passed))
 }
 
 /// The route that a field names, with what lies on it.
@@ -70,7 +67,9 @@ pub(crate) fn route_named<'a>(
     line: &[u8],
     passed: u32,
 ) -> Result<&'a RouteRow, DraftFault> {
-    let name = route_name(line, passed)?;
+    let Some(name) = route_name(line, passed) else {
+        return Err(UNREAD);
+    };
     match route_in(kept, &name) {
         Some(row) => Ok(row),
         None => Err(UNREAD),
@@ -78,11 +77,8 @@ pub(crate) fn route_named<'a>(
 }
 
 /// The referent that a field names.
-pub(crate) fn referent_name(line: &[u8], passed: u32) -> Result<RefName, DraftFault> {
-    match RefName::new(field(line, passed)) {
-        Some(name) => Ok(name),
-        None => Err(UNREAD),
-    }
+pub(crate) fn referent_name(line: &[u8], passed: u32) -> Option<RefName> {
+    RefName::new(field(line, passed))
 }
 
 /// The chainage that a field has, in millimetres.
