@@ -1,17 +1,13 @@
 -- What the tests of stretches decide of the places that assets hold.
-use Rattle.std.proofs.Common.{◌≡◌, ◌<◌, ◌≤◌, arith, ℕ, Bool, true, false, cond, not, List, [], ◌∷◌, map, refl, sym, ap, subst, ◌∙◌}
-use Rattle.std.specs.Prelude.{◌&&◌, ◌||◌, ◌↔◌, IsTrue, nat_eq, nat_le, nat_lt}
+use Rattle.std.proofs.Common.{◌≡◌, ℕ, Bool, true, false, cond, not, List, [], ◌∷◌, map, refl, sym, ap, subst, ◌∙◌}
+use Rattle.std.specs.Prelude.{◌&&◌, ◌||◌, nat_eq}
 use Rattle.std.specs.Cmp.Lexicographic.{pointwise, pointwise_decides}
 use Rattle.std.specs.List.{list_any}
 use Rattle.std.specs.List.Sorted.{IsPermutation}
-use Rattle.std.proofs.lemmas.Bool.{false≢true, and_parts, and_from, eqb-true, eq-eqb, le-leb, leb-true, lt-ltb, ltb-true}
+use Rattle.std.proofs.lemmas.Bool.{false≢true, and_parts, and_from, eqb-true, eq-eqb}
 use Rattle.std.proofs.lemmas.List.Folds.{list_any-append}
 use Rattle.std.proofs.lemmas.List.Sorted.{IsPermutation-map, IsPermutation-sym, IsPermutation-trans}
-use Rattle.lrs_events.specs.declared.side.Side.{Side}
 use Rattle.lrs_events.specs.declared.side.Side.TheVariants.{L, R, B}
-use Rattle.lrs_events.specs.declared.side.LinkSide.{LinkSide}
-use Rattle.lrs_events.specs.declared.side.LinkSide.TheVariants.{Left, Right}
-use Rattle.lrs_events.specs.Members.{has_side}
 use Rattle.lrs_events.specs.Places.{Place}
 use Rattle.lrs_events.specs.Spans.{same_side}
 use Rattle.lrs_machine.specs.declared.image.Image.{Image}
@@ -29,79 +25,21 @@ use Rattle.lrs_sheet_log.specs.Differences.{AreEach}
 use Rattle.lrs_sheet_log.proofs.Each.{each-equal}
 use Rattle.lrs_drafts.specs.declared.holdings.ToldStretch.{ToldStretch}
 use Rattle.lrs_drafts.specs.Drafts.{HoldsNothing, HoldsWhatHeld}
-use Rattle.lrs_drafts.specs.Holdings.{AreExchanged, is_of, nameless, none_of, same_stretch, stretch_of, stretches_of, told, told_item}
+use Rattle.lrs_drafts.specs.Holdings.{AreExchanged, nameless, none_of, same_stretch, stretch_of, stretches_of, told, told_item}
 
 -- ---- nothing
 
--- a side that a stretch has
-one_side : Side → LinkSide
-one_side L = Left
-one_side R = Right
-one_side B = Left
-
--- where a stretch begins
-start_of : LinkStretch → Place
-start_of s = record { link = s.link; mm = s.from; side = one_side s.side }
-
-has_one : (s : Side) → has_side s (one_side s) ≡ true
-has_one L = refl
-has_one R = refl
-has_one B = refl
-
-starts : (s : LinkStretch) → nat_lt s.from s.to ≡ true → has_place s (start_of s) ≡ true
-starts s h =
-    and_from (nat_eq s.link s.link && (nat_le s.from s.from && nat_lt s.from s.to)) (has_side s.side (one_side s.side))
-    (and_from (nat_eq s.link s.link) (nat_le s.from s.from && nat_lt s.from s.to) (eq-eqb s.link s.link refl) (and_from (nat_le s.from s.from) (nat_lt s.from s.to) (le-leb s.from s.from (omega arith)) h))
-    (has_one s.side)
-
-filled : (s : LinkStretch) (p : Place) → has_place s p ≡ true → nat_lt s.from s.to ≡ true
-filled s p h =
-    let on = (and_parts (nat_eq s.link p.link && (nat_le s.from p.mm && nat_lt p.mm s.to)) (has_side s.side p.side) h).0 in
-    let ends = and_parts (nat_le s.from p.mm) (nat_lt p.mm s.to) (and_parts (nat_eq s.link p.link) (nat_le s.from p.mm && nat_lt p.mm s.to) on).1 in
-    let low : s.from ≤ p.mm = leb-true s.from p.mm ends.0 in
-    let high : p.mm < s.to = ltb-true p.mm s.to ends.1 in
-    lt-ltb s.from s.to (omega (arith, low, high))
-
 none_holds : (asset : ℕ) (p : Place) (held : List HeldStretch) → none_of asset held ≡ true → list_any (holds_place asset p) held ≡ false
 none_holds asset p [] h = refl
-none_holds asset p (x ∷ xs) h =
-    let both = and_parts (not (is_of asset x)) (none_of asset xs) h in
-    first (holds_place asset p x) (is_of asset x) is both.0 (none_holds asset p xs both.1)
+none_holds asset p (x ∷ xs) h = first (nat_eq x.asset asset) (and_parts (not (nat_eq x.asset asset)) (none_of asset xs) h).0 (none_holds asset p xs (and_parts (not (nat_eq x.asset asset)) (none_of asset xs) h).1)
   where
-    is : holds_place asset p x ≡ true → is_of asset x ≡ true
-    is holds =
-        let both = and_parts (nat_eq x.asset asset) (has_place x.stretch p) holds in
-        and_from (nat_eq x.asset asset) (nat_lt x.stretch.from x.stretch.to) both.0 (filled x.stretch p both.1)
+    first : (b : Bool) → not b ≡ true → list_any (holds_place asset p) xs ≡ false → ((b && has_place x.stretch p) || list_any (holds_place asset p) xs) ≡ false
+    first true off rest = absurd (false≢true off)
+    first false off rest = rest
 
-    first : (b c : Bool) → (b ≡ true → c ≡ true) → not c ≡ true → list_any (holds_place asset p) xs ≡ false → (b || list_any (holds_place asset p) xs) ≡ false
-    first true c f off rest = absurd (false≢true (sym (ap not (f refl)) ∙ off))
-    first false c f off rest = rest
-
-none_held : (asset : ℕ) (held : List HeldStretch) → ((p : Place) → list_any (holds_place asset p) held ≡ false) → none_of asset held ≡ true
-none_held asset [] f = refl
-none_held asset (x ∷ xs) f =
-    and_from (not (is_of asset x)) (none_of asset xs)
-    (first (is_of asset x) (holds_place asset (start_of x.stretch) x) (list_any (holds_place asset (start_of x.stretch)) xs) holds (f (start_of x.stretch)))
-    (none_held asset xs (λ p. second (holds_place asset p x) (list_any (holds_place asset p) xs) (f p)))
-  where
-    holds : is_of asset x ≡ true → holds_place asset (start_of x.stretch) x ≡ true
-    holds is =
-        let both = and_parts (nat_eq x.asset asset) (nat_lt x.stretch.from x.stretch.to) is in
-        and_from (nat_eq x.asset asset) (has_place x.stretch (start_of x.stretch)) both.0 (starts x.stretch both.1)
-
-    first : (c b r : Bool) → (c ≡ true → b ≡ true) → (b || r) ≡ false → not c ≡ true
-    first true b r g h = absurd (false≢true (sym h ∙ ap (λ (z : Bool). z || r) (g refl)))
-    first false b r g h = refl
-
-    second : (b c : Bool) → (b || c) ≡ false → c ≡ false
-    second true c h = absurd (false≢true (sym h))
-    second false c h = h
-
-pub nothing_held : (i : Image) (asset number : ℕ) (held : List HeldStretch) (nothing : Bool) → held ≡ held_in i → number ≡ asset → nothing ≡ none_of number held → IsTrue nothing ↔ HoldsNothing asset i
-nothing_held i asset number held nothing is same test = (
-  (λ holds p. are_held i asset p ∙ none_holds asset p (held_in i) ((λ k. none_of (sym same k) (sym is k)) ∙ sym test ∙ holds)),
-  λ none. test ∙ (λ k. none_of (same k) (is k)) ∙ none_held asset (held_in i) (λ p. sym (are_held i asset p) ∙ none p),
-)
+pub nothing_held : (i : Image) (asset number : ℕ) (held : List HeldStretch) (nothing : Bool) → held ≡ held_in i → number ≡ asset → nothing ≡ none_of number held → nothing ≡ true → HoldsNothing asset i
+nothing_held i asset number held nothing is same test holds p =
+    are_held i asset p ∙ none_holds asset p (held_in i) ((λ k. none_of (sym same k) (sym is k)) ∙ sym test ∙ holds)
 
 -- ---- the same
 

@@ -1,5 +1,5 @@
 -- What assets hold, as it is compared: the stretches of one asset, and stretches whichever asset holds them.
-use Rattle.std.specs.Prelude.{ℕ, Bool, ◌&&◌, not, nat_eq, nat_lt, List, [], ◌∷◌, map, if◌then◌else◌}
+use Rattle.std.specs.Prelude.{ℕ, Bool, ◌&&◌, not, nat_eq, List, [], ◌∷◌, map, if◌then◌else◌}
 use Rattle.std.specs.List.{flat_map, list_all}
 use Rattle.std.specs.List.Sorted.{IsPermutation}
 use Rattle.lrs_events.specs.Spans.{same_side}
@@ -15,13 +15,9 @@ use Rattle.lrs_drafts.specs.declared.holdings.ToldStretch.{ToldStretch}
 
 -- ---- the stretches of one asset
 
--- the stretch has a millimetre, and it is the asset's
-abbrev pub is_of : ℕ → HeldStretch → Bool
-is_of asset h = nat_eq h.asset asset && nat_lt h.stretch.from h.stretch.to
-
--- no stretch has a millimetre of the asset
+-- no stretch is of the asset
 abbrev pub none_of : ℕ → List HeldStretch → Bool
-none_of asset held = list_all (λ h. not (is_of asset h)) held
+none_of asset held = list_all (λ h. not (nat_eq h.asset asset)) held
 
 -- the stretch, if it is of the asset
 abbrev pub stretch_of : ℕ → HeldStretch → List LinkStretch

@@ -8,7 +8,7 @@ ghost use Rattle.lrs_image.specs.OpenLists.{image_of};
 ghost use Rattle.lrs_difference.specs.Held.{held_in};
 ghost use Rattle.lrs_sheet_log.specs.Differences.{AreEach};
 ghost use Rattle.lrs_drafts.specs.Drafts.{HoldsNothing, HoldsWhatHeld};
-ghost use Rattle.lrs_drafts.specs.Holdings.{AreExchanged, is_of, none_of, same_stretch, stretch_of, stretches_of, told};
+ghost use Rattle.lrs_drafts.specs.Holdings.{AreExchanged, none_of, same_stretch, stretch_of, stretches_of, told};
 
 use lrs_difference::{HeldRow, HeldStretch, held_stretches, only_held};
 use lrs_events::{ClassName, Value};
@@ -19,18 +19,11 @@ use lrs_report_lists::LinkStretch;
 use std::alloc::{AllocError, Global};
 use std::cmp::Ordering;
 
-/// Whether a stretch has a millimetre of an asset.
-fn is_of(held: &HeldStretch, asset: u64) -> bool
-    ensures { result ≡ is_of asset held.now }
-{
-    held.asset == asset && held.stretch.from < held.stretch.to
-}
-
-/// Whether no stretch has a millimetre of an asset.
+/// Whether no stretch is of an asset.
 fn none_of(held: &[HeldStretch], asset: u64) -> bool
     ensures { result ≡ none_of asset held.now }
 {
-    held.iter().all(|stretch| !is_of(stretch, asset))
+    held.iter().all(|stretch| stretch.asset != asset)
 }
 
 /// Whether an asset holds nothing.
@@ -42,7 +35,7 @@ pub(crate) fn holds_nothing(
     asset: AssetNumber,
     kept: &ImageLists,
 ) -> Result<bool, AllocError>
-    ensures { IfOk result (λ nothing. IsTrue nothing ↔ HoldsNothing asset (image_of kept.now)) }
+    ensures { IfOk result (λ nothing. nothing ≡ true → HoldsNothing asset (image_of kept.now)) }
 {
     let held = held_stretches(alloc, kept)?;
     Ok(none_of(&held, asset.get()))
