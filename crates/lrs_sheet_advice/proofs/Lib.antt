@@ -1,4 +1,6 @@
 pub mod WrittenLines
+pub mod RefusalsLeft
+pub mod ListedItems
 pub mod SlotRows
 pub mod ListWords
 pub mod TidyForms
