@@ -20,15 +20,16 @@ pub(crate) struct Refusal<'a> {
 }
 
 /// Goes on through the replies that are left and their records, up to the next reply that refuses its record.
+#[tactic(auto, using(crate::proofs::RefusalsLeft::less, crate::proofs::RefusalsLeft::one_refused))]
 pub(crate) fn next_refusal<'a>(
     records: &mut Records<'_>,
     replies: Option<&'a [u8]>,
 ) -> Result<Option<Refusal<'a>>, AdviceFault>
     ensures some { IfOk result (λ found. IfSome found (λ refusal.
-        refusals_left (option_map (λ text. text.now) replies) ≡ refusal.reply.now
+        refusals_left (option_map (λ text. text.now) replies.entry) ≡ refusal.reply.now
         ∷ refusals_left (option_map (λ text. text.now) refusal.behind))) }
     ensures none { IfOk result (λ found. IfNone found
-        (refusals_left (option_map (λ text. text.now) replies) ≡ [])) }
+        (refusals_left (option_map (λ text. text.now) replies.entry) ≡ [])) }
 {
     let mut left = replies;
     'replies: loop {
@@ -79,6 +80,7 @@ fn advise<W: Write>(
 }
 
 /// Goes on to the header, then through the refusals, and writes a line for each.
+#[tactic(auto, using(crate::proofs::RefusalsLeft::fewer))]
 fn write_lines<W: Write>(
     alloc: Global,
     writer: &mut W,

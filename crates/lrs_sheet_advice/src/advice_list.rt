@@ -44,7 +44,7 @@ fn length_of(text: &Option<Vec<u8>>) -> usize {
 
 fn copy_of(alloc: Global, text: Option<&[u8]>) -> Result<Option<Vec<u8>>, AllocError>
     ensures { IfOk result (λ copy. option_map vec_items copy
-        ≡ option_map (λ text. text.now) text) }
+        ≡ option_map (λ text. text.now) text.entry) }
 {
     match text {
         Some(text) => Ok(Some(Vec::from_slice(alloc, text)?)),
@@ -149,6 +149,7 @@ fn fill(
 }
 
 /// The item about a refusal.
+#[tactic(auto, using(crate::proofs::ListedItems::told))]
 fn item_on(
     alloc: Global,
     head: &mut AdviceLine,
@@ -197,6 +198,7 @@ impl AdviceList {
 }
 
 /// Adds the item about a refusal.
+#[tactic(auto, using(crate::proofs::ListedItems::adds_one))]
 fn push_item(
     alloc: Global,
     list: &mut AdviceList,
@@ -212,6 +214,7 @@ fn push_item(
 }
 
 /// Goes on to the header, then through the refusals, and adds an item for each.
+#[tactic(auto, using(crate::proofs::RefusalsLeft::fewer))]
 fn push_items(
     alloc: Global,
     list: &mut AdviceList,
@@ -273,6 +276,7 @@ fn item_on_sheet(
 }
 
 /// Adds the item about a flaw.
+#[tactic(auto, using(crate::proofs::ListedItems::adds_sheet))]
 fn push_flaw(
     alloc: Global,
     list: &mut AdviceList,
