@@ -1,5 +1,5 @@
 -- The text of a trial, which is written part by part.
-use Rattle.std.proofs.Common.{◌≡◌, ℕ, List, [], ◌∷◌, ◌++◌, codes, append_assoc, append-nil, refl, sym, ap, ◌∙◌, Bor, None, Some}
+use Rattle.std.proofs.Common.{◌≡◌, ℕ, List, [], ◌∷◌, ◌++◌, codes, append_assoc, append-nil, refl, sym, ap, ◌∙◌, Bor, None, Some, Result, Ok, Err, OnOk}
 use Rattle.std.proofs.lemmas.Iterator.Splits.{YieldsList-from_lines}
 use Rattle.std.specs.Iterator.{AlwaysYields}
 use Rattle.std.specs.Prelude.{option_map, vec_items}
@@ -50,6 +50,18 @@ all_told before bytes all s t so steps = by so.left so.gives so.leads
     by (y ∷ ys) gives leads = absurd (gives.0 t steps)
 
 -- ---- advice
+
+-- what is added in four steps, and in five
+pub four_added : {R E : Type 0} (r : Result R E) (before w x y z a b c d : List ℕ) → a ≡ before ++ w → b ≡ a ++ x → c ≡ b ++ y → OnOk r (d ≡ c ++ z) → OnOk r (d ≡ before ++ (w ++ (x ++ (y ++ z))))
+four_added (Ok r) before w x y z a b c d e0 e1 e2 e3 =
+    e3 ∙ ap (λ t. t ++ z) (e2 ∙ ap (λ t. t ++ y) (e1 ∙ ap (λ t. t ++ x) e0 ∙ append_assoc before w x) ∙ append_assoc before (w ++ x) y) ∙ append_assoc before ((w ++ x) ++ y) z
+    ∙ ap (λ t. before ++ t) (append_assoc (w ++ x) y z ∙ append_assoc w x (y ++ z))
+four_added (Err e) before w x y z a b c d e0 e1 e2 e3 = tt
+
+pub five_added : {R E : Type 0} (r : Result R E) (before v w x y z a b c d e : List ℕ) → a ≡ before ++ v → b ≡ a ++ w → c ≡ b ++ x → d ≡ c ++ y → OnOk r (e ≡ d ++ z) → OnOk r (e ≡ before ++ (v ++ (w ++ (x ++ (y ++ z)))))
+five_added (Ok r) before v w x y z a b c d e e0 e1 e2 e3 e4 =
+    four_added (Ok r) before (v ++ w) x y z b c d e (e1 ∙ ap (λ t. t ++ w) e0 ∙ append_assoc before v w) e2 e3 e4 ∙ ap (λ t. before ++ t) (append_assoc v w (x ++ (y ++ z)))
+five_added (Err x0) before v w x y z a b c d e e0 e1 e2 e3 e4 = tt
 
 -- an item that is an object of six members, by its parts
 item_joined : (before a u b v c w d x e y f z : List ℕ)
