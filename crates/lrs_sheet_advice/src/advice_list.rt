@@ -121,7 +121,7 @@ impl AdviceItem {
 /// Adds the line of advice to a text: how it begins, and the rest of it.
 fn add_line(text: &mut Vec<u8>, head: &AdviceLine, body: &AdviceLine) -> Result<(), AllocError>
     ensures line { OnOk result (text.new.items ≡ text.old.items ++ (head.now ++ body.now)) }
-    ensures printable { IsTrue (is_printable_text (head.now ++ body.now)) }
+    ensures printable { OnOk result (IsTrue (is_printable_text (head.now ++ body.now))) }
 {
     text.extend_from_slice(head.bytes())?;
     text.extend_from_slice(body.bytes())
@@ -141,7 +141,7 @@ fn fill(
     ensures column { IfSome item.old.column IsLetter → IfSome item.new.column IsLetter }
     ensures text { OnOk result (item.new.text.items
         ≡ item.old.text.items ++ (head.now ++ body.old)) }
-    ensures printable { IsTrue (is_printable_text (head.now ++ body.old)) }
+    ensures printable { OnOk result (IsTrue (is_printable_text (head.now ++ body.old))) }
 {
     add_line(&mut item.text, head, body)?;
     item.set_key(alloc, reply)?;

@@ -10,7 +10,7 @@ refusals-init g c = ([], refl, advises-none (g.W.Write.contents c.args.writer.no
 pub refusals-preserved : goal.refusals-preserved
 refusals-preserved g c =
     one_more WritesAdvice advises-more (refusals c.args.replies.now) (left_in (λ text. text.now) c.refusals.left) (left_in (λ text. text.now) c.in-Some.refusal.behind) c.in-Some.refusal.reply.now
-    (g.W.Write.contents c.args.writer.now) (g.W.Write.contents c.refusals.writer) (g.W.Write.contents c.advise.new.writer) (search rules) c.refusals.invariant c.in_ok-advise.ensures
+    (g.W.Write.contents c.args.writer.now) (g.W.Write.contents c.refusals.writer) (g.W.Write.contents c.advise.new.writer) (search rules) c.refusals.invariant c.in_ok-advise-in-Some.ensures
 
 pub returns-in-None : goal.returns-in-None
 returns-in-None g c =

@@ -11,7 +11,7 @@ refusals-init c = ([], refl, adds-none c.args.list.now.items.items)
 pub refusals-preserved : goal.refusals-preserved
 refusals-preserved c =
     one_more AddsAdvice adds-more (refusals c.args.replies.now) (left_in (λ text. text.now) c.refusals.left) (left_in (λ text. text.now) c.in-Some.refusal.behind) c.in-Some.refusal.reply.now
-    c.args.list.now.items.items c.refusals.list.items.items c.push_item.new.list.items.items (search rules) c.refusals.invariant c.in_ok-push_item.ensures
+    c.args.list.now.items.items c.refusals.list.items.items c.push_item.new.list.items.items (search rules) c.refusals.invariant c.in_ok-push_item-in-Some.ensures
 
 pub returns-in-None : goal.returns-in-None
 returns-in-None c =
