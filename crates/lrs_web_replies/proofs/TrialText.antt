@@ -59,8 +59,8 @@ four_added (Ok r) before w x y z a b c d e0 e1 e2 e3 =
 four_added (Err e) before w x y z a b c d e0 e1 e2 e3 = tt
 
 pub five_added : {R E : Type 0} (r : Result R E) (before v w x y z a b c d e : List ℕ) → a ≡ before ++ v → b ≡ a ++ w → c ≡ b ++ x → d ≡ c ++ y → OnOk r (e ≡ d ++ z) → OnOk r (e ≡ before ++ (v ++ (w ++ (x ++ (y ++ z)))))
-five_added (Ok r) before v w x y z a b c d e e0 e1 e2 e3 e4 =
-    four_added (Ok r) before (v ++ w) x y z b c d e (e1 ∙ ap (λ t. t ++ w) e0 ∙ append_assoc before v w) e2 e3 e4 ∙ ap (λ t. before ++ t) (append_assoc v w (x ++ (y ++ z)))
+five_added {E = E} (Ok r) before v w x y z a b c d e e0 e1 e2 e3 e4 =
+    four_added {E = E} (Ok r) before (v ++ w) x y z b c d e (e1 ∙ ap (λ t. t ++ w) e0 ∙ append_assoc before v w) e2 e3 e4 ∙ ap (λ t. before ++ t) (append_assoc v w (x ++ (y ++ z)))
 five_added (Err x0) before v w x y z a b c d e e0 e1 e2 e3 e4 = tt
 
 -- an item that is an object of six members, by its parts
