@@ -46,12 +46,17 @@ async function sheetFor(kind, fields) {
   throw new Error(blamed(reason(status, text), fields));
 }
 
-// A sentence that begins with a field, as `PLACE is no place`, calls it by its label, and the field is marked.
+// The program calls fields as its command line does, as in `PLACE is no place` and `give --number N`: here they have their labels, and
+// are marked. Elsewhere in a sentence FROM and TO are those of a piece.
 function blamed(told, fields) {
-  const [word] = /^[A-Z]+(?= is )/.exec(told) || [""], name = word.toLowerCase(), field = fields.find(each => each.name === name) || fields.find(each => each.name === CALLED[name]);
-  if (!field) return told;
-  blame(field, true, "draft-said");
-  return `"${field.labels[0].textContent.trim()}"${told.slice(word.length)}`;
+  const named = (shown, word) => {
+    const name = word.toLowerCase(), field = fields.find(each => each.name === name) || fields.find(each => each.name === CALLED[name]);
+    if (!field) return shown;
+    blame(field, true, "draft-said");
+    return `"${field.labels[0].textContent.trim()}"`;
+  };
+  const text = /^[A-Z]+ is /.test(told) ? told.replace(/(?<![:\w])([A-Z]+)(?![:\w])/g, named) : told;
+  return text.replace(/--(number|key)( N)?/g, named);
 }
 
 export function draft() {

@@ -89,6 +89,10 @@ NOT_WRITTEN = [
     ("move", {"asset": "11", "number": "112", "route": "A1", "from": "0", "to": "3km"}, ["to"], '"Where it ends, if it is no point" is no place: '),
     ("replace", {"asset": "twelve", "number": "112", "value": "STOP"}, ["asset"], '"Number of the asset" is no asset number.'),
     ("bypass", {"route": "A1", "from": "0", "to": "500", "pieces": "8:0:1000:+", "old": "a1"}, ["old"], '"Name for the old road" is no route name.'),
+    ("bypass", {"route": "A1", "from": "0", "to": "500", "pieces": "8:0", "old": "A2"}, ["pieces"], '"New ground, as 2:0:2500000:+" is no list of pieces: LINK:FROM:TO:+ or '),
+    ("bypass", {"route": "A1", "from": "0", "to": "500", "pieces": "5:9:1:+", "old": "A2"}, [], "A piece "),
+    ("bypass", {"route": "A1", "from": "500", "to": "0", "pieces": "8:0:1000:+", "old": "A2"}, ["from", "to"], '"It leaves the old road at" is not before "It comes back at" on the route.'),
+    ("retire", {"asset": "11", "key": "a b"}, ["key"], "A key has at most 40 characters of A-Z, a-z, 0-9 and . : _ -, with the numbers behind what "),
     ("undo", {"number": "x"}, ["number"], '"Number for assets that come back, if there are any" is no asset number.'),
     ("split", {"route": "A9", "place": "3000", "new": "A1N"}, [], "There is no route"),
     ("retire", {"asset": "99"}, [], "There is no such asset"),
@@ -103,14 +107,14 @@ def test_why_no_sheet_is_written_is_told_beside_the_fields(page):
         writes(page, what, fields)
         said = browser.text("#draft-said")
         assert said.startswith(f"Error: {told}") and said.endswith("."), said
-        wrong = browser.runs("return [...document.querySelectorAll('#fields [aria-invalid=true]')].map(e => [e.name, e.getAttribute('aria-describedby')])")
+        wrong = browser.runs("return [...document.querySelectorAll('#drafting [aria-invalid=true]')].map(e => [e.name, e.getAttribute('aria-describedby')])")
         assert wrong == [[name, "draft-said"] for name in blamed], (what, fields, said)
         assert browser.runs("return document.querySelector('#drafted').hidden && document.querySelector('#preview').hidden")
     assert posts(page) == [f"draft/{what}" for what, *_ in NOT_WRITTEN]
     assert browser.runs("return document.querySelector('#draft-said').role") == "status"
     page.pictured("no_draft")
     # what was wrong is forgotten with the next try
-    writes(page, "retire", {"asset": "13"})
+    writes(page, "retire", {"asset": "13", "key": "KM-"})
     browser.shows("#draft-said", "The sheet is written")
     assert browser.runs("return document.querySelectorAll('#drafting [aria-invalid=true]').length") == 0
 
@@ -142,6 +146,7 @@ def test_a_program_that_has_ended_writes_no_sheet(page):
 # An answer of the program, and what is told.
 ANSWERS = [
     (409, '{"error":"NotDrafted","why":"<b>this</b> is not possible"}', "Error: <b>this</b> is not possible."),
+    (409, '{"error":"NotDrafted","why":"assets were taken away: give --number N, for new assets"}', 'Error: Assets were taken away: give "Number for assets that come back, if there are any", for new assets.'),
     (400, '{"error":"BadDraft","why":"EDIT is no edit number"}', 'Error: "First edit to undo, if not the last alone" is no edit number.'),
     (400, '{"error":"Unknown:since"}', "Error: Unknown:since."),
     (409, '{"error":"NoRoute"}', "Error: NoRoute: there is no route of this name."),

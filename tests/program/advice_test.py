@@ -1,45 +1,19 @@
 """What `check` says on standard error about each record that would be refused: the cases of advice_cases.txt."""
 
 import pathlib
-import re
 import tempfile
 
 import pytest
 
-from program import HEADER, run, sheet_of
-from stores import edit
-
-SURVEY_HEADER = b"key,asset,class,route,side,method,from,to,value,offset\n"
-CASES = pathlib.Path(__file__).with_name("advice_cases.txt")
-
-
-def bytes_of(text):
-    """The bytes of a text, in which \\n is a line feed and \\r a carriage return."""
-    return text.replace("\\n", "\n").replace("\\r", "\r").encode()
-
-
-def cases():
-    """Each case: its kind, its sheet, the reply or the name of its fault, and the lines of advice."""
-    for block in CASES.read_text().split("\n\n"):
-        lines = [line for line in block.splitlines() if line and not line.startswith("#")]
-        said = [line.partition(": ")[::2] for line in lines if ": " in line or line.endswith(":")]
-        facts = {name: text for name, text in said if name != "advice"}
-        if not facts:
-            continue
-        sheet = bytes_of(facts["sheet"]) if "sheet" in facts else (SURVEY_HEADER if facts["kind"] == "survey" else HEADER) + bytes_of(facts["record"].lstrip()) + b"\n"
-        if "record" in facts and facts["record"].startswith(" "):
-            sheet = HEADER + bytes_of(facts["record"]) + b"\n"
-        replies = bytes_of(facts["replies"]) if "replies" in facts else (facts["reply"] + "\n").encode() if "reply" in facts else b""
-        yield facts["kind"], sheet, replies, facts.get("fault"), [text for name, text in said if name == "advice"]
+from advice_cases import cases, make_begun
+from program import run, sheet_of
 
 
 @pytest.fixture(scope="module")
 def db():
     with tempfile.TemporaryDirectory() as folder:
         path = pathlib.Path(folder) / "roads.db"
-        begun = [line.lstrip("# ") for line in CASES.read_text().splitlines() if re.match(r"#   b\d,", line)]
-        assert len(begun) == 9
-        assert edit(path, sheet_of(*begun)).status == 0
+        make_begun(path)
         yield path
 
 

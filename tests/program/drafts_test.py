@@ -48,6 +48,13 @@ def draws(db, *words):
     return lines_of(db, done(db, ended.stdout))
 
 
+def differs_undone(was, db, *words):
+    """Edits of an inventory are undone by a draft: the lines in which it differs then from what it was before them."""
+    ended = drafted(db, "undo", *words)
+    assert ended.status == 0, (words, ended)
+    return lines_of(was, done(db, ended.stdout, "undone.db"))
+
+
 def is_not_drafted(ended):
     *said, last = ended.stderr.decode().splitlines()
     assert (ended.stdout, ended.status, last) == (b"", 1, "roadlrs: no sheet is drafted") and said, ended
@@ -197,6 +204,110 @@ def test_what_took_assets_away_is_undone_with_new_ones(road):
             is_not_drafted(ended)
 
 
+def changed(road, *texts, name="changed.db"):
+    """A copy of the inventory in which these records are done."""
+    db = road.with_name(name)
+    shutil.copy(road, db)
+    ended = edit(db, sheet_of(*(f"x{n},{text}" for n, text in enumerate(texts))))
+    assert ended.status == 0 and ended.stdout.count(b",done,") == len(texts), ended
+    settle(db)
+    return db
+
+
+@pytest.mark.parametrize("first, last", [("3000", "7000"), ("2500", "9000")])
+def test_a_bypass_is_undone_as_a_whole(road, first, last):
+    bypassed = done(road, drafted(road, "bypass", "A1", first, last, "2:0:3000:+", "A1OLD").stdout, "bypassed.db")
+    assert lines_of(road, bypassed) and len(rows_of(bypassed)["edit"]) > 15
+    assert differs_undone(road, bypassed, "13") == []
+
+
+def test_the_last_edit_by_its_number(road):
+    db = changed(road, "turn,A1", "recalibrate,A1,0:0 4000:1 10000:2", "split,A1,4000,A2")
+    assert drafted(db, "undo", "15").stdout == drafted(db, "undo").stdout
+    assert drafted(db, "undo", "14").stdout != drafted(db, "undo").stdout
+
+
+CHAINS = [
+    ["recalibrate,A1,0:0 4000:4000 10000:10000", "split,A1,4000,A2", "turn,A2", "renumber,A2,A9", "recalibrate,A9,0:0 6000:1"],
+    ["recalibrate,A1,0:5 4000:4000 7000:7001 10000:9000", "split,A1,4000,A2", "split,A2,3000,A3", "turn,A2", "join,A1,A2", "join,A1,A3"],
+    ["recalibrate,A1,0:0 4000:4000 10000:10000", "split,A1,4000,A2", "renumber,A1,A3", "renumber,A2,A1", "join,A1,A3", "turn,A1"],
+    ["route,B1,2:0:3000:+,0:0 3000:3000", "join,B1,A1", "renumber,B1,A1", "ref,KM1,A1,abs,1000", "unref,KM7", "unref,KM1"],
+]
+
+
+@pytest.mark.parametrize("number", range(len(CHAINS)))
+def test_edits_of_routes_are_undone_together(road, number):
+    chain = CHAINS[number]
+    db = changed(road, *chain)
+    for passed in range(len(chain)):
+        was = changed(road, *chain[:passed], name="before.db")
+        assert differs_undone(was, db, str(13 + passed)) == [], (chain, passed)
+
+
+def test_assets_that_come_and_go_are_undone_together(road):
+    entered = ["enter,20,SIGN,A1,L,abs,4000,,STOP,0", "enter,21,RAIL,A1,R,abs,7000,9000,wood,0", "enter,22,SPEED,A1,B,abs,500,900,30,0"]
+    db = changed(road, *entered, "retire,20,A1,abs,4000,", "retire,21,A1,abs,7000,8000", "supersede,23,SPEED,A1,B,abs,600,800,40,0", "turn,A1")
+    # what was entered holds nothing then, and stays known; nothing is entered anew
+    told = differs_undone(road, db, "13")
+    assert told == ["+,asset,20,SIGN,STOP,0", "+,asset,21,RAIL,wood,0", "+,asset,22,SPEED,30,0", "+,asset,23,SPEED,40,0"], told
+
+
+def test_what_several_edits_took_away_is_undone_with_new_assets(road):
+    superseded = [f"supersede,{number},SPEED,A1,B,abs,{low},{high},30,0" for number, low, high in ((22, 2000, 3000), (23, 2500, 3500), (24, 5000, 5500))]
+    db = changed(road, *superseded, "retire,2,A1,abs,3500,", "turn,A1")
+    # assets were taken away, and there are no numbers for new ones
+    is_not_drafted(drafted(db, "undo", "13"))
+    told = differs_undone(road, db, "13", "--number", "500")
+    entered = [line.split(",")[2] for line in told if line.startswith("+,asset,")]
+    # what one asset lost side by side is one new asset's, and each has a number of its own
+    assert entered == ["22", "23", "24", "500", "501", "502"], told
+    was = sorted(line.split(",", 3)[3] for line in told if line.startswith("-,holds,"))
+    now = sorted(line.split(",", 3)[3] for line in told if line.startswith("+,holds,"))
+    assert was == now and len(told) == len(entered) + len(was) + len(now), told
+    assert {held[0] for held in Told(road.with_name("undone.db")).held} == {1, 3, 4, 500, 501, 502}, told
+
+
+ROUTE_VERBS = ("split", "join", "renumber", "recalibrate", "turn")
+
+
+def drawn_chain(db, drawn, most):
+    """Does drawn edits of routes, up to so many of them."""
+    count = len(rows_of(db)["edit"])
+    for _ in range(60):
+        text = drawn.text()
+        if text.split(",")[0] in ROUTE_VERBS:
+            drawn.count += 1
+            edit(db, sheet_of(f"c{drawn.count},{text}"))
+            if len(rows_of(db)["edit"]) >= count + most:
+                break
+    settle(db)
+
+
+def test_drawn_edits_are_undone_together(top):
+    given = 0
+    for seed in range(20):
+        drawn = Drawn(seed)
+        was, db = top / f"was{seed}.db", top / f"{seed}.db"
+        edit(was, BEGUN)
+        edit(was, drawn.sheet(25))
+        settle(was)
+        shutil.copy(was, db)
+        drawn_chain(db, drawn, 6)
+        first = len(rows_of(was)["edit"]) + 1
+        if len(rows_of(db)["edit"]) < first:
+            continue
+        given += 1
+        assert differs_undone(was, db, str(first)) == [], seed
+    assert given > 10
+
+
+def test_edits_that_are_not_there(road):
+    is_not_drafted(drafted(road, "undo", "13"))
+    is_not_drafted(drafted(road, "undo", "10000000"))
+    # links and classes among the edits stay
+    is_not_drafted(drafted(road, "undo", "1"))
+
+
 def test_what_cannot_be_undone(road):
     for number, last in enumerate(("link,9,5", "class,LAMP,point")):
         assert edit(road, sheet_of(f"x{number},{last}")).status == 0
@@ -216,7 +327,7 @@ def test_keys_of_drafts(road):
 
 
 def test_words_of_drafts(road):
-    for words in (["paint", "A1"], ["split", "A1"], ["split", "A1", "4000"], ["retire", "x"], ["retire", "1", "2"], ["split", "A1", "4000", "a2"], ["undo", "1"], ["merge", "A1"]):
+    for words in (["paint", "A1"], ["split", "A1"], ["split", "A1", "4000"], ["retire", "x"], ["retire", "1", "2"], ["split", "A1", "4000", "a2"], ["undo", "0"], ["undo", "x"], ["undo", "10000001"], ["undo", "1", "2"], ["merge", "A1"]):
         ended = drafted(road, *words)
         assert ended.stdout == b"" and ended.status == 2 and ended.stderr.endswith(b"error: the words say no draft\n"), (words, ended)
     for words in (["split", "A9", "4000", "A2"], ["split", "A1", "4000", "A1"], ["split", "A1", "0", "A2"], ["split", "A1", "99999", "A2"], ["retire", "99"]):

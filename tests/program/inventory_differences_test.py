@@ -11,7 +11,7 @@ import pytest
 from differences import difference
 from drawn_inventories import BEGUN, Drawn
 from program import FIRST, HEADER, ends, faults, lines, on_terminal, record, run, sheet_of
-from stores import MORE, digest, edit, make, make_full, rows_of, settle
+from stores import MORE, as_first, digest, edit, look, make, make_full, rows_of, settle
 
 SURVEY_HEADER = b"key,asset,class,route,side,method,from,to,value,offset\n"
 
@@ -106,6 +106,24 @@ def test_a_difference_touches_no_file(top):
     faults(run("diff", str(top / "none.db"), str(db)), "Open")
     faults(run("diff", str(top / "none.db"), "--since", "1"), "Open")
     assert sorted(top.iterdir()) == before[2]
+
+
+def test_files_that_a_look_does_not_take(top):
+    """A file of the first version is opened as for edits, whichever of the two it is, or both."""
+    one, other = top / "one.db", top / "other.db"
+    make_full(one)
+    settle(one)
+    shutil.copy(one, other)
+    edit(other, sheet_of("n1,link,7,9", "n2,retire,10,A1,abs,4000,5000"))
+    settle(other)
+    wanted, back = difference(one, other), difference(other, one)
+    assert wanted and back
+    for first_versions in ([one], [other], [one, other]):
+        for before, after, told in ((one, other, wanted), (other, one, back)):
+            for path in first_versions:
+                as_first(path)
+            ends(run("diff", str(before), str(after)), told, 0)
+            assert [look(path, "SELECT v FROM version") for path in (one, other)] == [[[(2,)]], [[(2,)]]]
 
 
 def test_words_of_a_difference(top):

@@ -18,7 +18,7 @@ ARCHITECTURE = TOP / "docs" / "ARCHITECTURE.md"
 
 # rt's bookkeeping walks each way down from each crate to those that it stands on, so a crate more costs all that stand above it.
 MOST_CRATES = 42
-MOST_WAYS = 80_000
+MOST_WAYS = 95_000
 
 # How many wrong bodies of a crate the gate tries; those of wrong-bodies/ are tried by whoever changes the crate.
 MOST_TRIED = 15

@@ -1,2 +1,2 @@
-mod Copies
+mod Comparisons
 mod Opening

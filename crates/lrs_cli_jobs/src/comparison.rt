@@ -9,20 +9,22 @@ ghost use Rattle.lrs_cli_jobs.specs.SourceDesks.{image_at};
 use crate::desk::{identity_at, is_expected};
 use crate::target::{Target, look_at_target, open_target, settled_site};
 use lrs_cli_help::{Options, Patience, Site};
-use lrs_cli_sheets::{ProgressDisplay, Sheets, World, copy_desk, do_difference, made_by_log};
+use lrs_cli_sheets::{ProgressDisplay, Sheets, World, do_difference, made_by_log};
 use lrs_cli_tasks::{Ending, ProgramFault, is_in_memory, open_in_memory};
 use lrs_cli_words::Source;
 use lrs_desk::{Desk, Files, Keeper, Plain};
-use std::alloc::{AllocError, Global};
+use std::alloc::Global;
 use std::io::Write;
 use std::rt::HostRuntime;
 
 // The desk that has the inventory of a source.
-enum SourceDesk<K: Keeper> {
+enum SourceDesk<K: Keeper, J: Keeper> {
     // In memory.
     Plain(Desk<Plain>),
-    // Over a file that was looked at, which nobody has: others may open it meanwhile, and this run once more.
+    // Over a file that was looked at, which others may open meanwhile.
     Seen(Desk<K>),
+    // Over a file that was opened as for edits, and is closed then.
+    Kept(Desk<J>),
 }
 
 // How the program ends where an inventory is not had, by this fault.
@@ -32,62 +34,37 @@ fn stopped(fault: ProgramFault) -> Ending
     Ending::Stopped(fault)
 }
 
-// A copy of the inventory of a desk.
-fn copy_of<K: Keeper, J: Keeper>(alloc: Global, desk: &Desk<K>) -> Result<SourceDesk<J>, Ending>
-    ensures image { IfOk result (λ copy. image_at copy ≡ desk.now.image) }
-    ensures fault { IfErr result HasNoInventory }
-{
-    match copy_desk(alloc, desk) {
-        Ok(copy) => Ok(SourceDesk::Plain(copy)),
-        Err(AllocError) => Err(stopped(ProgramFault::Memory)),
-    }
-}
-
-// The same, of a desk whose keeper is then closed: it has its file alone, which may be that of the other source too.
-fn copy_and_close<F: Files>(
-    alloc: Global,
-    files: &mut F,
-    desk: Desk<F::Kept>,
-) -> Result<SourceDesk<F::Seen>, Ending>
-    ensures image { IfOk result (λ copy. image_at copy ≡ desk.image) }
-    ensures fault { IfErr result HasNoInventory }
-{
-    let copy = copy_of(alloc, &desk);
-    files.close(desk.into_keeper());
-    copy
-}
-
-// A copy of the inventory of a file, which is opened as for edits.
-fn copied_with_log<F: Files>(
+// The inventory of a file, which is opened as for edits.
+fn desk_with_log<F: Files>(
     rt: &HostRuntime,
     files: &mut F,
     target: Target<'_>,
     shown: ProgressDisplay,
-) -> Result<SourceDesk<F::Seen>, Ending>
-    ensures source { IfOk result (λ copy.
-        IsActedOn F.Kept.may_hold F.has_opened (image_at copy)) }
+) -> Result<SourceDesk<F::Seen, F::Kept>, Ending>
+    ensures source { IfOk result (λ desk.
+        IsActedOn F.Kept.may_hold F.has_opened (image_at desk)) }
     ensures fault { IfErr result HasNoInventory }
 {
     match open_target(rt, files, target, shown) {
-        Ok(desk) => copy_and_close(rt.alloc(), files, desk),
+        Ok(desk) => Ok(SourceDesk::Kept(desk)),
         Err(fault) => Err(stopped(ProgramFault::from(fault))),
     }
 }
 
-// The inventory of a file, which is looked at, or copied where that does not take it.
+// The inventory of a file, which is looked at, or opened where that does not take it.
 fn desk_in_file<F: Files>(
     rt: &HostRuntime,
     files: &mut F,
     target: Target<'_>,
     shown: ProgressDisplay,
-) -> Result<SourceDesk<F::Seen>, Ending>
+) -> Result<SourceDesk<F::Seen, F::Kept>, Ending>
     ensures source { IfOk result (λ desk. IsActedOn F.Seen.may_hold F.has_read (image_at desk)
         ⊎ IsActedOn F.Kept.may_hold F.has_opened (image_at desk)) }
     ensures fault { IfErr result HasNoInventory }
 {
     match look_at_target(rt, files, target, shown) {
         Ok(Some(desk)) => Ok(SourceDesk::Seen(desk)),
-        Ok(None) => copied_with_log(rt, files, target, shown),
+        Ok(None) => desk_with_log(rt, files, target, shown),
         Err(fault) => Err(stopped(ProgramFault::from(fault))),
     }
 }
@@ -99,7 +76,7 @@ fn desk_at_path<F: Files>(
     path: &str,
     wait: u64,
     shown: ProgressDisplay,
-) -> Result<SourceDesk<F::Seen>, Ending>
+) -> Result<SourceDesk<F::Seen, F::Kept>, Ending>
     ensures source { IfOk result (λ desk. IsActedOn F.Seen.may_hold F.has_read (image_at desk)
         ⊎ IsActedOn F.Kept.may_hold F.has_opened (image_at desk)) }
     ensures fault { IfErr result HasNoInventory }
@@ -119,7 +96,7 @@ fn desk_at_path<F: Files>(
 }
 
 // A fresh inventory in memory.
-fn fresh<K: Keeper>(alloc: Global) -> Result<SourceDesk<K>, Ending>
+fn fresh<K: Keeper, J: Keeper>(alloc: Global) -> Result<SourceDesk<K, J>, Ending>
     ensures fresh { IfOk result (λ desk. image_at desk ≡ nothing) }
     ensures fault { IfErr result HasNoInventory }
 {
@@ -130,10 +107,10 @@ fn fresh<K: Keeper>(alloc: Global) -> Result<SourceDesk<K>, Ending>
 }
 
 // What the log of a name makes, in memory.
-fn desk_by_log<K: Keeper, S: Sheets>(
+fn desk_by_log<K: Keeper, J: Keeper, S: Sheets>(
     world: &World<'_, HostRuntime, S>,
     name: &str,
-) -> Result<SourceDesk<K>, Ending>
+) -> Result<SourceDesk<K, J>, Ending>
     ensures made { IfOk result (λ desk.
         IsMadeByLog (S.text_of world.now.sheets.now name.now) (image_at desk)) }
     ensures fault { IfErr result HasNoInventory }
@@ -150,7 +127,7 @@ fn desk_of<F: Files, S: Sheets>(
     files: &mut F,
     source: Source<'_>,
     wait: u64,
-) -> Result<SourceDesk<F::Seen>, Ending>
+) -> Result<SourceDesk<F::Seen, F::Kept>, Ending>
     ensures source { IfOk result (λ desk. IsSourceOf F.Kept.may_hold F.Seen.may_hold
         F.has_opened F.has_read (S.text_of world.now.sheets.now) source.entry (image_at desk)) }
     ensures fault { IfErr result HasNoInventory }
@@ -186,6 +163,11 @@ fn compare_with<G: Files, S: Sheets, W: Write + Drop, K: Keeper>(
         Ok(SourceDesk::Seen(seen)) => {
             let given = do_difference(world.rt.alloc(), before, &seen, to);
             G::discard_seen(seen.into_keeper());
+            given
+        }
+        Ok(SourceDesk::Kept(kept)) => {
+            let given = do_difference(world.rt.alloc(), before, &kept, to);
+            other.close(kept.into_keeper());
             given
         }
         Err(ending) => Ok((to, ending)),
@@ -244,6 +226,11 @@ pub(crate) fn do_comparison<F: Files, G: Files, S: Sheets, W: Write + Drop>(
         Ok(SourceDesk::Seen(seen)) => {
             let given = compare_expected(world, &seen, other, after, options, to);
             F::discard_seen(seen.into_keeper());
+            given
+        }
+        Ok(SourceDesk::Kept(kept)) => {
+            let given = compare_expected(world, &kept, other, after, options, to);
+            files.close(kept.into_keeper());
             given
         }
         Err(ending) => Ok((to, ending)),

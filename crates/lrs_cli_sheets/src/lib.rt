@@ -39,6 +39,3 @@ pub use streams::write_out;
 pub use tidy_sheet::do_tidy;
 pub use trial::{do_check, do_records};
 pub use world::{Sheets, SystemSheet, SystemSheets, World};
-
-// By it a caller copies the inventory of a desk.
-pub use lrs_sheet::copy_desk;

@@ -1,5 +1,5 @@
 -- What a job has the program do.
-use Rattle.std.specs.Prelude.{◌≡◌, ◌⊎◌, ⊤, Bool, true, false, List, ◌∷◌, map, Option, Some, None, option_map}
+use Rattle.std.specs.Prelude.{◌≡◌, ◌⊎◌, ⊤, Bool, true, false, codes, List, ◌∷◌, map, Option, Some, None, option_map}
 use Rattle.clap.specs.Words.{Text}
 use Rattle.lrs_machine.specs.declared.question.Question.{Question}
 use Rattle.lrs_sheet_records.specs.declared.sheet.Sheet.{Sheet}
@@ -83,10 +83,16 @@ pub record AreDraftWords (what : Text) (words : List Text) (number key : Option 
   pub is_number : option_map (λ w. w.now) given.number ≡ number
   pub is_key : option_map (λ w. w.now) given.key ≡ key
 
+-- whether a sheet is done is read from the standard input: so the sheet itself is not
+abbrev pub MayAsk : Text → Bool → Type 0
+MayAsk sheet asks = asks ≡ true → sheet ≡ codes "stdin" → ⊥
+
 -- `edit` does an edit sheet, `survey` a survey, `check` tries one, `diff --since` tells what edits changed, `draft` writes a sheet, `ask` answers a sheet of questions, `audit` audits, `log --sum` sums the log, `serve` serves where and how its words say, and every other job asks what they say, and has the answer written in the form that it says
 abbrev pub IsWorkOf : Job → Work → Type 0
-IsWorkOf (job.Edit db sheet sums resume all whole ask) (work.Sheet kind from resumes at_once with_end asks) = (kind ≡ Edits) × (from.now ≡ sheet.now) × (resumes ≡ resume) × (at_once ≡ all) × (with_end ≡ whole) × (asks ≡ ask)
-IsWorkOf (job.Survey db sheet sums resume all whole ask) (work.Sheet kind from resumes at_once with_end asks) = (kind ≡ Survey) × (from.now ≡ sheet.now) × (resumes ≡ resume) × (at_once ≡ all) × (with_end ≡ whole) × (asks ≡ ask)
+IsWorkOf (job.Edit db sheet sums resume all whole ask) (work.Sheet kind from resumes at_once with_end asks) =
+    (kind ≡ Edits) × (from.now ≡ sheet.now) × (resumes ≡ resume) × (at_once ≡ all) × (with_end ≡ whole) × (asks ≡ ask) × MayAsk sheet.now ask
+IsWorkOf (job.Survey db sheet sums resume all whole ask) (work.Sheet kind from resumes at_once with_end asks) =
+    (kind ≡ Survey) × (from.now ≡ sheet.now) × (resumes ≡ resume) × (at_once ≡ all) × (with_end ≡ whole) × (asks ≡ ask) × MayAsk sheet.now ask
 IsWorkOf (job.Check db sheet survey diff) (work.Check kind from differs) = (kind ≡ kind_of survey) × (from.now ≡ sheet.now) × (differs ≡ diff)
 IsWorkOf (job.Ask db questions) (work.Questions from) = from.now ≡ questions.now
 IsWorkOf (job.Diff db others since) (work.Since edit) = SaysCompared (db.now ∷ map (λ w. w.now) others.items) (option_map (λ w. w.now) since) (compared.Since edit)

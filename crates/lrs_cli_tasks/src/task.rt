@@ -1,9 +1,9 @@
 //! What a job has the program do.
 
-ghost use Rattle.std.specs.Prelude.{◌≡◌, IfOk, IfErr, option_map};
+ghost use Rattle.std.specs.Prelude.{◌≡◌, IfOk, IfErr, OnOk, option_map};
 ghost use Rattle.lrs_cli_words.specs.Questions.{Asks, AsksNothing, CannotAsk};
 ghost use Rattle.lrs_cli_tasks.specs.Columns.{CannotPick, columns_of};
-ghost use Rattle.lrs_cli_tasks.specs.Tasks.{IsFormOf, IsTaskOf, IsUnread, columns_given, has_text_cells, kind_of};
+ghost use Rattle.lrs_cli_tasks.specs.Tasks.{IsFormOf, IsTaskOf, IsUnread, MayAsk, columns_given, has_text_cells, kind_of};
 
 use crate::columns::picked_columns;
 use lrs_cli_words::{
@@ -105,6 +105,7 @@ pub enum Task<'a> {
 // Whether a sheet is done is read from the standard input, so the sheet itself is not.
 fn refuse_stdin(sheet: &str, asks: bool) -> Result<(), QuestionFault>
     ensures unread { IfErr result (CannotAsk sheet.now asks) }
+    ensures may { OnOk result (MayAsk sheet.now asks) }
 {
     if asks && sheet == "stdin" {
         return Err(QuestionFault::Unreadable(BadWord::AskOfStdin));

@@ -71,7 +71,7 @@ pub(crate) const DRAFTED: &str = "WHAT, DB and the words behind it:
   replace DB ASSET NUMBER VALUE             a new asset where the old one lay
   move DB ASSET NUMBER ROUTE PLACE [PLACE]  the same asset at another place
   merge DB ROUTE ROUTE...                   joins routes in this order
-  undo DB                                   undoes the last edit
+  undo DB [EDIT]                            undoes EDIT and later, or the last
 NUMBER is that of the new asset, NEW and OLD are names of new routes.
 PLACE, FROM and TO: 3000 (mm), abs:3000, rel:KM2+500 or int:1/3.
 PIECES: LINK:FROM:TO:+ or LINK:FROM:TO:-, one space between two of them.

@@ -1,5 +1,5 @@
 pub mod Worded
 pub mod Holding
-pub mod BeforeLast
+pub mod BeforeFirst
 pub mod Fronted
 pub mod Confirmed

@@ -1,5 +1,5 @@
 -- When a sheet is a draft: each of its records is done, and the inventory that it makes is the one that is intended.
-use Rattle.std.specs.Prelude.{◌≡◌, ◌-◌, ◌==◌, ℕ, Bool, true, false, List, [], ◌∷◌, ◌++◌, codes, length, Option, Some, None, Ok}
+use Rattle.std.specs.Prelude.{◌≡◌, ◌≤◌, ◌-◌, ◌==◌, ℕ, Bool, true, false, List, [], ◌∷◌, ◌++◌, codes, length, Option, Some, None, Ok}
 use Rattle.std.specs.Fmt.{decimal}
 use Rattle.std.specs.List.{flat_map, list_all, list_any, starts_with}
 use Rattle.lrs_events.specs.Places.{Place}
@@ -64,11 +64,18 @@ undone_fronts (Some number) = codes "+,asset," ∷ codes "-,holds," ∷ codes "+
 
 -- ---- what is intended
 
--- The inventory before the last edit differs from the one after only in assets that were entered. What is held at each place is the same as it was, but for the number of the asset, which is another only where new assets were to be entered.
-pub record IsUndone (number : Option ℕ) (before after : Image) : Type 0 where
+-- the number of the first edit that is undone: the last edit's where none is given
+abbrev pub first_undone : Option ℕ → Image → ℕ
+first_undone None before = length before.edits
+first_undone (Some edit) before = edit
+
+-- The first edit that is undone is there, with all behind it. The inventory before it differs from the one after only in assets that were entered. What is held at each place is the same as it was, but for the number of the asset, which is another only where new assets were to be entered.
+pub record IsUndone (from number : Option ℕ) (before after : Image) : Type 0 where
+  pub not_before : 1 ≤ first_undone from before
+  pub not_behind : first_undone from before ≤ length before.edits
   pub was : Image
   pub sound : IsSound was
-  pub is_was : IsMadeBy (log_text 1 (Some (length before.edits - 1)) before) was
+  pub is_was : IsMadeBy (log_text 1 (Some (first_undone from before - 1)) before) was
   pub only_new : DiffersOnlyIn (undone_fronts number) was after
   pub exchanged : AreExchanged was after
 
@@ -81,7 +88,7 @@ Intends (Replace asset number value) before after =
     DiffersOnlyIn (gives_up asset ++ is_entered number) before after × HoldsNothing asset after × HoldsWhatHeld number asset before after
 Intends (Move asset number route from to) before after = DiffersOnlyIn (gives_up asset ++ is_entered number) before after × HoldsNothing asset after
 Intends (Merge routes) before after = DiffersOnlyIn (flat_map changes_route routes.items) before after
-Intends (Undo number) before after = IsUndone number before after
+Intends (Undo from number) before after = IsUndone from number before after
 
 -- A sheet is a draft for an inventory: each of its records is done there, and makes what is intended.
 pub record IsDraft (draft : Draft) (i : Image) (sheet : Text) : Type 0 where

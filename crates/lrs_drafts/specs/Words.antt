@@ -1,6 +1,6 @@
 -- What the words of a draft say: what it is to do, and the words behind that.
 use Rattle.std.specs.Prelude.{◌≡◌, ◌≤◌, ⊤, IsTrue, ℕ, List, [], ◌∷◌, codes, length, Option, Some, None}
-use Rattle.lrs_measure.specs.Limits.{greatest_asset}
+use Rattle.lrs_measure.specs.Limits.{greatest_asset, most_edits}
 use Rattle.lrs_measure.specs.Texts.{Name}
 use Rattle.lrs_element.specs.declared.link.Piece.{Piece}
 use Rattle.lrs_position.specs.Names.{is_route_name}
@@ -26,6 +26,10 @@ SaysValue word value = (value ≡ word) × IsTrue (is_value word)
 -- the number of an asset
 abbrev pub SaysAsset : Text → ℕ → Type 0
 SaysAsset word asset = SaysNumber 1 greatest_asset word asset
+
+-- the number of an edit
+abbrev pub SaysEdit : Text → ℕ → Type 0
+SaysEdit word edit = SaysNumber 1 most_edits word edit
 
 -- pieces, with a space between two
 abbrev pub SaysPieces : Text → List Piece → Type 0
@@ -75,6 +79,12 @@ SaysMove _ asset number route from to = ⊥
 abbrev pub SaysMerge : List Text → List Name → Type 0
 SaysMerge words routes = AreSaid SaysRoute words routes × (2 ≤ length routes)
 
+-- nothing, or the number of the first edit that is undone
+abbrev pub SaysUndo : List Text → Option ℕ → Type 0
+SaysUndo [] None = ⊤
+SaysUndo (first ∷ []) (Some edit) = SaysEdit first edit
+SaysUndo _ _ = ⊥
+
 -- What the words say. The number of a new asset may stand beside them for `undo` alone.
 abbrev pub SaysDraft : Text → List Text → Option Text → Draft → Type 0
 SaysDraft what words number (Split route place new) = (what ≡ codes "split") × (number ≡ None) × SaysSplit words route place new
@@ -83,7 +93,7 @@ SaysDraft what words number (Retire asset) = (what ≡ codes "retire") × (numbe
 SaysDraft what words number (Replace asset new value) = (what ≡ codes "replace") × (number ≡ None) × SaysReplace words asset new value
 SaysDraft what words number (Move asset new route from to) = (what ≡ codes "move") × (number ≡ None) × SaysMove words asset new route from to
 SaysDraft what words number (Merge routes) = (what ≡ codes "merge") × (number ≡ None) × SaysMerge words routes.items
-SaysDraft what words number (Undo new) = (what ≡ codes "undo") × (words ≡ []) × SaysAssetIfGiven number new
+SaysDraft what words number (Undo from new) = (what ≡ codes "undo") × SaysUndo words from × SaysAssetIfGiven number new
 
 -- the draft moves an asset as these words say it, to these places
 abbrev pub IsMoved : Text → Text → Text → Place → Option Place → Draft → Type 0

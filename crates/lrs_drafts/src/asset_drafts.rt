@@ -209,6 +209,11 @@ pub(crate) fn lies_on(row: &RouteRow, asset: u64) -> bool {
     row.spans.rows().iter().any(|span| span.asset == asset)
 }
 
+/// Whether an asset lies on any route.
+pub(crate) fn lies_anywhere(kept: &ImageLists, asset: u64) -> bool {
+    kept.routes.iter().any(|row| lies_on(row, asset))
+}
+
 /// The first route from the front on which an asset lies, and whether it lies on another.
 fn first_route(kept: &ImageLists, asset: u64) -> (Option<&RouteRow>, bool) {
     let mut first = None;

@@ -112,38 +112,24 @@ fn exchanged(
     Ok(fronts)
 }
 
-/// Whether an asset gives up what it holds, and nothing else is different.
-fn only_gives_up(
+/// Whether an asset has given up all that it held, and the difference has only lines that begin in one of these ways.
+fn only_retires(
     alloc: Global,
     asset: AssetNumber,
+    fronts: &[Vec<u8>],
     before: &ImageLists,
     after: &ImageLists,
 ) -> Result<bool, AllocError>
     requires before { IsSound (image_of before.now) }
     requires after { IsSound (image_of after.now) }
-    ensures { IfOk result (λ only. only ≡ true
-        → DiffersOnlyIn (gives_up asset) (image_of before.now) (image_of after.now)) }
+    ensures { IfOk result (λ retired. retired ≡ true
+        → DiffersOnlyIn (texts_of fronts.now) (image_of before.now) (image_of after.now)
+        × HoldsNothing asset (image_of after.now)) }
 {
-    let fronts = given_up(alloc, asset)?;
-    differs_only_in(alloc, fronts.as_slice(), before, after)
-}
-
-/// Whether an asset gives up what it holds, another one is entered, and nothing else is different.
-fn only_exchanges(
-    alloc: Global,
-    asset: AssetNumber,
-    number: AssetNumber,
-    before: &ImageLists,
-    after: &ImageLists,
-) -> Result<bool, AllocError>
-    requires before { IsSound (image_of before.now) }
-    requires after { IsSound (image_of after.now) }
-    ensures { IfOk result (λ only. only ≡ true
-        → DiffersOnlyIn (gives_up asset ++ is_entered number)
-        (image_of before.now) (image_of after.now)) }
-{
-    let fronts = exchanged(alloc, asset, number)?;
-    differs_only_in(alloc, fronts.as_slice(), before, after)
+    if !differs_only_in(alloc, fronts, before, after)? {
+        return Ok(false);
+    }
+    holds_nothing(alloc, asset, after)
 }
 
 /// Whether an asset has given up all that it held, and nothing else is different.
@@ -159,10 +145,8 @@ fn is_retired(
         → DiffersOnlyIn (gives_up asset) (image_of before.now) (image_of after.now)
         × HoldsNothing asset (image_of after.now)) }
 {
-    if !only_gives_up(alloc, asset, before, after)? {
-        return Ok(false);
-    }
-    holds_nothing(alloc, asset, after)
+    let fronts = given_up(alloc, asset)?;
+    only_retires(alloc, asset, fronts.as_slice(), before, after)
 }
 
 /// Whether an asset has given up all that it held, another one is entered, and nothing else is different.
@@ -180,10 +164,8 @@ fn is_moved(
         (image_of before.now) (image_of after.now)
         × HoldsNothing asset (image_of after.now)) }
 {
-    if !only_exchanges(alloc, asset, number, before, after)? {
-        return Ok(false);
-    }
-    holds_nothing(alloc, asset, after)
+    let fronts = exchanged(alloc, asset, number)?;
+    only_retires(alloc, asset, fronts.as_slice(), before, after)
 }
 
 /// Whether the same holds, and the other one has what the asset held.
@@ -229,7 +211,7 @@ fn is_intended(
         }
         Draft::Move { asset, number, .. } => is_moved(alloc, *asset, *number, before, after),
         Draft::Merge { routes } => changes_all(alloc, routes.as_slice(), before, after),
-        Draft::Undo { number } => is_undone(alloc, *number, before, after),
+        Draft::Undo { from, number } => is_undone(alloc, *from, *number, before, after),
     }
 }
 

@@ -45,8 +45,10 @@ pub enum Draft {
     Merge {
         routes: Vec<RouteName>,
     },
-    /// The last edit is undone. Assets that it took away are entered anew, with numbers from `number` on.
+    /// The edit of the number `from` and all behind it are undone, or the last edit alone. Assets that they took away are
+    /// entered anew, with numbers from `number` on.
     Undo {
+        from: Option<u64>,
         number: Option<AssetNumber>,
     },
 }

@@ -12,7 +12,7 @@ mod fronts;
 mod ground;
 mod holdings;
 mod keys;
-mod last_edit;
+mod lost_rows;
 mod marks;
 mod placement;
 mod positions;
@@ -22,6 +22,7 @@ mod routes;
 mod sheet;
 mod undo;
 mod undone;
+mod undone_edit;
 mod words;
 
 pub use draft::Draft;

@@ -1,250 +1,16 @@
-//! What gives back places that the last edit took away, under new numbers.
+//! What gives routes back the ground that an edit took away.
 
-use crate::asset_drafts::{NO_ASSET, asset_in, kind_of, route_in, write_retire};
 use crate::fault::DraftFault;
 use crate::keys::SheetWriter;
-use crate::last_edit::{LastEdit, UNREAD, asset_number, chainage, expressions, field, route_name};
-use crate::placement::{BAD_OFFSET, Placement, entry_like, write_from, write_placed};
-use crate::positions::{Extent, chainage_at};
+use crate::placement::{Placement, write_from};
+use crate::positions::Extent;
 use crate::undo::mark_list;
+use crate::undone_edit::{UNREAD, UndoneEdit, chainage, route_named};
 use lrs_element::Course;
-use lrs_events::{ClassName, Kind, Side, Span, read_side};
 use lrs_image::ImageLists;
-use lrs_machine::{AssetNumber, Chainage, Command, PieceList, RouteRow};
-use lrs_position::{Expr, Referent, Route};
+use lrs_machine::{Chainage, Command, PieceList};
+use lrs_position::{Referent, Route};
 use std::alloc::{AllocError, Global};
-
-const NO_NUMBER: DraftFault = DraftFault::Impossible(
-    "assets were taken away: give --number N, for new assets",
-);
-
-const NO_MORE_NUMBERS: DraftFault = DraftFault::Impossible(
-    "no more numbers of assets are left behind that of --number",
-);
-
-/// What was taken of the rows of a route: from one chainage up to another, on these sides, of an asset or a class or of all.
-#[derive(Clone, Copy)]
-struct Taken {
-    from: u64,
-    to: u64,
-    side: Side,
-    asset: Option<u64>,
-    class: Option<ClassName>,
-}
-
-/// Whether a row is of what was taken.
-fn is_wanted(taken: &Taken, row: &Span) -> bool {
-    let of_asset = match taken.asset {
-        Some(asset) => row.asset == asset,
-        None => true,
-    };
-    let of_class = match taken.class {
-        Some(class) => row.class == class,
-        None => true,
-    };
-    of_asset && of_class
-}
-
-/// The side or sides that two have in common.
-fn common_side(side: Side, other: Side) -> Option<Side> {
-    match (side, other) {
-        (Side::B, other) => Some(other),
-        (side, Side::B) => Some(side),
-        (Side::L, Side::L) => Some(Side::L),
-        (Side::R, Side::R) => Some(Side::R),
-        _ => None,
-    }
-}
-
-/// What was taken of a row.
-fn part_of(taken: &Taken, row: &Span) -> Option<Span> {
-    let side = common_side(taken.side, row.side)?;
-    let from = row.from.max(taken.from);
-    let to = row.to.min(taken.to);
-    if from < to && is_wanted(taken, row) {
-        return Some(Span {
-            asset: row.asset,
-            class: row.class,
-            from,
-            to,
-            side,
-        });
-    }
-    None
-}
-
-/// What was taken of rows.
-fn parts_of(alloc: Global, taken: &Taken, rows: &[Span]) -> Result<Vec<Span>, AllocError> {
-    let mut parts = Vec::new(alloc);
-    for row in rows {
-        if let Some(part) = part_of(taken, row) {
-            parts.push(part)?;
-        }
-    }
-    Ok(parts)
-}
-
-/// The number that stands so many numbers behind the first one for new assets.
-fn new_number(first: &AssetNumber, behind: usize) -> Option<AssetNumber> {
-    let number = first.get().checked_add(behind as u64)?;
-    AssetNumber::new(number)
-}
-
-/// Adds the record that enters an asset like that of a row, where the row was.
-fn write_returned(
-    alloc: Global,
-    sheet: &mut SheetWriter<'_>,
-    was: &ImageLists,
-    route: &Route,
-    row: &Span,
-    number: &AssetNumber,
-) -> Result<(), DraftFault> {
-    let Some(asset) = asset_in(was, row.asset) else {
-        return Err(NO_ASSET);
-    };
-    let kind = kind_of(was, &row.class)?;
-    let Some(entry) = entry_like(asset, number, row.side) else {
-        return Err(BAD_OFFSET);
-    };
-    let extent = Extent {
-        from: row.from,
-        to: if kind == Kind::Point {
-            None
-        } else {
-            Some(row.to)
-        },
-    };
-    write_placed(alloc, sheet, was, Placement::Enter(&entry), route, extent)
-}
-
-/// Adds the records that enter assets like those of rows, under numbers from this one on.
-fn write_all_returned(
-    alloc: Global,
-    sheet: &mut SheetWriter<'_>,
-    was: &ImageLists,
-    route: &Route,
-    rows: &[Span],
-    first: &AssetNumber,
-) -> Result<(), DraftFault> {
-    for (behind, row) in rows.iter().enumerate() {
-        let Some(number) = new_number(first, behind) else {
-            return Err(NO_MORE_NUMBERS);
-        };
-        write_returned(alloc, sheet, was, route, row, &number)?;
-    }
-    Ok(())
-}
-
-/// Adds the records that give back what was taken of a route.
-///
-/// # Errors
-/// `Impossible` where assets were taken away and there are no numbers for new ones.
-fn write_taken(
-    alloc: Global,
-    sheet: &mut SheetWriter<'_>,
-    edit: &LastEdit<'_>,
-    row: &RouteRow,
-    taken: &Taken,
-) -> Result<(), DraftFault> {
-    let parts = parts_of(alloc, taken, row.spans.rows())?;
-    if parts.is_empty() {
-        return Ok(());
-    }
-    match &edit.number {
-        Some(first) => {
-            write_all_returned(alloc, sheet, edit.was, &row.route, parts.as_slice(), first)
-        }
-        None => Err(NO_NUMBER),
-    }
-}
-
-/// The chainage of a position that a command had.
-fn chainage_of(route: &Route, expression: &Expr, is_point: bool) -> Result<u64, DraftFault> {
-    match chainage_at(route, expression, is_point) {
-        Some(chainage) => Ok(chainage),
-        None => Err(UNREAD),
-    }
-}
-
-/// From where to where a command lay on a route whose line has its method behind `method` fields.
-fn reach(route: &Route, line: &[u8], method: u32) -> Result<(u64, u64), DraftFault> {
-    let Some((from, to)) = expressions(line, method) else {
-        return Err(UNREAD);
-    };
-    match to {
-        Some(to) => {
-            let from = chainage_of(route, &from, false)?;
-            Ok((from, chainage_of(route, &to, false)?))
-        }
-        None => {
-            let at = chainage_of(route, &from, true)?;
-            Ok((at, at.saturating_add(1)))
-        }
-    }
-}
-
-/// What an asset gave up is entered anew.
-pub(crate) fn undo_retire(
-    alloc: Global,
-    sheet: &mut SheetWriter<'_>,
-    edit: &LastEdit<'_>,
-) -> Result<(), DraftFault> {
-    let Some(asset) = asset_number(edit.line, 1) else {
-        return Err(UNREAD);
-    };
-    let Some(name) = route_name(edit.line, 2) else {
-        return Err(UNREAD);
-    };
-    let Some(row) = route_in(edit.was, &name) else {
-        return Err(UNREAD);
-    };
-    let (from, to) = reach(&row.route, edit.line, 3)?;
-    let taken = Taken {
-        from,
-        to,
-        side: Side::B,
-        asset: Some(asset.get()),
-        class: None,
-    };
-    write_taken(alloc, sheet, edit, row, &taken)
-}
-
-/// The class and the side of a new asset's line.
-fn class_and_side(line: &[u8]) -> Option<(ClassName, Side)> {
-    let class = ClassName::new(field(line, 2))?;
-    let side = read_side(field(line, 4))?;
-    Some((class, side))
-}
-
-/// The new asset gives up all that it holds, and what it took from others is entered anew.
-pub(crate) fn undo_supersede(
-    alloc: Global,
-    sheet: &mut SheetWriter<'_>,
-    edit: &LastEdit<'_>,
-) -> Result<(), DraftFault> {
-    let Some(asset) = asset_number(edit.line, 1) else {
-        return Err(UNREAD);
-    };
-    let Some((class, side)) = class_and_side(edit.line) else {
-        return Err(UNREAD);
-    };
-    let Some(name) = route_name(edit.line, 3) else {
-        return Err(UNREAD);
-    };
-    let Some(row) = route_in(edit.was, &name) else {
-        return Err(UNREAD);
-    };
-    let (from, to) = reach(&row.route, edit.line, 5)?;
-    let taken = Taken {
-        from,
-        to,
-        side,
-        asset: None,
-        class: Some(class),
-    };
-    write_retire(alloc, sheet, edit.now, asset)?;
-    write_taken(alloc, sheet, edit, row, &taken)
-}
 
 /// A referent of a route that stands on it still.
 fn remaining_referent<'a>(was: &'a Route, now: &Route) -> Option<&'a Referent> {
@@ -341,38 +107,19 @@ fn write_realigned(
     sheet.add(alloc, &command)
 }
 
-/// What lay between two chainages, of whatever asset.
-fn all_between(from: u64, to: u64) -> Taken {
-    Taken {
-        from,
-        to,
-        side: Side::B,
-        asset: None,
-        class: None,
-    }
-}
-
-/// The route gets its ground back, and what left with it is set and entered anew.
+/// The route gets its ground back, and the referents that left with it are set.
 pub(crate) fn undo_realign(
     alloc: Global,
     sheet: &mut SheetWriter<'_>,
-    edit: &LastEdit<'_>,
+    edit: &UndoneEdit<'_>,
 ) -> Result<(), DraftFault> {
-    let Some(name) = route_name(edit.line, 1) else {
-        return Err(UNREAD);
-    };
     let from = chainage(edit.line, 2)?;
     let to = chainage(edit.line, 3)?;
-    let Some(row) = route_in(edit.was, &name) else {
-        return Err(UNREAD);
-    };
-    let Some(now) = route_in(edit.now, &name) else {
-        return Err(UNREAD);
-    };
+    let row = route_named(edit.was, edit.line, 1)?;
+    let now = route_named(edit.now, edit.line, 1)?;
     write_realigned(alloc, sheet, &row.route, &now.route, from, to)?;
     let remaining = remaining_referent(&row.route, &now.route);
-    write_referents(alloc, sheet, edit.was, &row.route, remaining, from, to)?;
-    write_taken(alloc, sheet, edit, row, &all_between(from, to))
+    write_referents(alloc, sheet, edit.was, &row.route, remaining, from, to)
 }
 
 /// Adds the record that makes a route as it was.
@@ -395,20 +142,14 @@ fn write_route(
     sheet.add(alloc, &command)
 }
 
-/// The route is made anew, with its referents, and what lay on it is entered anew.
+/// The route is made anew, with its referents.
 pub(crate) fn undo_close(
     alloc: Global,
     sheet: &mut SheetWriter<'_>,
-    edit: &LastEdit<'_>,
+    edit: &UndoneEdit<'_>,
 ) -> Result<(), DraftFault> {
-    let Some(name) = route_name(edit.line, 1) else {
-        return Err(UNREAD);
-    };
-    let Some(row) = route_in(edit.was, &name) else {
-        return Err(UNREAD);
-    };
+    let row = route_named(edit.was, edit.line, 1)?;
     let end = row.route.length();
     write_route(alloc, sheet, &row.route)?;
-    write_referents(alloc, sheet, edit.was, &row.route, None, 0, end)?;
-    write_taken(alloc, sheet, edit, row, &all_between(0, end))
+    write_referents(alloc, sheet, edit.was, &row.route, None, 0, end)
 }

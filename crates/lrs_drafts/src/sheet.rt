@@ -48,7 +48,7 @@ fn write_records(
             to,
         } => write_move(alloc, sheet, kept, *asset, *number, route, *from, *to),
         Draft::Merge { routes } => write_merge(alloc, sheet, kept, routes.as_slice()),
-        Draft::Undo { number } => write_undo(alloc, sheet, kept, *number),
+        Draft::Undo { from, number } => write_undo(alloc, sheet, kept, *from, *number),
     }
 }
 
@@ -61,9 +61,9 @@ fn written(
 ) -> Result<Vec<u8>, DraftFault>
     requires sound { IsSound (image_of kept.now) }
 {
-    let mut sheet = SheetWriter::new(alloc, key_front, kept.edits.len())?;
+    let mut sheet = SheetWriter::new(alloc, key_front, kept.edits.len());
     write_records(alloc, &mut sheet, kept, draft)?;
-    Ok(sheet.into_text())
+    sheet.text(alloc)
 }
 
 /// An edit sheet that does what a draft is for: each of its records is done at a copy of the inventory, and makes what is

@@ -1,6 +1,6 @@
-//! Whether the last edit is undone.
+//! Whether edits are undone.
 
-ghost use Rattle.std.specs.Prelude.{◌≡◌, ◌-◌, true, IfOk, Some, length};
+ghost use Rattle.std.specs.Prelude.{◌≡◌, ◌≤◌, ◌-◌, true, IfOk, Some, length};
 ghost use Rattle.lrs_machine.specs.Sound.{IsSound};
 ghost use Rattle.lrs_image.specs.OpenLists.{image_of};
 ghost use Rattle.lrs_sheet.specs.MadeLogs.{IsMadeBy};
@@ -13,13 +13,14 @@ ghost use Rattle.lrs_drafts.specs.Holdings.{AreExchanged};
 use crate::former_desk::former_desk;
 use crate::fronts::{differs_only_in, push_front};
 use crate::holdings::are_exchanged;
+use crate::undone_edit::first_undone;
 use lrs_desk::{Desk, Keeper};
 use lrs_image::ImageLists;
 use lrs_machine::AssetNumber;
 use lrs_sheet::discard_copy;
 use std::alloc::{AllocError, Global};
 
-/// How the lines begin in which an inventory may differ from the one before the edit that is undone.
+/// How the lines begin in which an inventory may differ from the one before the edits that are undone.
 fn undone_fronts(alloc: Global, number: Option<AssetNumber>) -> Result<Vec<Vec<u8>>, AllocError>
     ensures { IfOk result (λ fronts. texts_of fronts.items ≡ spec.undone_fronts number) }
 {
@@ -70,42 +71,52 @@ fn is_back(
     are_exchanged(alloc, was, after)
 }
 
-/// Whether the last edit is undone, with a desk over what those before it made.
+/// Whether the edits from the first one on are undone, with a desk over what those before it made.
 fn is_back_at<K: Keeper>(
     alloc: Global,
+    from: Option<u64>,
     number: Option<AssetNumber>,
     before: &ImageLists,
+    first: u64,
     former: &Desk<K>,
     after: &ImageLists,
 ) -> Result<bool, AllocError>
     requires after { IsSound (image_of after.now) }
-    requires made { IsMadeBy (log_text 1 (Some (length (image_of before.now).edits - 1))
-        (image_of before.now)) former.now.image }
+    requires first { first ≡ spec.first_undone from (image_of before.now) }
+    requires not_before { 1 ≤ spec.first_undone from (image_of before.now) }
+    requires not_behind { spec.first_undone from (image_of before.now)
+        ≤ length (image_of before.now).edits }
+    requires made { IsMadeBy (log_text 1 (Some (first - 1)) (image_of before.now))
+        former.now.image }
     ensures { IfOk result (λ undone. undone ≡ true
-        → IsUndone number (image_of before.now) (image_of after.now)) }
+        → IsUndone from number (image_of before.now) (image_of after.now)) }
 {
     let inventory = former.inventory();
     inventory.prove_sound();
     is_back(alloc, number, inventory.kept(), after)
 }
 
-/// Whether the last edit of the one inventory is undone in the other.
+/// Whether an edit of the one inventory and all behind it, or its last edit alone, are undone in the other.
 ///
 /// # Errors
 /// When memory runs out.
 pub(crate) fn is_undone(
     alloc: Global,
+    from: Option<u64>,
     number: Option<AssetNumber>,
     before: &ImageLists,
     after: &ImageLists,
 ) -> Result<bool, AllocError>
     requires after { IsSound (image_of after.now) }
     ensures { IfOk result (λ undone. undone ≡ true
-        → IsUndone number (image_of before.now) (image_of after.now)) }
+        → IsUndone from number (image_of before.now) (image_of after.now)) }
 {
-    match former_desk(alloc, before) {
+    let Some(first) = first_undone(before, from) else {
+        return Ok(false);
+    };
+    match former_desk(alloc, before, first) {
         Ok(former) => {
-            let undone = is_back_at(alloc, number, before, &former, after);
+            let undone = is_back_at(alloc, from, number, before, first, &former, after);
             discard_copy(former);
             undone
         }

@@ -2,14 +2,14 @@
 
 ghost use Rattle.std.specs.Prelude.{◌≡◌, IfOk, IfSome, None, codes, map, option_map};
 ghost use Rattle.lrs_sheet_records.specs.Words.{AreSaid, IsPieceText, words_of};
-ghost use Rattle.lrs_drafts.specs.Words.{IsMoved, SaysAsset, SaysDraft, SaysPieces, SaysRoute, SaysValue};
+ghost use Rattle.lrs_drafts.specs.Words.{IsMoved, SaysAsset, SaysAssetIfGiven, SaysDraft, SaysEdit, SaysPieces, SaysRoute, SaysUndo, SaysValue};
 
 use crate::draft::Draft;
 use crate::fault::DraftFault;
 use lrs_element::Piece;
 use lrs_events::Value;
 use lrs_machine::{AssetNumber, PieceList, Place, read_place};
-use lrs_measure::limits::GREATEST_ASSET;
+use lrs_measure::limits::{GREATEST_ASSET, MOST_EDITS};
 use lrs_measure::read_digits;
 use lrs_position::RouteName;
 use lrs_sheet_records::{cut_at, read_piece};
@@ -62,6 +62,15 @@ fn asset_of(word: &str) -> Option<AssetNumber>
     match read_digits(word.as_bytes(), GREATEST_ASSET) {
         Some(number) => AssetNumber::new(number),
         None => None,
+    }
+}
+
+fn edit_of(word: &str) -> Option<u64>
+    ensures { IfSome result (SaysEdit word.now) }
+{
+    match read_digits(word.as_bytes(), MOST_EDITS as u64) {
+        Some(edit) if edit >= 1 => Some(edit),
+        _ => None,
     }
 }
 
@@ -271,21 +280,44 @@ fn merge_of(alloc: Global, words: &[&str]) -> Result<Draft, DraftFault>
     }
 }
 
+/// The number of the first edit that is undone, where words say one.
+fn first_edit(words: &[&str]) -> Result<Option<u64>, DraftFault>
+    ensures { IfOk result (SaysUndo (map (λ w. w.now) words.now)) }
+{
+    match words {
+        [] => Ok(None),
+        [word] => match edit_of(word) {
+            Some(edit) => Ok(Some(edit)),
+            None => Err(DraftFault::Unreadable("EDIT is no edit number")),
+        },
+        _ => Err(DraftFault::Unreadable("undo wants no words, or EDIT")),
+    }
+}
+
+/// The number of the first new asset, where it is given.
+fn asset_if_given(number: Option<&str>) -> Result<Option<AssetNumber>, DraftFault>
+    ensures { IfOk result (SaysAssetIfGiven (option_map (λ w. w.now) number.entry)) }
+{
+    match number {
+        Some(word) => match asset_of(word) {
+            Some(asset) => Ok(Some(asset)),
+            None => Err(BAD_NUMBER),
+        },
+        None => Ok(None),
+    }
+}
+
 fn undo_of(words: &[&str], number: Option<&str>) -> Result<Draft, DraftFault>
     ensures { IfOk result (SaysDraft (codes "undo") (map (λ w. w.now) words.now)
         (option_map (λ w. w.now) number.entry)) }
 {
-    if !words.is_empty() {
-        return Err(DraftFault::Unreadable("undo wants no words, or --number N alone"));
-    }
-    match number {
-        Some(word) => match asset_of(word) {
-            Some(asset) => Ok(Draft::Undo {
-                number: Some(asset),
-            }),
-            None => Err(BAD_NUMBER),
-        },
-        None => Ok(Draft::Undo { number: None }),
+    let from = match first_edit(words) {
+        Ok(from) => from,
+        Err(fault) => return Err(fault),
+    };
+    match asset_if_given(number) {
+        Ok(number) => Ok(Draft::Undo { from, number }),
+        Err(fault) => Err(fault),
     }
 }
 

@@ -6,10 +6,21 @@ use Rattle.lrs_machine.specs.Lines.{Text}
 use Rattle.lrs_sheet_records.specs.Words.{parts_of}
 use Rattle.lrs_sheet_advice.specs.AdviceLines.{lines_text}
 use Rattle.lrs_sheet_advice.specs.Refusals.{is_refusal, refusals}
-use Rattle.lrs_sheet_advice.proofs.WrittenLines.{refusals-more}
 
 text_of_both : (xs ys : List Text) → lines_text (xs ++ ys) ≡ lines_text xs ++ lines_text ys
 text_of_both xs ys = flat_map-append (λ (line : Text). line ++ 10 ∷ []) xs ys
+
+-- the refusals among some replies, the first one apart
+first-apart : (p : Text → Bool) (x : Text) (xs : List Text) → filter p (x ∷ xs) ≡ filter p (x ∷ []) ++ filter p xs
+first-apart p x xs = by (p x)
+  where
+    by : (t : Bool) → cond t (x ∷ filter p xs) (filter p xs) ≡ cond t (x ∷ []) [] ++ filter p xs
+    by true = refl
+    by false = refl
+
+-- the replies that are left, once one is gone through
+refusals-more : (rest reply behind : Text) → parts_of 10 rest ≡ reply ∷ parts_of 10 behind → refusals rest ≡ filter is_refusal (reply ∷ []) ++ refusals behind
+refusals-more rest reply behind cut = ap (λ (xs : List Text). filter is_refusal xs) cut ∙ first-apart is_refusal reply (parts_of 10 behind)
 
 -- one more reply is gone through
 pub pushed_more : (all lines rest reply behind next : Text) → lines ++ lines_text (refusals rest) ≡ all → parts_of 10 rest ≡ reply ∷ parts_of 10 behind

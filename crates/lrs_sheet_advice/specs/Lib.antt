@@ -1,4 +1,5 @@
 pub mod AdviceLines
+pub mod AdviceItems
 pub mod Refusals
 pub mod Columns
 pub mod Slots

@@ -1,7 +1,7 @@
 -- Which replies refuse a record, `KEY,refused,CAUSE`, and the lines of advice about them.
-use Rattle.std.specs.Prelude.{◌≡◌, ℕ, ◌==◌, Bool, nat_eq, if◌then◌else◌, List, [], ◌∷◌, ◌++◌, Option, Some, None, IsTrue, ⊤, codes, drop, slice_index_or}
+use Rattle.std.specs.Prelude.{◌≡◌, ℕ, ◌==◌, Bool, nat_eq, if◌then◌else◌, List, [], ◌∷◌, ◌++◌, Option, Some, None, IsTrue, codes, drop, slice_index_or}
 use Rattle.std.specs.Fmt.{decimal}
-use Rattle.std.specs.List.{filter, position, starts_with}
+use Rattle.std.specs.List.{AllZip, filter, position, starts_with}
 use Rattle.std.specs.Io.KnownBytes.{Appends}
 use Rattle.lrs_measure.specs.Alphabets.{is_lone_dash}
 use Rattle.lrs_machine.specs.Lines.{Text}
@@ -27,6 +27,11 @@ is_refusal reply = starts_with nat_eq (from_comma reply) refused_mark
 -- the replies that refuse a record, one a line
 abbrev pub refusals : Text → List Text
 refusals replies = filter is_refusal (parts_of 10 replies)
+
+-- the same of the replies that are left, if any are
+abbrev pub refusals_left : Option Text → List Text
+refusals_left None = []
+refusals_left (Some replies) = refusals replies
 
 -- what stands before the first comma of a reply
 abbrev pub first_part : Text → Text
@@ -54,12 +59,13 @@ head_text start key = start_text start ++ key_part key ++ codes ": "
 abbrev pub IsAbout : Text → Text → Type 0
 IsAbout reply line = (start : Option ℕ) × (rest : Text) × (line ≡ head_text start (key_of reply) ++ rest)
 
--- one line for each of these replies, in their order, and no byte in them is a control byte
+-- ... and no byte in it is a control byte
+abbrev pub IsLineOn : Text → Text → Type 0
+IsLineOn reply line = IsAbout reply line × IsTrue (is_printable_text line)
+
+-- one line for each of these replies, in their order
 abbrev pub AreAbout : List Text → List Text → Type 0
-AreAbout [] [] = ⊤
-AreAbout (reply ∷ replies) (line ∷ lines) = IsAbout reply line × IsTrue (is_printable_text line) × AreAbout replies lines
-AreAbout [] (line ∷ lines) = ⊥
-AreAbout (reply ∷ replies) [] = ⊥
+AreAbout replies lines = AllZip IsLineOn replies lines
 
 -- Lines about these replies were written, behind what was there.
 abbrev pub WritesAdvice : List Text → Option Text → Option Text → Type 0

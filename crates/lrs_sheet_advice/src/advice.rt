@@ -1,8 +1,7 @@
 //! Advice about a whole sheet.
 
-ghost use Rattle.std.specs.Prelude.{◌∷◌, [], OnOk};
-ghost use Rattle.std.specs.List.{filter};
-ghost use Rattle.lrs_sheet_advice.specs.Refusals.{WritesAdvice, is_refusal as refuses, refusals};
+ghost use Rattle.std.specs.Prelude.{◌≡◌, ◌∷◌, [], IfNone, IfOk, IfSome, OnOk, option_map};
+ghost use Rattle.lrs_sheet_advice.specs.Refusals.{WritesAdvice, head_text, key_of, refusals, refusals_left};
 
 use crate::fault::AdviceFault;
 use crate::line::{AdviceLine, write_line};
@@ -10,8 +9,59 @@ use crate::records::Records;
 use crate::refused::{say_head, say_refused};
 use crate::reply::{is_refusal, key_text};
 use lrs_sheet_records::{Sheet, cut_at};
-use std::alloc::Global;
+use std::alloc::{AllocError, Global};
 use std::io::Write;
+
+/// A reply that refuses its record, and the replies behind it.
+#[derive(Clone, Copy)]
+pub(crate) struct Refusal<'a> {
+    pub reply: &'a [u8],
+    pub behind: Option<&'a [u8]>,
+}
+
+/// Goes on through the replies that are left and their records, up to the next reply that refuses its record.
+#[tactic(auto, using(crate::proofs::RefusalsLeft::less, crate::proofs::RefusalsLeft::one_refused))]
+pub(crate) fn next_refusal<'a>(
+    records: &mut Records<'_>,
+    replies: Option<&'a [u8]>,
+) -> Result<Option<Refusal<'a>>, AdviceFault>
+    ensures some { IfOk result (λ found. IfSome found (λ refusal.
+        refusals_left (option_map (λ text. text.now) replies.entry) ≡ refusal.reply.now
+        ∷ refusals_left (option_map (λ text. text.now) refusal.behind))) }
+    ensures none { IfOk result (λ found. IfNone found
+        (refusals_left (option_map (λ text. text.now) replies.entry) ≡ [])) }
+{
+    let mut left = replies;
+    'replies: loop {
+        match left {
+            None => return Ok(None),
+            Some(text) => {
+                records.go_on()?;
+                let (reply, behind) = cut_at(text, b'\n');
+                if is_refusal(reply) {
+                    return Ok(Some(Refusal { reply, behind }));
+                }
+                left = behind;
+            }
+        }
+    }
+}
+
+/// Says where the record of a refusal is, what is wrong with it and what to do about it; gives the line on which it starts.
+pub(crate) fn say_line(
+    alloc: Global,
+    head: &mut AdviceLine,
+    body: &mut AdviceLine,
+    records: &mut Records<'_>,
+    reply: &[u8],
+) -> Result<Option<usize>, AllocError>
+    ensures { IfOk result (λ start. head.new ≡ head_text start (key_of reply.now)) }
+{
+    let start = records.line();
+    say_head(alloc, head, start, key_text(reply))?;
+    say_refused(alloc, body, records, reply)?;
+    Ok(start)
+}
 
 /// Writes the line about a refusal.
 fn advise<W: Write>(
@@ -25,33 +75,12 @@ fn advise<W: Write>(
     ensures { OnOk result (WritesAdvice (reply.now ∷ [])
         (W.contents writer.old) (W.contents writer.new)) }
 {
-    let start = records.line();
-    say_head(alloc, head, start, key_text(reply))?;
-    say_refused(alloc, body, records, reply)?;
+    say_line(alloc, head, body, records, reply)?;
     write_line(writer, head, body)
 }
 
-/// Goes on to the record of a reply, and writes a line where the reply refuses it.
-fn go_through<W: Write>(
-    alloc: Global,
-    writer: &mut W,
-    head: &mut AdviceLine,
-    body: &mut AdviceLine,
-    records: &mut Records<'_>,
-    reply: &[u8],
-) -> Result<(), AdviceFault>
-    ensures { OnOk result (WritesAdvice (filter refuses (reply.now ∷ []))
-        (W.contents writer.old) (W.contents writer.new)) }
-{
-    records.go_on()?;
-    if is_refusal(reply) {
-        advise(alloc, writer, head, body, records, reply)
-    } else {
-        Ok(())
-    }
-}
-
-/// Goes on to the header, then through the replies and their records, and writes a line for each reply that refuses.
+/// Goes on to the header, then through the refusals, and writes a line for each.
+#[tactic(auto, using(crate::proofs::RefusalsLeft::fewer))]
 fn write_lines<W: Write>(
     alloc: Global,
     writer: &mut W,
@@ -64,12 +93,13 @@ fn write_lines<W: Write>(
         (W.contents writer.old) (W.contents writer.new)) }
 {
     records.go_on()?;
-    let mut rest = replies;
-    'replies: loop {
-        let (reply, behind) = cut_at(rest, b'\n');
-        go_through(alloc, writer, head, body, records, reply)?;
-        match behind {
-            Some(text) => rest = text,
+    let mut left = Some(replies);
+    'refusals: loop {
+        match next_refusal(records, left)? {
+            Some(refusal) => {
+                advise(alloc, writer, head, body, records, refusal.reply)?;
+                left = refusal.behind;
+            }
             None => return Ok(()),
         }
     }

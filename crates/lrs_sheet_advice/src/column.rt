@@ -21,7 +21,7 @@ pub(crate) fn column_of(kind: Sheet, field: Field) -> usize
 }
 
 /// The letter of that column.
-fn letter_of(kind: Sheet, field: Field) -> u8
+pub(crate) fn letter_of(kind: Sheet, field: Field) -> u8
     ensures { result ≡ spec.letter_of kind field }
 {
     b'A' + column_of(kind, field) as u8

@@ -119,6 +119,27 @@ fn say_text(
     }
 }
 
+/// What a field of the record is for, and the method by which it is read, where that is known.
+fn slot_in(records: &Records<'_>, field: Field) -> (Slot, Option<Method>) {
+    let slot = slot_of(records.verb(), field);
+    let method = match method_field(slot) {
+        Some(named) => records.method_in(named),
+        None => None,
+    };
+    (slot, method)
+}
+
+/// Says what is wanted in a field of the record, and nothing else.
+pub(crate) fn say_wanted_in(
+    line: &mut AdviceLine,
+    records: &Records<'_>,
+    field: Field,
+) -> Result<(), AllocError> {
+    let (slot, method) = slot_in(records, field);
+    line.clear();
+    say_wanted(line, slot, method)
+}
+
 /// Says what is wrong with a field of the record, and what is wanted there.
 pub(crate) fn say_malformed(
     alloc: Global,
@@ -126,10 +147,6 @@ pub(crate) fn say_malformed(
     records: &Records<'_>,
     field: Field,
 ) -> Result<(), AllocError> {
-    let slot = slot_of(records.verb(), field);
-    let method = match method_field(slot) {
-        Some(named) => records.method_in(named),
-        None => None,
-    };
+    let (slot, method) = slot_in(records, field);
     say_text(alloc, line, slot, records.text_of(field), method)
 }

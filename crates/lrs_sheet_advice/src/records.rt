@@ -77,16 +77,21 @@ impl<'a> Records<'a> {
         Some(self.place.line)
     }
 
-    /// The text of a field, as an edit sheet has it.
-    pub(crate) fn text_of(&self, field: Field) -> &[u8] {
+    /// The text of a field, as an edit sheet has it, where there is a record.
+    pub(crate) fn text_found(&self, field: Field) -> Option<&[u8]> {
         if !self.is_found {
-            return b"";
+            return None;
         }
         let record = SheetRecord {
             fields: &self.row,
             sheet: self.kind,
         };
-        text_at(&record, place_of(field))
+        Some(text_at(&record, place_of(field)))
+    }
+
+    /// The same, and nothing where there is none.
+    pub(crate) fn text_of(&self, field: Field) -> &[u8] {
+        self.text_found(field).unwrap_or(b"")
     }
 
     /// The verb of the record. A record of a survey enters an asset.

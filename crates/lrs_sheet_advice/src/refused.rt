@@ -177,6 +177,14 @@ fn say_cause(
     }
 }
 
+/// The field that a refusal is about, and whether it is malformed. Of two fields it is the first.
+pub(crate) fn field_meant(records: &Records<'_>, reply: &[u8]) -> Option<(Field, bool)> {
+    let cause = read_cause(cause_text(reply))?;
+    let first = field_of(cause, records.verb())?;
+    let (field, _) = fields_of(records, cause, first);
+    Some((field, matches!(cause, Cause::Malformed(_))))
+}
+
 /// Says what is wrong with the record of a refusal, and what to do about it.
 pub(crate) fn say_refused(
     alloc: Global,

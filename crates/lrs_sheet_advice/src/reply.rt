@@ -1,7 +1,8 @@
 //! Reply lines, part by part.
 
-ghost use Rattle.std.specs.Prelude.{◌≡◌, ◌==◌};
+ghost use Rattle.std.specs.Prelude.{◌≡◌, ◌==◌, option_map};
 ghost use Rattle.std.specs.List.{position};
+ghost use Rattle.lrs_sheet_advice.specs.AdviceItems.{key_named};
 ghost use Rattle.lrs_sheet_advice.specs.Refusals as spec;
 
 use lrs_measure::alphabet::is_lone_dash;
@@ -59,4 +60,14 @@ pub(crate) fn key_text(reply: &[u8]) -> &[u8]
 {
     let key = first_part(reply);
     if is_lone_dash(key) { b"" } else { key }
+}
+
+/// The key of a reply, where the record has one that is well formed.
+pub(crate) fn key_named(reply: &[u8]) -> Option<&[u8]>
+    ensures { option_map (λ key. key.now) result ≡ key_named (spec.key_of reply.now) }
+{
+    match key_text(reply) {
+        [] => None,
+        key => Some(key),
+    }
 }

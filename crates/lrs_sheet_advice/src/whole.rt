@@ -58,15 +58,16 @@ fn say_kind(line: &mut AdviceLine, kind: Sheet, row: &ByteRecord) -> Result<(), 
     Ok(())
 }
 
-/// Says which header was found, and which is wanted.
+/// Says which header was found, and which is wanted; gives the line on which one was found.
 fn say_header(
     alloc: Global,
     line: &mut AdviceLine,
     kind: Sheet,
     records: &mut Records<'_>,
-) -> Result<(), AdviceFault> {
+) -> Result<Option<usize>, AdviceFault> {
     records.go_on()?;
-    match records.line() {
+    let start = records.line();
+    match start {
         Some(number) => {
             line.say("line ")?;
             line.say_number(alloc, number as u64)?;
@@ -84,7 +85,7 @@ fn say_header(
         line.say_bytes(column(kind, place))?;
     }
     line.say(" is wanted")?;
-    Ok(())
+    Ok(start)
 }
 
 /// Why a sheet cannot be read to its end.
@@ -155,10 +156,14 @@ fn say_lengths(
     )
 }
 
-/// Says which record has the wrong number of fields.
-fn say_width(alloc: Global, line: &mut AdviceLine, sheet: &[u8]) -> Result<(), AdviceFault> {
+/// Says which record has the wrong number of fields; gives the line on which it starts.
+fn say_width(
+    alloc: Global,
+    line: &mut AdviceLine,
+    sheet: &[u8],
+) -> Result<Option<usize>, AdviceFault> {
     match stop_of(alloc, sheet) {
-        Stop::Memory => return Err(AdviceFault::Memory),
+        Stop::Memory => Err(AdviceFault::Memory),
         Stop::Width {
             byte,
             wanted,
@@ -166,20 +171,23 @@ fn say_width(alloc: Global, line: &mut AdviceLine, sheet: &[u8]) -> Result<(), A
         } => {
             let start = Place::start(sheet).record_from(byte);
             say_lengths(alloc, line, start, found, wanted)?;
+            Ok(Some(start.line))
         }
-        Stop::Other => line.say("the sheet cannot be read to its end")?,
+        Stop::Other => {
+            line.say("the sheet cannot be read to its end")?;
+            Ok(None)
+        }
     }
-    Ok(())
 }
 
-/// Says what is wrong with a whole sheet.
-fn say_flaw(
+/// Says what is wrong with a whole sheet; gives the line at which it stops, where that is known.
+pub(crate) fn say_flaw(
     alloc: Global,
     line: &mut AdviceLine,
     flaw: SheetFlaw,
     kind: Sheet,
     sheet: &[u8],
-) -> Result<(), AdviceFault> {
+) -> Result<Option<usize>, AdviceFault> {
     match flaw {
         SheetFlaw::Header => {
             let mut records = Records::new(alloc, kind, sheet);

@@ -1,5 +1,5 @@
 -- A reply to a sheet that was tried.
-use Rattle.std.proofs.Common.{◌≡◌, ◌⊎◌, Option, Some, Result, inl, inr, ap, ◌∙◌}
+use Rattle.std.proofs.Common.{◌≡◌, ◌⊎◌, List, Option, Some, Result, inl, inr, ap, ◌∙◌}
 use Rattle.std.specs.Option.{option_map_or}
 use Rattle.lrs_machine.specs.Image.{state_of}
 use Rattle.lrs_machine.specs.Lines.{Text}
@@ -10,11 +10,12 @@ use Rattle.lrs_sheet.specs.Trials.{IsTried}
 use Rattle.lrs_sheet.specs.declared.reply.Tally.{Tally}
 use Rattle.lrs_sheet_records.specs.declared.fault.SheetFault.{SheetFault}
 use Rattle.lrs_sheet_records.specs.declared.sheet.Sheet.{Sheet}
+use Rattle.lrs_sheet_advice.specs.declared.advice_list.AdviceItem.{AdviceItem}
 use Rattle.lrs_web_requests.specs.Text.{Answer, empty_answer}
 use Rattle.lrs_web_replies.specs.Trials.{Outcome, trial_answer}
 use Rattle.lrs_web.specs.Trials.{IsAnswerAfterTrial, RepliesToTrial, answer_after_trial, outcome_told}
 
-module _ (outcome : Result Tally SheetFault) (replies advice difference : Text) (answer : Answer) where
+module _ (outcome : Result Tally SheetFault) (replies : Text) (advice : List AdviceItem) (difference : Text) (answer : Answer) where
   -- the reply by how a trial is told to have ended
   abbrev answer_by : Option Outcome → Answer
   answer_by o = option_map_or (λ ended. trial_answer ended replies advice difference) o (empty_answer 503)

@@ -1,5 +1,5 @@
 -- What a sheet over HTTP is answered that is tried.
-use Rattle.std.specs.Prelude.{◌≡◌, ◌⊎◌, true, Option, Some, None, Result, Ok, Err}
+use Rattle.std.specs.Prelude.{◌≡◌, ◌⊎◌, true, List, Option, Some, None, Result, Ok, Err}
 use Rattle.std.specs.Option.{option_map_or}
 use Rattle.lrs_machine.specs.Image.{state_of}
 use Rattle.lrs_machine.specs.Lines.{Text}
@@ -12,6 +12,7 @@ use Rattle.lrs_sheet.specs.declared.reply.Tally.{Tally}
 use Rattle.lrs_sheet_records.specs.declared.fault.SheetFault.{SheetFault}
 use Rattle.lrs_sheet_records.specs.declared.fault.SheetFault.TheVariants as fault
 use Rattle.lrs_sheet_records.specs.declared.sheet.Sheet.{Sheet}
+use Rattle.lrs_sheet_advice.specs.declared.advice_list.AdviceItem.{AdviceItem}
 use Rattle.lrs_web_requests.specs.Text.{Answer, empty_answer}
 use Rattle.lrs_web_replies.specs.Trials.{Outcome, trial_answer}
 use Rattle.lrs_web_replies.specs.declared.trial.TrialFault.TheVariants as told
@@ -26,13 +27,13 @@ outcome_told (Err fault.Write) = None
 outcome_told (Err (fault.Desk e)) = None
 outcome_told (Err fault.Memory) = None
 
--- The reply to a sheet whose trial ended so: the lines of its replies, of this advice and of this difference.
-abbrev pub answer_after_trial : Result Tally SheetFault → Text → Text → Text → Answer
+-- The reply to a sheet whose trial ended so: the lines of its replies, this advice, and the lines of this difference.
+abbrev pub answer_after_trial : Result Tally SheetFault → Text → List AdviceItem → Text → Answer
 answer_after_trial outcome replies advice difference = option_map_or (λ ended. trial_answer ended replies advice difference) (outcome_told outcome) (empty_answer 503)
 
 -- ... with some advice; where there is no room for it, there is an empty 503 in its place
 abbrev pub IsAnswerAfterTrial : Result Tally SheetFault → Text → Text → Answer → Type 0
-IsAnswerAfterTrial outcome replies difference answer = ((advice : Text) × (answer ≡ answer_after_trial outcome replies advice difference)) ⊎ (answer ≡ empty_answer 503)
+IsAnswerAfterTrial outcome replies difference answer = ((advice : List AdviceItem) × (answer ≡ answer_after_trial outcome replies advice difference)) ⊎ (answer ≡ empty_answer 503)
 
 -- A sheet of these bytes is tried from an image, makes another, and this is the reply to that, with what the two differ in. What the advice is, nothing says.
 pub record RepliesToTrial (kind : Sheet) (i : Image) (input : Text) (answer : Answer) : Type 0 where
@@ -40,7 +41,7 @@ pub record RepliesToTrial (kind : Sheet) (i : Image) (input : Text) (answer : An
   pub sound : IsSound made
   pub replies : Text
   pub outcome : Result Tally SheetFault
-  pub advice : Text
+  pub advice : List AdviceItem
   pub tried : IsTried kind 0 input (state_of i) (state_of made) replies outcome
   pub is : answer ≡ answer_after_trial outcome replies advice (difference_text i made)
 

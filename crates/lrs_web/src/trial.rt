@@ -15,35 +15,37 @@ use lrs_inventory::Inventory;
 use lrs_sheet::{
     Desk, Keeper, Sheet, SheetFault, Tally, Trial, copy_desk, discard_copy, try_sheet,
 };
-use lrs_sheet_advice::{AdviceFault, SheetFlaw, write_advice, write_fault_advice};
-use lrs_web_replies::{BoundedBytes, TrialCounts, TrialFault, trial_reply};
+use lrs_sheet_advice::{
+    AdviceFault, AdviceItem, AdviceList, SheetFlaw, list_advice, list_fault_advice,
+};
+use lrs_web_replies::{TrialCounts, TrialFault, trial_reply};
 use lrs_web_requests::Response;
 use std::alloc::{AllocError, Global};
 
 // What to do about each record that would be refused, and about a sheet that cannot be read on.
-fn write_advice_on(
+fn list_advice_on(
     alloc: Global,
-    advice: &mut BoundedBytes,
+    advice: &mut AdviceList,
     kind: Sheet,
     bytes: &[u8],
     trial: &Trial,
 ) -> Result<(), AdviceFault> {
-    write_advice(alloc, advice, kind, bytes, trial.replies.as_slice())?;
+    list_advice(alloc, advice, kind, bytes, trial.replies.as_slice())?;
     let flaw = match trial.outcome {
         Err(SheetFault::BadHeader) => SheetFlaw::Header,
         Err(SheetFault::BadCsv) => SheetFlaw::Width,
         _ => return Ok(()),
     };
-    write_fault_advice(alloc, advice, flaw, kind, bytes)
+    list_fault_advice(alloc, advice, flaw, kind, bytes)
 }
 
 // No advice at all where there is no room for all of it.
-fn advice_on(alloc: Global, most: usize, kind: Sheet, bytes: &[u8], trial: &Trial) -> Vec<u8> {
-    let mut advice = BoundedBytes::new(alloc, most);
-    if write_advice_on(alloc, &mut advice, kind, bytes, trial).is_err() {
-        advice.bytes.clear();
+fn advice_on(alloc: Global, most: usize, kind: Sheet, bytes: &[u8], trial: &Trial) -> AdviceList {
+    let mut advice = AdviceList::new(alloc, most);
+    if list_advice_on(alloc, &mut advice, kind, bytes, trial).is_err() {
+        advice.items.clear();
     }
-    advice.bytes
+    advice
 }
 
 /// What two inventories differ in, line by line.
@@ -85,7 +87,7 @@ fn told_reply(
     most: usize,
     outcome: Result<TrialCounts, TrialFault>,
     replies: &[u8],
-    advice: &[u8],
+    advice: &[AdviceItem],
     difference: &[u8],
 ) -> Response
     ensures { (answer_of result ≡ trial_answer outcome replies.now advice.now difference.now)
@@ -103,7 +105,7 @@ fn reply_with(
     alloc: Global,
     most: usize,
     trial: &Trial,
-    advice: &[u8],
+    advice: &[AdviceItem],
     difference: &[u8],
 ) -> Response
     ensures { (answer_of result ≡ answer_after_trial trial.now.outcome trial.now.replies.items
@@ -130,7 +132,7 @@ fn advised_reply(
         (answer_of result) }
 {
     let advice = advice_on(alloc, most, kind, bytes, trial);
-    reply_with(alloc, most, trial, advice.as_slice(), difference)
+    reply_with(alloc, most, trial, advice.items.as_slice(), difference)
 }
 
 /// The same with what differs in the inventory that the trial made.

@@ -1,10 +1,11 @@
 -- What is told of a sheet that was tried, as JSON: what it would be answered, advice, and what it would change.
-use Rattle.std.specs.Prelude.{ℕ, [], ◌∷◌, ◌++◌, codes, Option, Some, None, Result, Ok, Err}
+use Rattle.std.specs.Prelude.{ℕ, List, [], ◌∷◌, ◌++◌, codes, Option, Some, None, Result, Ok, Err, option_map, vec_items}
 use Rattle.std.specs.Str.Lines.{lines}
 use Rattle.std.specs.Str.Lossy.{utf8_lossy}
 use Rattle.serde_json.specs.Data.{Data, null, string}
 use Rattle.serde_json.specs.Written.{compact_text}
 use Rattle.lrs_machine.specs.Lines.{Text}
+use Rattle.lrs_sheet_advice.specs.declared.advice_list.AdviceItem.{AdviceItem}
 use Rattle.lrs_web_requests.specs.Text.{Answer}
 use Rattle.lrs_web_replies.specs.JsonParts.{each, whole, with}
 use Rattle.lrs_web_replies.specs.Listings.{said_of}
@@ -41,16 +42,31 @@ counted count_of (Err fault) = None
 abbrev pub lines_data : Text → Data
 lines_data text = each string (lines (utf8_lossy text))
 
--- What is told, in this order: the counts, the fault, and the lines of the replies, of the advice and of the difference.
-abbrev pub trial_data : Outcome → Text → Text → Text → Data
+-- a text, in the same way
+abbrev pub text_data : Text → Data
+text_data text = string (utf8_lossy text)
+
+-- a text, or null where there is none
+abbrev pub named_data : Option Text → Data
+named_data text = said_of text_data text
+
+-- Advice, in this order: the line of the sheet, the key, the letter of the column, the text that stands there, what is wanted there, and all of it in words.
+abbrev pub advice_data : AdviceItem → Data
+advice_data a = with (
+    (codes "line", count_data a.line) ∷ (codes "key", named_data (option_map vec_items a.key)) ∷ (codes "column", named_data (option_map (λ letter. letter ∷ []) a.column))
+    ∷ (codes "value", named_data (option_map vec_items a.value)) ∷ (codes "wanted", named_data (option_map vec_items a.wanted)) ∷ (codes "text", text_data a.text.items) ∷ []
+    )
+
+-- What is told, in this order: the counts, the fault, the lines of the replies, the advice, and the lines of the difference.
+abbrev pub trial_data : Outcome → Text → List AdviceItem → Text → Data
 trial_data outcome replies advice difference = with (
     (codes "done", count_data (counted (λ c. c.done) outcome)) ∷ (codes "again", count_data (counted (λ c. c.again) outcome))
     ∷ (codes "refused", count_data (counted (λ c. c.refused) outcome)) ∷ (codes "fault", fault_data outcome)
-    ∷ (codes "replies", lines_data replies) ∷ (codes "advice", lines_data advice) ∷ (codes "difference", lines_data difference) ∷ []
+    ∷ (codes "replies", lines_data replies) ∷ (codes "advice", each advice_data advice) ∷ (codes "difference", lines_data difference) ∷ []
     )
 
 -- the exact text
-abbrev pub trial_text : Outcome → Text → Text → Text → Text
+abbrev pub trial_text : Outcome → Text → List AdviceItem → Text → Text
 trial_text outcome replies advice difference = compact_text (trial_data outcome replies advice difference)
 
 -- the status of the sheet, were it done
@@ -59,7 +75,7 @@ trial_status (Ok counts) = 200
 trial_status (Err fault) = 422
 
 -- the reply to a sheet that was tried
-abbrev pub trial_answer : Outcome → Text → Text → Text → Answer
+abbrev pub trial_answer : Outcome → Text → List AdviceItem → Text → Answer
 trial_answer outcome replies advice difference = json_answer (trial_status outcome) (trial_data outcome replies advice difference)
 
 -- ---- the text of a trial, part by part
@@ -73,3 +89,15 @@ counts_text done again refused =
 -- one more member, whose value has this text
 abbrev pub member_text : Text → Data → Text
 member_text name value = name_text name ++ compact_text value
+
+-- advice up to the end of its column
+abbrev pub place_text : AdviceItem → Text
+place_text a =
+    front_text (codes "line") ++ (compact_text (count_data a.line) ++ (member_text (codes "key") (named_data (option_map vec_items a.key))
+    ++ member_text (codes "column") (named_data (option_map (λ letter. letter ∷ []) a.column))))
+
+-- the rest of it
+abbrev pub words_text : AdviceItem → Text
+words_text a =
+    member_text (codes "value") (named_data (option_map vec_items a.value)) ++ (member_text (codes "wanted") (named_data (option_map vec_items a.wanted))
+    ++ member_text (codes "text") (text_data a.text.items))

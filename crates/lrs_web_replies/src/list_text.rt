@@ -16,14 +16,22 @@ use lrs_report_answers::RouteSegments;
 use serde_json::Value;
 use std::alloc::{AllocError, Global};
 
+/// Adds an object up to the value of its first member, which has this name.
+pub(crate) fn add_front(alloc: Global, bytes: &mut Vec<u8>, name: &str) -> Result<(), AllocError>
+    ensures { OnOk result (bytes.new.items ≡ bytes.old.items ++ front_text name.now) }
+{
+    bytes.push(b'{')?;
+    add_text(alloc, bytes, name)?;
+    bytes.push(b':')?;
+    Ok(())
+}
+
 /// An object up to the value of its first member, which has this name.
 pub(crate) fn begin(alloc: Global, name: &str) -> Result<Vec<u8>, AllocError>
     ensures { IfOk result (λ bytes. bytes.items ≡ front_text name.now) }
 {
     let mut bytes = Vec::new(alloc);
-    bytes.push(b'{')?;
-    add_text(alloc, &mut bytes, name)?;
-    bytes.push(b':')?;
+    add_front(alloc, &mut bytes, name)?;
     Ok(bytes)
 }
 
@@ -45,6 +53,17 @@ pub(crate) fn add_text(alloc: Global, bytes: &mut Vec<u8>, text: &str) -> Result
     add_value(alloc, bytes, value)
 }
 
+/// Adds the comma before an item, where the text has not so many bytes yet.
+pub(crate) fn add_comma(most: usize, bytes: &mut Vec<u8>) -> Result<(), AllocError>
+    ensures { OnOk result (bytes.new.items ≡ bytes.old.items ++ 44 ∷ []) }
+{
+    if bytes.len() >= most {
+        return Err(AllocError);
+    }
+    bytes.push(b',')?;
+    Ok(())
+}
+
 /// Adds an item, with a comma before it, where the text has not so many bytes yet.
 pub(crate) fn add_item(
     alloc: Global,
@@ -55,10 +74,7 @@ pub(crate) fn add_item(
     requires { has_float (view item) ≡ false }
     ensures { OnOk result (bytes.new.items ≡ bytes.old.items ++ item_text (view item)) }
 {
-    if bytes.len() >= most {
-        return Err(AllocError);
-    }
-    bytes.push(b',')?;
+    add_comma(most, bytes)?;
     add_value(alloc, bytes, item)
 }
 

@@ -1,6 +1,6 @@
 //! What is told of a sheet that was tried, as a reply.
 
-ghost use Rattle.std.specs.Prelude.{◌≡◌, ◌++◌, IfOk, OnOk, codes};
+ghost use Rattle.std.specs.Prelude.{◌≡◌, ◌∷◌, ◌++◌, [], IfOk, OnOk, codes, option_map, vec_items};
 ghost use Rattle.std.specs.List.{flat_map};
 ghost use Rattle.std.specs.Str.Lines.{lines};
 ghost use Rattle.serde_json.specs.Data.{string};
@@ -8,11 +8,14 @@ ghost use Rattle.serde_json.specs.Written.{compact_text};
 ghost use Rattle.lrs_web_requests.specs.Text.{answer_of};
 ghost use Rattle.lrs_web_replies.specs.JsonParts.{each};
 ghost use Rattle.lrs_web_replies.specs.Parts.{item_text};
-ghost use Rattle.lrs_web_replies.specs.Trials.{count_data, counted, counts_text, fault_data, fault_text, lines_data, member_text, trial_answer, trial_status, trial_text};
+ghost use Rattle.lrs_web_replies.specs.Trials.{advice_data, count_data, counted, counts_text, fault_data, fault_text, lines_data, member_text, named_data, place_text, text_data, trial_answer, trial_status, trial_text, words_text};
 
-use crate::list_text::{add_item, add_name, add_value, begin, close_list};
+use crate::list_text::{
+    add_comma, add_front, add_item, add_name, add_text, add_value, begin, close_list,
+};
 use crate::reply::json_reply;
 use http::StatusCode;
+use lrs_sheet_advice::AdviceItem;
 use lrs_web_requests::Response;
 use serde_json::Value;
 use std::alloc::{AllocError, Global};
@@ -156,7 +159,147 @@ fn add_lines_of(
     add_line_list(alloc, most, bytes, shown.as_str())
 }
 
-/// What is told of a sheet that was tried: how it ended, and the lines of its replies, of advice and of the difference
+// ---- advice
+
+/// Adds a text as a value.
+fn add_shown(alloc: Global, bytes: &mut Vec<u8>, text: &[u8]) -> Result<(), AllocError>
+    ensures { OnOk result (bytes.new.items
+        ≡ bytes.old.items ++ compact_text (text_data text.now)) }
+{
+    let shown = String::from_utf8_lossy(alloc, text)?;
+    add_text(alloc, bytes, shown.as_str())
+}
+
+/// Adds the line of the sheet, or null where there is none.
+fn add_line_number(
+    alloc: Global,
+    bytes: &mut Vec<u8>,
+    line: Option<usize>,
+) -> Result<(), AllocError>
+    ensures { OnOk result (bytes.new.items
+        ≡ bytes.old.items ++ compact_text (count_data line)) }
+{
+    match line {
+        Some(line) => add_count(alloc, bytes, Some(line as u64)),
+        None => add_count(alloc, bytes, None),
+    }
+}
+
+/// Adds the letter of a column, or null where there is none.
+fn add_letter(alloc: Global, bytes: &mut Vec<u8>, letter: Option<u8>) -> Result<(), AllocError>
+    ensures { OnOk result (bytes.new.items ≡ bytes.old.items
+        ++ compact_text (named_data (option_map (λ letter. letter ∷ []) letter))) }
+{
+    match letter {
+        Some(letter) => add_shown(alloc, bytes, &[letter]),
+        None => add_value(alloc, bytes, Value::Null),
+    }
+}
+
+/// Adds a member that is a text, or null where there is none.
+fn add_named(
+    alloc: Global,
+    bytes: &mut Vec<u8>,
+    name: &str,
+    text: &Option<Vec<u8>>,
+) -> Result<(), AllocError>
+    ensures { OnOk result (bytes.new.items ≡ bytes.old.items
+        ++ member_text name.now (named_data (option_map vec_items text.now))) }
+{
+    add_name(alloc, bytes, name)?;
+    match text {
+        Some(text) => add_shown(alloc, bytes, text.as_slice()),
+        None => add_value(alloc, bytes, Value::Null),
+    }
+}
+
+/// Adds advice up to the end of its column.
+fn add_place(alloc: Global, bytes: &mut Vec<u8>, advice: &AdviceItem) -> Result<(), AllocError>
+    ensures { OnOk result (bytes.new.items ≡ bytes.old.items ++ place_text advice.now) }
+{
+    add_front(alloc, bytes, "line")?;
+    add_line_number(alloc, bytes, advice.line)?;
+    add_named(alloc, bytes, "key", &advice.key)?;
+    add_name(alloc, bytes, "column")?;
+    add_letter(alloc, bytes, advice.column)
+}
+
+/// Adds the rest of it.
+fn add_words(alloc: Global, bytes: &mut Vec<u8>, advice: &AdviceItem) -> Result<(), AllocError>
+    ensures { OnOk result (bytes.new.items ≡ bytes.old.items ++ words_text advice.now) }
+{
+    add_named(alloc, bytes, "value", &advice.value)?;
+    add_named(alloc, bytes, "wanted", &advice.wanted)?;
+    add_name(alloc, bytes, "text")?;
+    add_shown(alloc, bytes, advice.text.as_slice())
+}
+
+/// Adds advice, with a comma before it.
+#[tactic(auto, using(crate::proofs::TrialText::advice_written))]
+fn add_advice(
+    alloc: Global,
+    most: usize,
+    bytes: &mut Vec<u8>,
+    advice: &AdviceItem,
+) -> Result<(), AllocError>
+    ensures { OnOk result (bytes.new.items
+        ≡ bytes.old.items ++ item_text (advice_data advice.now)) }
+{
+    add_comma(most, bytes)?;
+    add_place(alloc, bytes, advice)?;
+    add_words(alloc, bytes, advice)?;
+    bytes.push(b'}')?;
+    Ok(())
+}
+
+/// Adds each item of advice, with a comma before it.
+fn add_each_advice(
+    alloc: Global,
+    most: usize,
+    bytes: &mut Vec<u8>,
+    advice: &[AdviceItem],
+) -> Result<(), AllocError>
+    ensures { OnOk result (bytes.new.items
+        ≡ bytes.old.items ++ flat_map (λ one. item_text (advice_data one)) advice.now) }
+{
+    for one in advice {
+        add_advice(alloc, most, bytes, one)?;
+    }
+    Ok(())
+}
+
+/// Adds the list of advice.
+fn add_advice_list(
+    alloc: Global,
+    most: usize,
+    bytes: &mut Vec<u8>,
+    advice: &[AdviceItem],
+) -> Result<(), AllocError>
+    ensures { OnOk result (bytes.new.items
+        ≡ bytes.old.items ++ compact_text (each advice_data advice.now)) }
+{
+    let start = bytes.len();
+    add_each_advice(alloc, most, bytes, advice)?;
+    close_list(bytes, start)
+}
+
+/// Adds the member that is the list of advice.
+fn add_advice_of(
+    alloc: Global,
+    most: usize,
+    bytes: &mut Vec<u8>,
+    advice: &[AdviceItem],
+) -> Result<(), AllocError>
+    ensures { OnOk result (bytes.new.items
+        ≡ bytes.old.items ++ member_text (codes "advice") (each advice_data advice.now)) }
+{
+    add_name(alloc, bytes, "advice")?;
+    add_advice_list(alloc, most, bytes, advice)
+}
+
+// ---- the whole
+
+/// What is told of a sheet that was tried: how it ended, the lines of its replies, advice, and the lines of the difference
 /// that it makes.
 ///
 /// # Errors
@@ -167,7 +310,7 @@ fn trial_json(
     most: usize,
     outcome: Result<TrialCounts, TrialFault>,
     replies: &[u8],
-    advice: &[u8],
+    advice: &[AdviceItem],
     difference: &[u8],
 ) -> Result<Vec<u8>, AllocError>
     ensures { IfOk result (λ bytes. bytes.items
@@ -176,7 +319,7 @@ fn trial_json(
     let mut bytes = begin_trial(alloc, outcome)?;
     add_fault(alloc, &mut bytes, outcome)?;
     add_lines_of(alloc, most, &mut bytes, "replies", replies)?;
-    add_lines_of(alloc, most, &mut bytes, "advice", advice)?;
+    add_advice_of(alloc, most, &mut bytes, advice)?;
     add_lines_of(alloc, most, &mut bytes, "difference", difference)?;
     bytes.push(b'}')?;
     Ok(bytes)
@@ -191,7 +334,7 @@ fn status_of(outcome: Result<TrialCounts, TrialFault>) -> StatusCode
     }
 }
 
-/// The reply to a sheet that was tried: how it ended, and the lines of what it would be answered, of advice and of what
+/// The reply to a sheet that was tried: how it ended, the lines of what it would be answered, advice, and the lines of what
 /// differs behind it. It is no longer made once it has so many bytes.
 ///
 /// # Errors
@@ -201,7 +344,7 @@ pub fn trial_reply(
     most: usize,
     outcome: Result<TrialCounts, TrialFault>,
     replies: &[u8],
-    advice: &[u8],
+    advice: &[AdviceItem],
     difference: &[u8],
 ) -> Result<Response, AllocError>
     ensures { IfOk result (λ reply. answer_of reply

@@ -243,8 +243,8 @@ if (kind === "merge") return pairs.flatMap(([name, value]) => (name === "route" 
 return kind === "move" && isPoint ? pairs.map(([name, value]) => [name === "from" ? "place" : name, value]) : pairs;}
 async function sheetFor(kind, fields) {const settings = { method: "POST", headers: { "Content-Type": "text/csv" }, body: new URLSearchParams(pairsOf(kind, fields)) };const { status, text } = await send(`v1/draft/${kind}`, settings);
 if (status === 200) return text;throw new Error(blamed(reason(status, text), fields));}
-function blamed(told, fields) {const [word] = /^[A-Z]+(?= is )/.exec(told) || [""], name = word.toLowerCase(), field = fields.find(each => each.name === name) || fields.find(each => each.name === CALLED[name]);if (!field) return told;
-blame(field, true, "draft-said");return `"${field.labels[0].textContent.trim()}"${told.slice(word.length)}`;}
+function blamed(told, fields) {const named = (shown, word) => {const name = word.toLowerCase(), field = fields.find(each => each.name === name) || fields.find(each => each.name === CALLED[name]);if (!field) return shown;
+blame(field, true, "draft-said");return `"${field.labels[0].textContent.trim()}"`;};const text = /^[A-Z]+ is /.test(told) ? told.replace(/(?<![:\w])([A-Z]+)(?![:\w])/g, named) : told;return text.replace(/--(number|key)( N)?/g, named);}
 function draft() {const kind = $("draft").value, fields = fieldsSaid();for (const field of fields) blame(field, false);$("drafted").hidden = true;say("draft-said", "The sheet is being written.");return attempt("draft-said", async () => {
 const text = await sheetFor(kind, fields);say("draft-said", "The sheet is written, and shown below. Nothing is done before you send it.");$("drafted").download = `${kind}.csv`;offer($("drafted"), [text], "text/csv");
 $("sheets").open = $("all-or-none").checked = true;await lookAt([new File([text], `${kind}.csv`)]);});}

@@ -1,4 +1,4 @@
-use Rattle.std.proofs.Common.{rules, ◌≡◌, length, map, codes}
+use Rattle.std.proofs.Common.{rules, ◌≡◌, length, codes}
 use Rattle.lrs_cli_words.proofs.Sources.{alone}
 use Rattle.lrs_cli_words.proofs.comparison.front_source.Goals as goal
 

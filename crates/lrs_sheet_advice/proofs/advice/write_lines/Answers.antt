@@ -1,18 +1,17 @@
-use Rattle.std.proofs.Common.{[], refl}
-use Rattle.lrs_sheet_advice.proofs.WrittenLines.{advises-none, through-last, through-more}
+use Rattle.std.proofs.Common.{[], refl, rules}
+use Rattle.lrs_sheet_advice.specs.Refusals.{WritesAdvice, refusals}
+use Rattle.lrs_sheet_advice.proofs.RefusalsLeft.{all_done, left_in, one_more}
+use Rattle.lrs_sheet_advice.proofs.WrittenLines.{advises-more, advises-none}
 use Rattle.lrs_sheet_advice.proofs.advice.write_lines.Goals as goal
 
-pub replies-init : goal.replies-init
-replies-init g c = ([], refl, advises-none (g.W.Write.contents c.args.writer.now))
+pub refusals-init : goal.refusals-init
+refusals-init g c = ([], refl, advises-none (g.W.Write.contents c.args.writer.now))
 
-pub replies-preserved : goal.replies-preserved
-replies-preserved g c =
-    let (front, so_far, written) = c.replies.invariant in
-    through-more c.args.replies.now c.replies.rest.now c.cut_at.result.0.now c.in-Some.text.now front (g.W.Write.contents c.args.writer.now) (g.W.Write.contents c.replies.writer) (g.W.Write.contents c.go_through.new.writer)
-    so_far written (rw c.in-Some.is at c.cut_at.ensures.more) c.in_ok-go_through.ensures
+pub refusals-preserved : goal.refusals-preserved
+refusals-preserved g c =
+    one_more WritesAdvice advises-more (refusals c.args.replies.now) (left_in (λ text. text.now) c.refusals.left) (left_in (λ text. text.now) c.in-Some.refusal.behind) c.in-Some.refusal.reply.now
+    (g.W.Write.contents c.args.writer.now) (g.W.Write.contents c.refusals.writer) (g.W.Write.contents c.advise.new.writer) (search rules) c.refusals.invariant c.in_ok-advise-in-Some.ensures
 
 pub returns-in-None : goal.returns-in-None
 returns-in-None g c =
-    let (front, so_far, written) = c.replies.invariant in
-    through-last c.args.replies.now c.replies.rest.now c.cut_at.result.0.now front (g.W.Write.contents c.args.writer.now) (g.W.Write.contents c.replies.writer) (g.W.Write.contents c.go_through.new.writer)
-    so_far written (rw c.in-None.is at c.cut_at.ensures.last) c.in_ok-go_through.ensures
+    all_done WritesAdvice (refusals c.args.replies.now) (left_in (λ text. text.now) c.refusals.left) (g.W.Write.contents c.args.writer.now) (g.W.Write.contents c.refusals.writer) (search rules) c.refusals.invariant

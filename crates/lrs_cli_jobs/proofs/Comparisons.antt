@@ -1,20 +1,13 @@
--- A copy of what a desk acts on, and what is told of two inventories.
+-- What is told of two inventories.
 use Rattle.std.proofs.Common.{◌≡◌, Option, Result, Ok, Err, refl, ap, inl, inr, subst, sym}
 use Rattle.std.specs.Prelude.{IfErr, IfOk}
 use Rattle.lrs_machine.specs.Lines.{Text}
 use Rattle.lrs_machine.specs.declared.image.Image.{Image}
-use Rattle.lrs_machine.specs.declared.table.Table.{Table}
-use Rattle.lrs_desk.specs.DeskView.{DeskView}
 use Rattle.lrs_cli_tasks.specs.declared.endings.Ending.{Ending}
 use Rattle.lrs_cli_tasks.specs.declared.fault.ProgramFault.{ProgramFault}
 use Rattle.lrs_cli_tasks.specs.declared.fault.ProgramFault.TheVariants.{Write}
-use Rattle.lrs_cli_sheets.specs.Differences.{EndsDifference, HasNoInventory}
-use Rattle.lrs_cli_jobs.specs.Jobs.{ActsOnFound, EndsCompared, IsActedOn, IsExpected, Printed, identity_at, printed}
-
--- a copy has what a desk acts on
-pub acted_on : {K A E : Type 0} (holds : K → Result Image Table → Type 0) (found : Result Image Table → Type 0) (image_of : A → Image) (desk : DeskView K) (copied : Result A E) → ActsOnFound holds found desk → IfOk copied (λ a. image_of a ≡ desk.image) → IfOk copied (λ a. IsActedOn holds found (image_of a))
-acted_on holds found image_of desk (Ok a) acts same = (desk, acts, same)
-acted_on holds found image_of desk (Err e) acts same = tt
+use Rattle.lrs_cli_sheets.specs.Differences.{EndsDifference}
+use Rattle.lrs_cli_jobs.specs.Jobs.{EndsCompared, IsExpected, Printed, identity_at, printed}
 
 -- the difference of two was told, or not all of it was written
 pub told : {W : Type 0} (contents : W → Option Text) (IsOne IsOther : Image → Type 0) (expected old : Option Text) (before after : Image) (result : Result (W × Ending) ProgramFault) → IsOne before → IsOther after → IsExpected expected (identity_at before) → IfOk result (λ done. EndsDifference before after old (contents done.0) done.1) → IfErr result (λ e. e ≡ Write) → EndsCompared IsOne IsOther expected old (printed contents result)
