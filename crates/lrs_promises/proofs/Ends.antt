@@ -145,7 +145,7 @@ tried_decided : {K : Type 0} (holds : K → Result Image Table → Type 0) (shee
     → DoesTried holds sheet input replies outcome old answer new → (answer.status ≡ 503 → ⊥) → is_decided outcome ≡ true
 tried_decided holds sheet input replies (Ok tally) old answer new does served = refl
 tried_decided holds sheet input replies (Err e) old answer new (inl (accepted, runs)) served = absurd accepted
-tried_decided holds sheet input replies (Err e) old answer new (inr (not_accepted, same, is)) served = answer_decided {T = Tally} (Err e) replies answer (inl is) served
+tried_decided holds sheet input replies (Err e) old answer new (inr (not_accepted, same, is)) served = answer_decided {T = Tally} (Err e) _ answer (inl is) served
 
 -- ---- a sheet of questions
 
