@@ -77,9 +77,9 @@ def test_each_case_of_advice(tmp_path):
 
 def test_what_is_wanted_and_what_is_not_known(path):
     with started(db=path) as server:
-        sheet = HEADER + b"s1,link,x\xff,5,,,,,,,\n,link,9,5,,,,,,,\ns3,retire,12,A2,abs,9,x,,,,\ns4,enter,15,SPEED,A2,L,rel,KM9+5,KM9+9,80,0\n"
+        sheet = HEADER + b"s1,link,x\xff,5,,,,,,,\n,link,9,5,,,,,,,\ns3,retire,12,A2,abs,9,x,,,,\nx4,enter,15,SPEED,A2,L,rel,KM9+5,KM9+9,80,0\n"
         said = checked(server, sheet)["advice"]
-        assert [(item["line"], item["key"], item["column"], item["value"]) for item in said] == [(2, "s1", "C", "x\ufffd"), (3, None, "A", ""), (4, "s3", "G", "x"), (5, "s4", "H", "KM9+5")], said
+        assert [(item["line"], item["key"], item["column"], item["value"]) for item in said] == [(2, "s1", "C", "x\ufffd"), (3, None, "A", ""), (4, "s3", "G", "x"), (5, "x4", "H", "KM9+5")], said
         assert [item["wanted"] for item in said] == [
             "a whole number from 1 to 999999 is wanted",
             "1 to 40 of A-Z, a-z, 0-9, ., :, _ and - are wanted, and not - alone",

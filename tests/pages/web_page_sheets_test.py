@@ -90,8 +90,9 @@ def test_a_sheet_is_done_wholly_or_not_at_all(page):
     page.opens()
     sends_wholly(page, page.file("roads.csv", REFUSED))
     browser.shows("#sheet-said", NOTHING)
-    assert browser.text("#counts") == "Nothing was done. It would have been: 1 done, 0 again, 1 refused."
-    assert page.rows("#lines") == [["q1", "would be done", "edit 167"], ["q2", "refused", "NoRoute: there is no route of this name"]]
+    # the lines that refuse alone
+    assert browser.text("#counts").startswith("Nothing was done.") and browser.text("#counts").endswith("1 refused.")
+    assert page.rows("#lines") == [["q2", "refused", "NoRoute: there is no route of this name"]]
     assert browser.text("#advice li").startswith("line 3") and browser.runs("return document.querySelectorAll('#lines tr.done').length") == 0
     browser.shows("#health", "166 edits.")
     page.pictured("nothing_done")
@@ -115,7 +116,7 @@ def test_of_a_survey_that_is_not_done_the_sheets_behind_it_are_not_sent(page):
     survey = page.file("survey.csv", SURVEY_HEADER + b"w1,30,SIGN,A1,L,abs,1000,,TOWN,0\nw2,30,SIGN,A1,L,abs,2000,,TOWN,0\n")
     sends_wholly(page, survey, page.file("one.csv", sheet_of("q1,class,WIDTH,exclusive")), page.file("two.csv", sheet_of("q2,class,LANES,exclusive")))
     browser.shows("#sheet-said", f"{NOTHING} Not sent: one.csv, two.csv.")
-    assert page.rows("#lines")[1][:2] == ["w2", "refused"] and len(sent(page)) == 1
+    assert [row[:2] for row in page.rows("#lines")] == [["w2", "refused"]] and len(sent(page)) == 1
     browser.shows("#health", "166 edits.")
 
 
